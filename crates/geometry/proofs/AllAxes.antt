@@ -1,0 +1,147 @@
+-- All axes: what holds on each axis adds up. Assumes nothing.
+use Prim.Native.Nat.{suc, _+_, _*_, _≤_}
+use mathlib.Core.Bool.{true}
+use mathlib.Core.List.{List, [], _∷_}
+use mathlib.Core.Path.{_≡_, refl, ap}
+use native.Mathlib.Omega.{arith}
+use lib.IntN.{ℤ}
+use lib.ListN.{length}
+use Rattle.base.proofs.Tests.{and-both, both-and, clash}
+use Rattle.geometry.specs.Box.{lo, withinLimits, validAxis, validBox, validPoint, onAxis, inside}
+use Rattle.geometry.specs.Distance.{D, closestPoint, farthestPoint, minDist, maxDist}
+use Rattle.geometry.specs.Margin.{bestPoint}
+use Rattle.geometry.proofs.OneAxis.{Axis, axis, On, on, on-test, low-on, limited-on, closest-on, closest-least, farthest-on, farthest-most, best-end-on, best-end-limited, best-end-most}
+use Rattle.geometry.proofs.Shift.{Limited, limited, square-bound, axisBound}
+
+-- a point of a box, axis by axis
+pub data In : List (List ℤ) → List ℤ → Type 0 where
+  none : In [] []
+  more : {s : List ℤ} {b : List (List ℤ)} {x : ℤ} {p : List ℤ} → On s x → In b p → In (s ∷ b) (x ∷ p)
+
+pub in-box : (b : List (List ℤ)) (p : List ℤ) → inside b p ≡ true → In b p
+unfolding inside
+in-box [] [] t = none
+in-box [] (x ∷ p) t = clash t refl
+in-box (s ∷ b) [] t = clash t refl
+in-box (s ∷ b) (x ∷ p) t = let u = and-both (onAxis s x) (inside b p) t in more (on s x (u .0)) (in-box b p (u .1))
+
+pub in-test : {b : List (List ℤ)} {p : List ℤ} → In b p → inside b p ≡ true
+unfolding inside
+in-test none = refl
+in-test (more o i) = both-and (on-test o) (in-test i)
+
+-- a box and a point within the limits, with as many axes
+pub data Over : List (List ℤ) → List ℤ → Type 0 where
+  none : Over [] []
+  more : {s : List ℤ} {b : List (List ℤ)} {x : ℤ} {p : List ℤ} → Axis s → Limited x → Over b p → Over (s ∷ b) (x ∷ p)
+
+pub over : (b : List (List ℤ)) (p : List ℤ) → validBox b ≡ true → validPoint p ≡ true → length p ≡ length b → Over b p
+unfolding validBox validPoint
+over [] [] t u e = none
+over [] (x ∷ p) t u e = absurd (omega arith)
+over (s ∷ b) [] t u e = absurd (omega arith)
+over (s ∷ b) (x ∷ p) t u e =
+    let v = and-both (validAxis s) (validBox b) t in
+    let w = and-both (withinLimits x) (validPoint p) u in
+    more (axis s (v .0)) (limited x (w .0)) (over b p (v .1) (w .1) (omega arith))
+
+-- three boxes within the limits, with as many axes
+pub data Three : List (List ℤ) → List (List ℤ) → List (List ℤ) → Type 0 where
+  none : Three [] [] []
+  more : {o e b : List ℤ} {os es bs : List (List ℤ)} → Axis o → Axis e → Axis b → Three os es bs → Three (o ∷ os) (e ∷ es) (b ∷ bs)
+
+pub three : (o e b : List (List ℤ)) → validBox o ≡ true → validBox e ≡ true → validBox b ≡ true → length e ≡ length o →
+    length b ≡ length o → Three o e b
+unfolding validBox
+three [] [] [] t u v p q = none
+three [] (x ∷ e) b t u v p q = absurd (omega arith)
+three [] [] (x ∷ b) t u v p q = absurd (omega arith)
+three (x ∷ o) [] b t u v p q = absurd (omega arith)
+three (x ∷ o) (y ∷ e) [] t u v p q = absurd (omega arith)
+three (x ∷ o) (y ∷ e) (z ∷ b) t u v p q =
+    let f = and-both (validAxis x) (validBox o) t in
+    let g = and-both (validAxis y) (validBox e) u in
+    let h = and-both (validAxis z) (validBox b) v in
+    more (axis x (f .0)) (axis y (g .0)) (axis z (h .0)) (three o e b (f .1) (g .1) (h .1) (omega arith) (omega arith))
+
+-- a valid box holds a point
+pub lowest-point : (b : List (List ℤ)) → validBox b ≡ true → (p : List ℤ) × In b p
+unfolding validBox
+lowest-point [] t = ([], none)
+lowest-point (s ∷ b) t =
+    let u = and-both (validAxis s) (validBox b) t in
+    let r = lowest-point b (u .1) in
+    (lo s ∷ r .0, more (low-on (axis s (u .0))) (r .1))
+
+-- near
+pub closest-in : {b : List (List ℤ)} {p : List ℤ} → Over b p → In b (closestPoint b p)
+unfolding closestPoint
+closest-in none = none
+closest-in (more {s} {x = x} a l r) = more (closest-on s x a l) (closest-in r)
+
+pub min-least : {b : List (List ℤ)} {p q : List ℤ} → Over b p → In b q → minDist b p ≤ D p q
+unfolding minDist closestPoint D
+min-least none none = omega arith
+min-least (more {s} {x = x} a l r) (more {x = y} o i) = omega (arith, closest-least s x a l y o, min-least r i)
+
+-- far
+pub farthest-in : {b : List (List ℤ)} {p : List ℤ} → Over b p → In b (farthestPoint b p)
+unfolding farthestPoint
+farthest-in none = none
+farthest-in (more {s} {x = x} a l r) = more (farthest-on s x a l) (farthest-in r)
+
+pub max-largest : {b : List (List ℤ)} {p q : List ℤ} → Over b p → In b q → D p q ≤ maxDist b p
+unfolding maxDist farthestPoint D
+max-largest none none = omega arith
+max-largest (more {s} {x = x} a l r) (more {x = y} o i) = omega (arith, farthest-most s x a l y o, max-largest r i)
+
+-- the margin's point of O, and that E and B can be measured from it
+pub best-in : {o e b : List (List ℤ)} → Three o e b → In o (bestPoint o e b)
+unfolding bestPoint
+best-in none = none
+best-in (more {o} {e} {b} ao ae ab r) = more (best-end-on o e b ao) (best-in r)
+
+pub best-over-e : {o e b : List (List ℤ)} → Three o e b → Over e (bestPoint o e b)
+unfolding bestPoint
+best-over-e none = none
+best-over-e (more {o} {e} {b} ao ae ab r) = more ae (best-end-limited o e b ao) (best-over-e r)
+
+pub best-over-b : {o e b : List (List ℤ)} → Three o e b → Over b (bestPoint o e b)
+unfolding bestPoint
+best-over-b none = none
+best-over-b (more {o} {e} {b} ao ae ab r) = more ab (best-end-limited o e b ao) (best-over-b r)
+
+-- no three points have a larger difference; put as sums, so that nothing is negative
+pub best-most : {o e b : List (List ℤ)} {x y z : List ℤ} → Three o e b → In o x → In e y → In b z →
+    D x y + minDist b (bestPoint o e b) ≤ maxDist e (bestPoint o e b) + D x z
+unfolding minDist maxDist bestPoint closestPoint farthestPoint D
+best-most none none none none = omega arith
+best-most (more {o} {e} {b} ao ae ab r) (more {x = x} i is) (more {x = y} j js) (more {x = z} k ks) =
+    omega (arith, best-end-most o e b ao ae ab x y z i j k, best-most r is js ks)
+
+-- every coordinate within the limits
+pub data Within : List ℤ → Type 0 where
+  none : Within []
+  more : {x : ℤ} {p : List ℤ} → Limited x → Within p → Within (x ∷ p)
+
+pub within : (p : List ℤ) → validPoint p ≡ true → Within p
+unfolding validPoint
+within [] t = none
+within (x ∷ p) t = let u = and-both (withinLimits x) (validPoint p) t in more (limited x (u .0)) (within p (u .1))
+
+pub within-box : {b : List (List ℤ)} {p : List ℤ} → In b p → validBox b ≡ true → Within p
+unfolding validBox
+within-box none t = none
+within-box (more {s} {b} o i) t =
+    let u = and-both (validAxis s) (validBox b) t in
+    more (limited-on (axis s (u .0)) o) (within-box i (u .1))
+
+pub distance-bound : {p q : List ℤ} → Within p → Within q → D p q ≤ axisBound * length p
+unfolding D
+distance-bound none w = omega arith
+distance-bound (more l v) none = omega arith
+distance-bound (more {x = x} l v) (more {x = y} m w) = omega (arith, square-bound x y l m, distance-bound v w)
+
+pub in-length : {b : List (List ℤ)} {p : List ℤ} → In b p → length p ≡ length b
+in-length none = refl
+in-length (more o i) = ap suc (in-length i)

@@ -1,0 +1,6 @@
+pub mod Line
+pub mod Shift
+pub mod OneAxis
+pub mod AllAxes
+pub mod Two
+pub mod Theorems

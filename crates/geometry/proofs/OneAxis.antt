@@ -1,0 +1,214 @@
+-- One axis: the closest point is closest, the farther end farthest, and the better end of O gives the largest difference.
+-- Assumes nothing.
+use Prim.Native.Nat.{ℕ, _+_, _*_, _<_, _≤_, _^_}
+use mathlib.Core.Bool.{Bool, true, false, cond, _&&_}
+use mathlib.Core.List.{List}
+use mathlib.Core.Path.{_≡_, ap, _∙_}
+use native.Mathlib.Nat.{mul-le-mul}
+use native.Mathlib.Omega.{arith}
+use lib.Dec.{ltb}
+use lib.IntN.{ℤ}
+use lib.Signed.{leZ, ltZ}
+use borrow.Author.Tests.{ltb-true, ltb-false}
+use Rattle.base.proofs.Tests.{and-both, both-and, cond-ind, cond-ap}
+use Rattle.geometry.specs.Box.{lo, hi, withinLimits, validAxis, onAxis}
+use Rattle.geometry.specs.Distance.{gap, square, closest, farthest}
+use Rattle.geometry.specs.Margin.{gain, bestEnd}
+use Rattle.geometry.specs.Shift.{shift}
+use Rattle.geometry.proofs.Line.{order, rises}
+use Rattle.geometry.proofs.Shift.{Small, Limited, limited, limited-between, shift-fits, less-shift, at-most-shift, at-most-refl, not-less, gap-shift, square-shift, square-bound, axisBound, less-sub}
+
+-- what the test of an axis shows
+pub record Axis (s : List ℤ) : Type 0 where
+  pub low : Limited (lo s)
+  pub high : Limited (hi s)
+  pub ordered : leZ (lo s) (hi s) ≡ true
+
+pub axis : (s : List ℤ) → validAxis s ≡ true → Axis s
+unfolding validAxis
+axis s t =
+    let p = and-both (withinLimits (lo s) && withinLimits (hi s)) (leZ (lo s) (hi s)) t in
+    let q = and-both (withinLimits (lo s)) (withinLimits (hi s)) (p .0) in
+    record { low = limited (lo s) (q .0); high = limited (hi s) (q .1); ordered = p .1 }
+
+-- the distance of two 32-bit numbers has 32 bits
+pub gap-fits : (x y : ℤ) → Small x → Small y → gap x y < 2 ^ 32
+gap-fits x y h k = omega (arith, gap-shift x y h k, shift-fits x h, shift-fits y k)
+
+-- the square to the farther end is that of the larger distance
+pub farthest-square : (s : List ℤ) (x : ℤ) →
+    square x (farthest s x) ≡ cond (ltb (gap x (lo s)) (gap x (hi s))) (gap x (hi s) * gap x (hi s)) (gap x (lo s) * gap x (lo s))
+unfolding farthest square
+farthest-square s x = cond-ap (square x) (ltb (gap x (lo s)) (gap x (hi s))) (hi s) (lo s)
+
+-- a point of an axis
+pub record On (s : List ℤ) (x : ℤ) : Type 0 where
+  pub from : leZ (lo s) x ≡ true
+  pub to : leZ x (hi s) ≡ true
+
+pub on : (s : List ℤ) (x : ℤ) → onAxis s x ≡ true → On s x
+unfolding onAxis
+on s x t = let p = and-both (leZ (lo s) x) (leZ x (hi s)) t in record { from = p .0; to = p .1 }
+
+pub on-test : {s : List ℤ} {x : ℤ} → On s x → onAxis s x ≡ true
+unfolding onAxis
+on-test p = both-and (p .from) (p .to)
+
+pub low-on : {s : List ℤ} → Axis s → On s (lo s)
+low-on {s} a = record { from = at-most-refl (lo s); to = a .ordered }
+
+pub high-on : {s : List ℤ} → Axis s → On s (hi s)
+high-on {s} a = record { from = a .ordered; to = at-most-refl (hi s) }
+
+pub limited-on : {s : List ℤ} {x : ℤ} → Axis s → On s x → Limited x
+limited-on {s} {x} a p = limited-between (lo s) x (hi s) (a .low) (a .high) (p .from) (p .to)
+
+-- by the place of x against the axis
+closest-ind {ℓ} : (s : List ℤ) (x : ℤ) (P : ℤ → Type ℓ) → (ltZ x (lo s) ≡ true → P (lo s)) → (ltZ (hi s) x ≡ true → P (hi s)) →
+    (ltZ x (lo s) ≡ false → ltZ (hi s) x ≡ false → P x) → P (closest s x)
+unfolding closest
+closest-ind s x P f g k =
+    cond-ind (ltZ x (lo s)) (lo s) (cond (ltZ (hi s) x) (hi s) x) P f
+    (λ n. cond-ind (ltZ (hi s) x) (hi s) x P g (λ m. k n m))
+
+farthest-ind {ℓ} : (s : List ℤ) (x : ℤ) (P : ℤ → Type ℓ) → (gap x (lo s) < gap x (hi s) → P (hi s)) →
+    (gap x (hi s) ≤ gap x (lo s) → P (lo s)) → P (farthest s x)
+unfolding farthest
+farthest-ind s x P f g =
+    cond-ind (ltb (gap x (lo s)) (gap x (hi s))) (hi s) (lo s) P
+    (λ t. f (ltb-true (gap x (lo s)) (gap x (hi s)) t))
+    (λ t. g (ltb-false (gap x (lo s)) (gap x (hi s)) t))
+
+module _ (s : List ℤ) (x : ℤ) (a : Axis s) (lx : Limited x) where
+  pub closest-on : On s (closest s x)
+  closest-on = closest-ind s x (On s) (λ t. low-on a) (λ t. high-on a)
+      (λ n m. record { from = not-less x (lo s) n; to = not-less (hi s) x m })
+
+  pub farthest-on : On s (farthest s x)
+  farthest-on = farthest-ind s x (On s) (λ t. high-on a) (λ t. low-on a)
+
+  module _ (q : ℤ) (p : On s q) where
+    lq : Limited q
+    lq = limited-on a p
+
+    above : shift (lo s) ≤ shift q
+    above = at-most-shift (lo s) q (a .low .small) (lq .small) (p .from)
+
+    below : shift q ≤ shift (hi s)
+    below = at-most-shift q (hi s) (lq .small) (a .high .small) (p .to)
+
+    closest-gap : gap x (closest s x) ≤ gap x q
+    closest-gap =
+        let u = above in
+        let v = below in
+        let e = gap-shift x q (lx .small) (lq .small) in
+        closest-ind s x (λ z. gap x z ≤ gap x q)
+        (λ t. omega (arith, gap-shift x (lo s) (lx .small) (a .low .small), less-shift x (lo s) (lx .small) (a .low .small) t))
+        (λ t. omega (arith, gap-shift x (hi s) (lx .small) (a .high .small), less-shift (hi s) x (a .high .small) (lx .small) t))
+        (λ n k. omega (arith, gap-shift x x (lx .small) (lx .small)))
+
+    farthest-gap : gap x q ≤ gap x (farthest s x)
+    farthest-gap =
+        let u = above in
+        let v = below in
+        let e = gap-shift x q (lx .small) (lq .small) in
+        let el = gap-shift x (lo s) (lx .small) (a .low .small) in
+        let eh = gap-shift x (hi s) (lx .small) (a .high .small) in
+        farthest-ind s x (λ z. gap x q ≤ gap x z) (λ t. omega arith) (λ t. omega arith)
+
+    pub closest-least : square x (closest s x) ≤ square x q
+    unfolding square
+    closest-least = mul-le-mul closest-gap closest-gap
+
+    pub farthest-most : square x q ≤ square x (farthest s x)
+    unfolding square
+    farthest-most = mul-le-mul farthest-gap farthest-gap
+
+  pub closest-bound : square x (closest s x) ≤ axisBound
+  closest-bound = square-bound x (closest s x) lx (limited-on a closest-on)
+
+  pub farthest-bound : square x (farthest s x) ≤ axisBound
+  farthest-bound = square-bound x (farthest s x) lx (limited-on a farthest-on)
+
+-- along O, the square to a point e less the square to a point b is largest at an end
+rises-signed : (x h e b : ℤ) → Limited x → Limited h → Limited e → Limited b → shift x ≤ shift h → shift e ≤ shift b →
+    square x e + square h b ≤ square h e + square x b
+rises-signed x h e b lx lh le lb p q =
+    rw (square-shift x e (lx .small) (le .small), square-shift h b (lh .small) (lb .small), square-shift h e (lh .small) (le .small), square-shift x b (lx .small) (lb .small))
+    (rises (shift x) (shift h) (shift e) (shift b) p q)
+
+-- from x: the square to the farther end of e, and to the closest point of b
+abbrev pub far : List ℤ → ℤ → ℕ
+far e x = square x (farthest e x)
+
+abbrev pub near : List ℤ → ℤ → ℕ
+near b x = square x (closest b x)
+
+-- whether the high end of O is the better one, as the code tests it: differences of squares become sums
+abbrev pub better : List ℤ → List ℤ → List ℤ → Bool
+better o e b = ltb (far e (lo o) + near b (hi o)) (far e (hi o) + near b (lo o))
+
+pub best-end-test : (o e b : List ℤ) → bestEnd o e b ≡ cond (better o e b) (hi o) (lo o)
+unfolding bestEnd gain
+best-end-test o e b = rw (less-sub (far e (lo o)) (near b (lo o)) (far e (hi o)) (near b (hi o)))
+
+best-end-ind : (o e b : List ℤ) (P : ℤ → Type 0) →
+    (far e (lo o) + near b (hi o) < far e (hi o) + near b (lo o) → P (hi o)) →
+    (far e (hi o) + near b (lo o) ≤ far e (lo o) + near b (hi o) → P (lo o)) → P (bestEnd o e b)
+best-end-ind o e b P f g =
+    rw (best-end-test o e b)
+    (cond-ind (better o e b) (hi o) (lo o) P
+    (λ t. f (ltb-true (far e (lo o) + near b (hi o)) (far e (hi o) + near b (lo o)) t))
+    (λ t. g (ltb-false (far e (lo o) + near b (hi o)) (far e (hi o) + near b (lo o)) t)))
+
+module _ (o e b : List ℤ) (ao : Axis o) where
+  pub best-end-on : On o (bestEnd o e b)
+  best-end-on = best-end-ind o e b (On o) (λ t. high-on ao) (λ t. low-on ao)
+
+  pub best-end-limited : Limited (bestEnd o e b)
+  best-end-limited = limited-on ao best-end-on
+
+  -- no three points of the axes have a larger difference
+  pub best-end-most : Axis e → Axis b → (x y z : ℤ) → On o x → On e y → On b z →
+      square x y + near b (bestEnd o e b) ≤ far e (bestEnd o e b) + square x z
+  best-end-most ae ab x y z px py pz =
+      let lx : Limited x = limited-on ao px in
+      let ly : Limited y = limited-on ae py in
+      let lz : Limited z = limited-on ab pz in
+      let fl = farthest-most e (lo o) ae (ao .low) y py in
+      let fh = farthest-most e (hi o) ae (ao .high) y py in
+      let nl = closest-least b (lo o) ab (ao .low) z pz in
+      let nh = closest-least b (hi o) ab (ao .high) z pz in
+      order (shift y) (shift z)
+      (λ q.
+      let r = rises-signed x (hi o) y z lx (ao .high) ly lz (at-most-shift x (hi o) (lx .small) (ao .high .small) (px .to)) q in
+      best-end-ind o e b (λ w. square x y + near b w ≤ far e w + square x z) (λ t. omega arith) (λ t. omega arith))
+      (λ q.
+      let r = rises-signed (lo o) x z y (ao .low) lx lz ly (at-most-shift (lo o) x (ao .low .small) (lx .small) (px .from)) q in
+      best-end-ind o e b (λ w. square x y + near b w ≤ far e w + square x z) (λ t. omega arith) (λ t. omega arith))
+
+-- the squares from the better end
+abbrev pub best-far : List ℤ → List ℤ → List ℤ → ℕ
+best-far o e b = far e (bestEnd o e b)
+
+abbrev pub best-near : List ℤ → List ℤ → List ℤ → ℕ
+best-near o e b = near b (bestEnd o e b)
+
+pub best-far-test : (o e b : List ℤ) → best-far o e b ≡ cond (better o e b) (far e (hi o)) (far e (lo o))
+best-far-test o e b = ap (far e) (best-end-test o e b) ∙ cond-ap (far e) (better o e b) (hi o) (lo o)
+
+pub best-near-test : (o e b : List ℤ) → best-near o e b ≡ cond (better o e b) (near b (hi o)) (near b (lo o))
+best-near-test o e b = ap (near b) (best-end-test o e b) ∙ cond-ap (near b) (better o e b) (hi o) (lo o)
+
+-- what the tests of three axes show
+abbrev pub Valid : List ℤ → List ℤ → List ℤ → Type 0
+Valid o e b = (validAxis o ≡ true) × ((validAxis e ≡ true) × (validAxis b ≡ true))
+
+-- bounds, from any point of O and from the better end
+pub square-bounds : (o e b : List ℤ) → Valid o e b → (x : ℤ) → On o x → (far e x ≤ axisBound) × (near b x ≤ axisBound)
+square-bounds o e b v x p =
+    let l = limited-on (axis o (v .0)) p in
+    (farthest-bound e x (axis e (v .1 .0)) l, closest-bound b x (axis b (v .1 .1)) l)
+
+pub best-bounds : (o e b : List ℤ) → Valid o e b → (best-far o e b ≤ axisBound) × (best-near o e b ≤ axisBound)
+best-bounds o e b v = square-bounds o e b v (bestEnd o e b) (best-end-on o e b (axis o (v .0)))

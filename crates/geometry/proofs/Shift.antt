@@ -1,0 +1,177 @@
+-- From the signed numbers to the line from 0, where `omega` reads: shift keeps order and distance. Assumes nothing.
+use Prim.Native.Nat.{ℕ, zero, suc, _+_, _-_, _*_, _<_, _≤_, _^_}
+use mathlib.Core.Bool.{true, false}
+use mathlib.Core.Path.{_≡_, refl, ap}
+use native.Mathlib.Nat.{mul-le-mul}
+use native.Mathlib.Omega.{arith}
+use lib.Dec.{leb, ltb}
+use lib.IntN.{ℤ, pos, negsuc, _+ℤ_, _-ℤ_, natAbs, subℕ}
+use lib.Signed.{mag, leZ, ltZ}
+use borrow.Author.Tests.{le-ltb, lt-ltb, ltb-true, ltb-false, leb-true, le-leb}
+use Rattle.base.proofs.Tests.{and-both, cond-ind, iff-eq, clash}
+use Rattle.geometry.specs.Box.{withinLimits}
+use Rattle.geometry.specs.Distance.{gap, square}
+use Rattle.geometry.specs.Shift.{shift}
+use Rattle.geometry.proofs.Line.{dist}
+
+-- a 32-bit number
+abbrev pub Small : ℤ → Type 0
+Small z = mag z < 2 ^ 31
+
+pub shift-is : (z : ℤ) → Small z → z +ℤ pos 2147483648 ≡ pos (shift z)
+unfolding shift
+shift-is (pos n) h = ap pos (omega arith)
+shift-is (negsuc n) h = rw (le-ltb 2147483648 (suc n) (omega arith)) (ap pos (omega arith))
+
+pub shift-fits : (z : ℤ) → Small z → shift z < 2 ^ 32
+unfolding shift
+shift-fits (pos n) h = omega arith
+shift-fits (negsuc n) h = omega arith
+
+-- order
+pub less-shift : (a b : ℤ) → Small a → Small b → ltZ a b ≡ true → shift a < shift b
+unfolding shift
+less-shift (pos a) (pos b) h k t = omega (arith, ltb-true a b t)
+less-shift (pos a) (negsuc b) h k t = clash t refl
+less-shift (negsuc a) (pos b) h k t = omega arith
+less-shift (negsuc a) (negsuc b) h k t = omega (arith, ltb-true b a t)
+
+pub not-less-shift : (a b : ℤ) → Small a → Small b → ltZ a b ≡ false → shift b ≤ shift a
+unfolding shift
+not-less-shift (pos a) (pos b) h k t = omega (arith, ltb-false a b t)
+not-less-shift (pos a) (negsuc b) h k t = omega arith
+not-less-shift (negsuc a) (pos b) h k t = clash refl t
+not-less-shift (negsuc a) (negsuc b) h k t = omega (arith, ltb-false b a t)
+
+pub at-most-shift : (a b : ℤ) → Small a → Small b → leZ a b ≡ true → shift a ≤ shift b
+unfolding shift
+at-most-shift (pos a) (pos b) h k t = omega (arith, leb-true a b t)
+at-most-shift (pos a) (negsuc b) h k t = clash t refl
+at-most-shift (negsuc a) (pos b) h k t = omega arith
+at-most-shift (negsuc a) (negsuc b) h k t = omega (arith, leb-true b a t)
+
+-- orders of signed numbers that need no bound
+pub at-most-refl : (a : ℤ) → leZ a a ≡ true
+at-most-refl (pos a) = le-leb a a (omega arith)
+at-most-refl (negsuc a) = le-leb a a (omega arith)
+
+pub not-less : (a b : ℤ) → ltZ a b ≡ false → leZ b a ≡ true
+not-less (pos a) (pos b) t = le-leb b a (ltb-false a b t)
+not-less (pos a) (negsuc b) t = refl
+not-less (negsuc a) (pos b) t = clash refl t
+not-less (negsuc a) (negsuc b) t = le-leb a b (ltb-false b a t)
+
+-- what lies between two 32-bit numbers is one
+small-between : (a z b : ℤ) → Small a → Small b → leZ a z ≡ true → leZ z b ≡ true → Small z
+small-between a (pos z) (pos b) h k s t = omega (arith, leb-true z b t)
+small-between a (pos z) (negsuc b) h k s t = clash t refl
+small-between (pos a) (negsuc z) b h k s t = clash s refl
+small-between (negsuc a) (negsuc z) b h k s t = omega (arith, leb-true z a s)
+
+-- distance
+abs-sub : (a b : ℕ) → natAbs (subℕ a b) ≡ dist a b
+abs-sub a b =
+    cond-ind (ltb a b) (negsuc (b - suc a)) (pos (a - b)) (λ z. natAbs z ≡ dist a b)
+    (λ t. let h = ltb-true a b t in omega arith)
+    (λ t. let h = ltb-false a b t in omega arith)
+
+pub gap-shift : (a b : ℤ) → Small a → Small b → gap a b ≡ dist (shift a) (shift b)
+unfolding gap shift
+gap-shift (pos a) (pos zero) h k = omega arith
+gap-shift (pos a) (pos (suc b)) h k = omega (arith, abs-sub a (suc b))
+gap-shift (pos a) (negsuc b) h k = omega arith
+gap-shift (negsuc a) (pos zero) h k = omega (arith, abs-sub 0 (suc a))
+gap-shift (negsuc a) (pos (suc b)) h k = omega arith
+gap-shift (negsuc a) (negsuc b) h k = omega (arith, abs-sub (suc b) (suc a))
+
+pub square-shift : (a b : ℤ) → Small a → Small b → square a b ≡ dist (shift a) (shift b) * dist (shift a) (shift b)
+unfolding square
+square-shift a b h k = rw (gap-shift a b h k)
+
+-- a coordinate within the limits
+pub record Limited (z : ℤ) : Type 0 where
+  pub from : 2146483648 ≤ shift z
+  pub to : shift z ≤ 2148483648
+  pub small : Small z
+
+pub limited : (z : ℤ) → withinLimits z ≡ true → Limited z
+unfolding withinLimits shift
+limited (pos z) t = let h = leb-true z 1000000 t in record { from = omega arith; to = omega arith; small = omega arith }
+limited (negsuc z) t =
+    let h = leb-true z 999999 (and-both (leb z 999999) true t .0) in
+    record { from = omega arith; to = omega arith; small = omega arith }
+
+pub limited-between : (a z b : ℤ) → Limited a → Limited b → leZ a z ≡ true → leZ z b ≡ true → Limited z
+limited-between a z b h k s t =
+    let m : Small z = small-between a z b (h .small) (k .small) s t in
+    let x = at-most-shift a z (h .small) m s in
+    let y = at-most-shift z b m (k .small) t in
+    record { from = omega arith; to = omega arith; small = m }
+
+-- (2 × 1,000,000)²: the largest square on one axis
+abbrev pub axisBound : ℕ
+axisBound = 4000000000000
+
+pub square-bound : (a b : ℤ) → Limited a → Limited b → square a b ≤ axisBound
+unfolding square
+square-bound a b h k =
+    let g : gap a b ≤ 2000000 = omega (arith, gap-shift a b (h .small) (k .small)) in
+    mul-le-mul g g
+
+-- differences of two numbers from 0
+sub-is : (a b : ℕ) → pos a -ℤ pos b ≡ subℕ a b
+sub-is a zero =
+    cond-ind (ltb a zero) (negsuc (zero - suc a)) (pos (a - zero)) (λ z. pos (a + 0) ≡ z)
+    (λ t. absurd (omega (arith, ltb-true a zero t)))
+    (λ t. ap pos (omega arith))
+sub-is a (suc b) = refl
+
+-- by the signs of two differences
+sub-order : (a b c d : ℕ) (R : ℤ → ℤ → Type 0) →
+    ((x y : ℕ) → b + x ≡ a → d + y ≡ c → R (pos x) (pos y)) →
+    ((x y : ℕ) → b + x ≡ a → c + suc y ≡ d → R (pos x) (negsuc y)) →
+    ((x y : ℕ) → a + suc x ≡ b → d + y ≡ c → R (negsuc x) (pos y)) →
+    ((x y : ℕ) → a + suc x ≡ b → c + suc y ≡ d → R (negsuc x) (negsuc y)) →
+    R (pos a -ℤ pos b) (pos c -ℤ pos d)
+sub-order a b c d R pp pn np nn =
+    rw (sub-is a b, sub-is c d)
+    (cond-ind (ltb a b) (negsuc (b - suc a)) (pos (a - b)) (λ z. R z (subℕ c d))
+    (λ t. let h = ltb-true a b t in
+    cond-ind (ltb c d) (negsuc (d - suc c)) (pos (c - d)) (λ z. R (negsuc (b - suc a)) z)
+    (λ u. let k = ltb-true c d u in nn (b - suc a) (d - suc c) (omega arith) (omega arith))
+    (λ u. let k = ltb-false c d u in np (b - suc a) (c - d) (omega arith) (omega arith)))
+    (λ t. let h = ltb-false a b t in
+    cond-ind (ltb c d) (negsuc (d - suc c)) (pos (c - d)) (λ z. R (pos (a - b)) z)
+    (λ u. let k = ltb-true c d u in pn (a - b) (d - suc c) (omega arith) (omega arith))
+    (λ u. let k = ltb-false c d u in pp (a - b) (c - d) (omega arith) (omega arith))))
+
+-- a - b is below c - d exactly when a + d is below c + b
+pub less-sub : (a b c d : ℕ) → ltZ (pos a -ℤ pos b) (pos c -ℤ pos d) ≡ ltb (a + d) (c + b)
+less-sub a b c d = sub-order a b c d (λ x y. ltZ x y ≡ ltb (a + d) (c + b))
+    (λ x y p q. same x y (omega arith) (omega arith))
+    (λ x y p q. rw (le-ltb (a + d) (c + b) (omega arith)))
+    (λ x y p q. rw (lt-ltb (a + d) (c + b) (omega arith)))
+    (λ x y p q. same y x (omega arith) (omega arith))
+  where
+    same : (x y : ℕ) → (x < y → a + d < c + b) → (a + d < c + b → x < y) → ltb x y ≡ ltb (a + d) (c + b)
+    same x y f g = iff-eq (ltb x y) (ltb (a + d) (c + b))
+        (λ t. lt-ltb (a + d) (c + b) (f (ltb-true x y t)))
+        (λ t. lt-ltb x y (g (ltb-true (a + d) (c + b) t)))
+
+pub at-most-sub : (a b c d : ℕ) → a + d ≤ c + b → leZ (pos a -ℤ pos b) (pos c -ℤ pos d) ≡ true
+at-most-sub a b c d h = sub-order a b c d (λ x y. leZ x y ≡ true)
+    (λ x y p q. le-leb x y (omega arith))
+    (λ x y p q. absurd (omega arith))
+    (λ x y p q. refl)
+    (λ x y p q. le-leb y x (omega arith))
+
+-- the size of a difference
+pub abs-difference : (a b : ℕ) → natAbs (pos a -ℤ pos b) ≡ dist a b
+abs-difference a b = rw (sub-is a b) (abs-sub a b)
+
+mag-abs : (z : ℤ) → mag z ≤ natAbs z
+mag-abs (pos n) = omega arith
+mag-abs (negsuc n) = omega arith
+
+pub mag-difference : (a b m : ℕ) → a ≤ m → b ≤ m → mag (pos a -ℤ pos b) ≤ m
+mag-difference a b m h k = omega (arith, abs-difference a b, mag-abs (pos a -ℤ pos b))

@@ -1,0 +1,48 @@
+// The limits of coordinates, and the tests of boxes and points.
+ghost use mathlib.Core.Path.{_≡_};
+ghost use Rattle.geometry.specs.Box.{withinLimits, validAxis, validBox, validPoint, onAxis, inside};
+use base::both;
+
+pub const LOWEST: i32 = -1_000_000;
+
+pub const HIGHEST: i32 = 1_000_000;
+
+pub fn within_limits(x: i32) -> bool
+    ensures { λ r. ⌜ r ≡ withinLimits x ⌝ }
+{
+    both(LOWEST <= x, x <= HIGHEST)
+}
+
+pub fn valid_axis(s: [i32; 2]) -> bool
+    ensures { λ r. ⌜ r ≡ validAxis s ⌝ }
+{
+    let l = s[0];
+    let h = s[1];
+    both(both(within_limits(l), within_limits(h)), l <= h)
+}
+
+pub fn valid_box(b: [[i32; 2]; 2]) -> bool
+    ensures { λ r. ⌜ r ≡ validBox b ⌝ }
+{
+    both(valid_axis(b[0]), valid_axis(b[1]))
+}
+
+pub fn valid_point(p: [i32; 2]) -> bool
+    ensures { λ r. ⌜ r ≡ validPoint p ⌝ }
+{
+    both(within_limits(p[0]), within_limits(p[1]))
+}
+
+pub fn on_axis(s: [i32; 2], x: i32) -> bool
+    ensures { λ r. ⌜ r ≡ onAxis s x ⌝ }
+{
+    let l = s[0];
+    let h = s[1];
+    both(l <= x, x <= h)
+}
+
+pub fn inside(b: [[i32; 2]; 2], p: [i32; 2]) -> bool
+    ensures { λ r. ⌜ r ≡ inside b p ⌝ }
+{
+    both(on_axis(b[0], p[0]), on_axis(b[1], p[1]))
+}
