@@ -1,0 +1,29 @@
+-- Laws of outcomes: what an accepted outcome shows of its parts. Assumes nothing.
+use Prim.Native.Nat.{ℕ}
+use mathlib.Core.Bool.{Bool, true, false}
+use mathlib.Core.Path.{_≡_, refl}
+use native.Mathlib.Omega.{arith}
+use Rattle.base.specs.Refusal.{Outcome, accepted, refused, require, andThen}
+
+-- no outcome is both accepted and refused
+pub accepted-refused {ℓ} : {A : Type 0} {X : Type ℓ} {o : Outcome A} {a : A} {n b : ℕ} → o ≡ accepted a → o ≡ refused n b → X
+accepted-refused p q = absurd (let z : _≡_ {A = ℕ} 0 1 = cc in omega arith)
+
+pub accepted-injective : {A : Type 0} {a b : A} → accepted a ≡ accepted b → a ≡ b
+accepted-injective e = cc
+
+pub require-accepted : {A : Type 0} (test : Bool) (n p : ℕ) (o : Outcome A) {a : A} → require test n p o ≡ accepted a →
+    (test ≡ true) × (o ≡ accepted a)
+require-accepted true n p o e = (refl, e)
+require-accepted false n p o e = accepted-refused e refl
+
+pub andThen-accepted : {A B : Type 0} (o : Outcome A) (next : A → Outcome B) {b : B} → andThen o next ≡ accepted b →
+    (a : A) × (o ≡ accepted a) × (next a ≡ accepted b)
+andThen-accepted (accepted a) next e = (a, refl, e)
+andThen-accepted (refused n p) next e = accepted-refused e refl
+
+-- what comes next matters for an accepted outcome only
+pub andThen-same : {A B : Type 0} (o : Outcome A) (f g : A → Outcome B) → ((a : A) → o ≡ accepted a → f a ≡ g a) →
+    andThen o f ≡ andThen o g
+andThen-same (accepted a) f g h = h a refl
+andThen-same (refused n p) f g h = refl

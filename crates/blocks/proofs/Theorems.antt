@@ -1,0 +1,105 @@
+-- The theorems of this crate for the reader. Assumes nothing.
+use Prim.Native.Nat.{ℕ, min, _+_, _-_, _*_, _/_, _<_, _≤_}
+use mathlib.Core.Bool.{true}
+use mathlib.Core.List.{List, [], _∷_, _++_}
+use mathlib.Core.Path.{_≡_, refl, sym, ap, _∙_}
+use native.Mathlib.Omega.{arith}
+use lib.Dec.{lit<}
+use lib.ListN.{getD, length, take, drop, replicate, length-take, length-drop}
+use lib.Seq.{slice, getD-take, getD-drop, ext-getD}
+use borrow.Author.Tests.{eqb-true}
+use Rattle.base.specs.Refusal.{accepted, require, andThen, #length}
+use Rattle.geometry.specs.Box.{validBox}
+use Rattle.base.proofs.Outcomes.{andThen-same}
+use Rattle.base.proofs.Tests.{and-both}
+use Rattle.blocks.specs.Accepted.{GoodDirectory}
+use Rattle.blocks.specs.Block.{blockAt, tilesIn}
+use Rattle.blocks.specs.Checksum.{sumsFrom, sums, checkAgrees}
+use Rattle.blocks.specs.Directory.{directoryBlocks, directoryBlockAt, lengthDue, directoryRest, directory, boxAt}
+use Rattle.blocks.specs.Directory.{countAt}
+use Rattle.blocks.specs.Layout.{blockSize, checkAt, entriesPerBlock, maxSites}
+use Rattle.blocks.specs.Same.{SameDirectory}
+use Rattle.blocks.proofs.ChecksumLaws.{sums-small}
+use Rattle.blocks.proofs.DirectoryLaws as laws
+use Rattle.blocks.proofs.OutcomeLaws.{turns-same}
+
+-- "Twelve cases", 9 to 11, whatever byte 0 and the stored check are
+pub cases-9-to-11 : (sync a c : ℕ) →
+    let block : List ℕ → List ℕ = λ bytes. sync ∷ (bytes ++ (a ∷ c ∷ [])) in
+    (sums (block (replicate 509 0)) ≡ record { a = 0; c = 0 })
+    × (sums (block (1 ∷ replicate 508 0)) ≡ record { a = 1; c = 254 })
+    × (sums (block (replicate 508 0 ++ (1 ∷ []))) ≡ record { a = 1; c = 1 })
+unfolding sums sumsFrom
+cases-9-to-11 sync a c = (refl, refl, refl)
+
+-- "a stored 255 never agrees"
+pub stored-255 : (s : List ℕ) → checkAgrees s ≡ true → (getD s checkAt 0 < 255) × (getD s (checkAt + 1) 0 < 255)
+unfolding checkAgrees sums
+stored-255 s e =
+    let h = and-both _ _ e in
+    let l = sums-small (slice 1 checkAt s) 0 0 (lit< tt) (lit< tt) in (
+      rw (eqb-true (getD s checkAt 0) (sums s .a) (h .0)) (l .0),
+      rw (eqb-true (getD s (checkAt + 1) 0) (sums s .c) (h .1)) (l .1),
+    )
+
+-- a directory is accepted, with T = t, exactly when its length and its blocks are good
+pub directory-exactly : (f : List ℕ) (t : ℕ) →
+    (directory f ≡ accepted t → GoodDirectory f t)
+    × (GoodDirectory f t → directory f ≡ accepted t)
+directory-exactly f t = (laws.directory-good f, laws.directory-enough f t)
+
+-- box and count of a tile of an accepted directory: "coordinate beyond limits, low above high, or count over 40" is refused
+pub entry-of-accepted : (f : List ℕ) (t i : ℕ) → directory f ≡ accepted t → i < t →
+    (validBox (boxAt f i) ≡ true)
+    × (countAt f i ≤ maxSites)
+entry-of-accepted f t i e h = let g = laws.directory-good f e in (laws.box-valid g i h, laws.count-small g i h)
+
+-- files of the same length, equal in every byte of a block, have the same block (the laws below compare blocks)
+pub same-bytes : (f g : List ℕ) (p : ℕ) → length g ≡ length f →
+    ((i : ℕ) → i < blockSize → getD g (blockSize * p + i) 0 ≡ getD f (blockSize * p + i) 0) → blockAt g p ≡ blockAt f p
+unfolding blockAt
+same-bytes f g p n h =
+    let at = blockSize * p in
+    let size : (l : List ℕ) → length (take blockSize (drop at l)) ≡ min blockSize (length l - at) =
+    λ l. length-take blockSize (drop at l) ∙ ap (min blockSize) (length-drop at l) in
+    let byte : (l : List ℕ) (i : ℕ) → i < blockSize → getD (take blockSize (drop at l)) i 0 ≡ getD l (at + i) 0 =
+    λ l i k. getD-take blockSize (drop at l) i 0 k ∙ getD-drop at l i 0 in
+    ext-getD 0 (take blockSize (drop at g)) (take blockSize (drop at f)) (size g ∙ ap (λ k. min blockSize (k - at)) n ∙ sym (size f))
+    (λ i k. let l : i < blockSize = omega (arith, size g) in byte g i l ∙ h i l ∙ sym (byte f i l))
+
+-- what the directory comes to depends on the file's length and on the directory's blocks alone
+module _ (f g : List ℕ) (first : blockAt g 0 ≡ blockAt f 0) (s : SameDirectory f g (tilesIn (blockAt f 0))) where
+  block-depends : (p : ℕ) → blockAt g p ≡ blockAt f p → directoryBlockAt g p ≡ directoryBlockAt f p
+  unfolding directoryBlockAt
+  block-depends p e = rw (e, first, s .size)
+
+  rest-depends : (t : ℕ) → directoryBlockAt f 0 ≡ accepted t → directoryRest g t ≡ directoryRest f t
+  unfolding directoryRest
+  rest-depends t e =
+      let h = laws.block-at-good f 0 e in
+      let m = laws.some-block t (h .1 .least) in
+      ap (λ o. andThen o (λ _. accepted t))
+      (turns-same (directoryBlockAt g) (directoryBlockAt f) 1 (directoryBlocks t - 1)
+      (λ i a b. block-depends i (s .blocks i (rw (← h .0) (omega arith)))))
+
+  pub directory-depends : directory g ≡ directory f
+  unfolding directory
+  directory-depends =
+      ap (λ n. require (lengthDue n) #length 0 (andThen (directoryBlockAt g 0) (directoryRest g))) (s .size)
+      ∙ ap (require (lengthDue (length f)) #length 0)
+      (ap (λ o. andThen o (directoryRest g)) (block-depends 0 first)
+      ∙ andThen-same (directoryBlockAt f 0) (directoryRest g) (directoryRest f) rest-depends)
+
+-- so does the entry of each of its tiles
+pub entry-depends : (f g : List ℕ) (t i : ℕ) → SameDirectory f g t → i < t → (boxAt g i ≡ boxAt f i)
+    × (countAt g i ≡ countAt f i)
+unfolding boxAt countAt
+entry-depends f g t i s h = let e = s .blocks (i / entriesPerBlock) (laws.entry-block t i h) in (rw e, rw e)
+
+-- a file that agrees with an accepted directory is accepted with the same T
+pub same-directory : (f g : List ℕ) (t : ℕ) → directory f ≡ accepted t → SameDirectory f g t → directory g ≡ accepted t
+same-directory f g t e s =
+    let d = laws.directory-good f e in
+    let m = laws.some-block t (d .tiles .least) in
+    let q : tilesIn (blockAt f 0) ≡ t = d .blocks 0 m .tiles in
+    directory-depends f g (s .blocks 0 m) (rw q s) ∙ e

@@ -1,0 +1,18 @@
+use mathlib.Core.Path.{_∙_}
+use borrow.Author.Needs.{needs}
+use Rattle.blocks.specs.Directory.{directoryBlockAt}
+use Rattle.blocks.proofs.directory.directory_block_at.Statement.{statement}
+use Rattle.blocks.proofs.directory.directory_block_at.Tie as tie
+
+block-at-requires : tie.Need-block-at-requires
+block-at-requires c κs = search needs
+
+directory-block-requires : tie.Need-directory-block-requires
+directory-block-requires c κs = search needs
+
+returns : tie.Need-returns
+unfolding directoryBlockAt
+returns c = c .directory-block .ensures ∙ rw (c .before .block-at .ensures .0, c .before .before .before .pre .2)
+
+pub directory-block-at-spec : {M : Type 1} → statement M
+directory-block-at-spec = tie.close (tie.spec block-at-requires directory-block-requires returns)

@@ -1,0 +1,45 @@
+use borrow.Author.Needs.{needs}
+use Rattle.blocks.specs.Directory.{directoryPadding}
+use Rattle.blocks.proofs.directory.directory_padding.Statement.{statement}
+use Rattle.blocks.proofs.directory.directory_padding.Tie as tie
+
+entry-offset-requires : tie.Need-entry-offset-requires
+entry-offset-requires c κs = search needs
+
+zeros-requires : tie.Need-zeros-requires
+zeros-requires c κs = search needs
+
+entries-zero-requires : tie.Need-entries-zero-requires
+entries-zero-requires c κs = search needs
+
+both-requires : tie.Need-both-requires
+both-requires c κs = search needs
+
+zeros-requires-2 : tie.Need-zeros-requires-2
+zeros-requires-2 c κs = search needs
+
+both-requires-2 : tie.Need-both-requires-2
+both-requires-2 c κs = search needs
+
+returns : tie.Need-returns
+unfolding directoryPadding
+returns c = simp (
+  c .both2 .ensures,
+  c .before .zeros2 .ensures,
+  c .before .before .both .ensures,
+  c .before .before .before .entries-zero .ensures,
+  c .before .before .before .before .zeros .ensures,
+  c .before .before .before .before .before .entry-offset .ensures .0,
+)
+
+pub directory-padding-spec : {M : Type 1} → statement M
+directory-padding-spec =
+    tie.close
+    (tie.spec
+    entry-offset-requires
+    zeros-requires
+    entries-zero-requires
+    both-requires
+    zeros-requires-2
+    both-requires-2
+    returns)

@@ -1,0 +1,17 @@
+use borrow.Author.Needs.{needs}
+use Rattle.blocks.specs.Directory.{lengthDue}
+use Rattle.blocks.proofs.directory.length_due.Statement.{statement}
+use Rattle.blocks.proofs.directory.length_due.Tie as tie
+
+both-requires : tie.Need-both-requires
+both-requires c κs = search needs
+
+both-requires-2 : tie.Need-both-requires-2
+both-requires-2 c κs = search needs
+
+returns : tie.Need-returns
+unfolding lengthDue
+returns c = simp (c .both2 .ensures, c .before .both .ensures)
+
+pub length-due-spec : {M : Type 1} → statement M
+length-due-spec = tie.close (tie.spec both-requires both-requires-2 returns)

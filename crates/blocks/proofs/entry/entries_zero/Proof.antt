@@ -1,0 +1,59 @@
+use Prim.Native.Nat.{ℕ, _-_, _<_}
+use mathlib.Core.Bool.{true}
+use mathlib.Core.Path.{_≡_, sym}
+use native.Mathlib.Omega.{arith}
+use borrow.Author.Count.{below-more}
+use borrow.Author.Needs.{needs}
+use Rattle.codec.proofs.Every.{every-fails, every-holds}
+use Rattle.blocks.specs.Directory.{entryZero}
+use Rattle.blocks.proofs.TestLaws.{passed, failed}
+use Rattle.blocks.proofs.entry.entries_zero.Statement.{statement}
+use Rattle.blocks.proofs.entry.entries_zero.Tie as tie
+
+abbrev Inv-loop : tie.InvT-loop
+Inv-loop s n i₀ i = (j : ℕ) → j < i → entryZero s j ≡ true
+
+abbrev μ-loop : tie.MeasureT-loop
+μ-loop s n i₀ i = n - i
+
+loop-holds : tie.Need-loop-holds Inv-loop μ-loop
+loop-holds c = λ j l. absurd (omega arith)
+
+entry-zero-requires : tie.Need-entry-zero-requires Inv-loop μ-loop
+entry-zero-requires c κs = search needs
+
+returns : tie.Need-returns Inv-loop μ-loop
+returns c =
+    let l = c .before .before .before in
+    let a = l .before .before .args in
+    sym (every-fails (entryZero (a .s .now)) (a .n) (l .loop .i) (search needs)
+    (failed (c .before .entry-zero .ensures) (c .if1 .taken)))
+
+add-i : tie.Need-add-i Inv-loop μ-loop
+add-i c = search needs
+
+loop-less : tie.Need-loop-less Inv-loop μ-loop
+loop-less c = search needs
+
+loop-again : tie.Need-loop-again Inv-loop μ-loop
+loop-again c = below-more _ _ (c .before .before .before .loop .inv) (passed (c .before .entry-zero .ensures) (c .if1 .left))
+
+returns-2 : tie.Need-returns-2 Inv-loop μ-loop
+returns-2 c =
+    let l = c .before in
+    let a = l .before .before .args in
+    sym (every-holds (entryZero (a .s .now)) (a .n) (λ j h. l .loop .inv j (omega arith)))
+
+pub entries-zero-spec : {M : Type 1} → statement M
+entries-zero-spec =
+    tie.close
+    (tie.spec
+    Inv-loop
+    μ-loop
+    loop-holds
+    entry-zero-requires
+    returns
+    add-i
+    loop-less
+    loop-again
+    returns-2)

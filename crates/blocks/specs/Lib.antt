@@ -1,0 +1,7 @@
+pub mod Layout
+pub mod Checksum
+pub mod Outcome
+pub mod Block
+pub mod Directory
+pub mod Accepted
+pub mod Same

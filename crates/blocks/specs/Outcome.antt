@@ -1,0 +1,20 @@
+-- What the answers of this crate come to, and tests in turn.
+use Prim.Native.Nat.{ℕ, zero, suc, _+_}
+use Rattle.base.specs.Refusal.{Outcome, accepted, refused, andThen}
+use Rattle.blocks.specs.declared.block.Answer.{Answer}
+use Rattle.blocks.specs.declared.block.Answer.the-variants.{Accepted, Refused}
+
+-- of a call that answers an enum: "A refusal gives the number and the block position"
+abbrev pub answerOutcome : Answer → Outcome ℕ
+answerOutcome (Accepted n) = accepted n
+answerOutcome (Refused r) = refused (r .number) (r .block)
+
+-- of a call that answers the number of the first test failed by the block at p, or 0
+abbrev pub numberOutcome : ℕ → ℕ → Outcome Unit
+numberOutcome zero p = accepted tt
+numberOutcome (suc n) p = refused (suc n) p
+
+-- n tests in turn, of p and the numbers after it: the first refusal decides
+unfoldable pub inTurn : {A : Type 0} → (ℕ → Outcome A) → ℕ → ℕ → Outcome Unit
+inTurn test p zero = accepted tt
+inTurn test p (suc n) = andThen (test p) (λ _. inTurn test (p + 1) n)

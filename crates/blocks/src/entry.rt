@@ -1,0 +1,87 @@
+// The entries of a directory block.
+ghost use mathlib.Core.Path.{_≡_};
+ghost use Prim.Native.Nat.{_+_, _*_, _<_, _≤_};
+ghost use lib.ListN.{length};
+ghost use Rattle.codec.specs.Every.{every};
+ghost use Rattle.blocks.specs.Layout.{blockSize, payloadAt, entrySize, entriesPerBlock};
+ghost use Rattle.blocks.specs.Directory.{entryOffset, entryBox, entryCount, entryZero, entryValid};
+use crate::layout;
+use base::both;
+use codec::reading::i32_at;
+use codec::reading::u16_at;
+use codec::reading::zeros;
+use geometry::limits::valid_box;
+
+pub fn entry_offset(i: usize) -> usize
+    requires { ⌜ i ≤ entriesPerBlock ⌝ }
+    ensures { λ r. ⌜ (r ≡ entryOffset i) × (r ≡ payloadAt + entrySize * i) ⌝ }
+{
+    layout::PAYLOAD_AT + layout::ENTRY_SIZE * i
+}
+
+pub fn entry_box(s: &[u8], i: usize) -> [[i32; 2]; 2]
+    requires { ⌜ (i < entriesPerBlock) × (length (now s) ≡ blockSize) ⌝ }
+    ensures { λ r. ⌜ r ≡ entryBox (now (s .entry)) i ⌝ }
+{
+    let at = entry_offset(i);
+    let low_x = i32_at(s, at);
+    let low_y = i32_at(s, at + 4);
+    let high_x = i32_at(s, at + 8);
+    let high_y = i32_at(s, at + 12);
+    [[low_x, high_x], [low_y, high_y]]
+}
+
+pub fn entry_count(s: &[u8], i: usize) -> usize
+    requires { ⌜ (i < entriesPerBlock) × (length (now s) ≡ blockSize) ⌝ }
+    ensures { λ r. ⌜ r ≡ entryCount (now (s .entry)) i ⌝ }
+{
+    u16_at(s, entry_offset(i) + layout::COUNT_OFFSET)
+}
+
+// The last two bytes of an entry are zero.
+pub fn entry_zero(s: &[u8], i: usize) -> bool
+    requires { ⌜ (i < entriesPerBlock) × (length (now s) ≡ blockSize) ⌝ }
+    ensures { λ r. ⌜ r ≡ entryZero (now (s .entry)) i ⌝ }
+{
+    let at = entry_offset(i);
+    zeros(s, at + layout::ZERO_OFFSET, at + layout::ENTRY_SIZE)
+}
+
+pub fn entries_zero(s: &[u8], n: usize) -> bool
+    requires { ⌜ (n ≤ entriesPerBlock) × (length (now s) ≡ blockSize) ⌝ }
+    ensures { λ r. ⌜ r ≡ every (entryZero (now (s .entry))) n ⌝ }
+{
+    let mut i = 0;
+    while i < n {
+        if !entry_zero(s, i) {
+            return false;
+        }
+        i += 1;
+    }
+    true
+}
+
+// Test 9 of one entry.
+pub fn entry_valid(s: &[u8], i: usize) -> bool
+    requires { ⌜ (i < entriesPerBlock) × (length (now s) ≡ blockSize) ⌝ }
+    ensures { λ r. ⌜ r ≡ entryValid (now (s .entry)) i ⌝ }
+{
+    both(
+        valid_box(entry_box(s, i)),
+        entry_count(s, i) <= layout::MAX_SITES,
+    )
+}
+
+pub fn entries_valid(s: &[u8], n: usize) -> bool
+    requires { ⌜ (n ≤ entriesPerBlock) × (length (now s) ≡ blockSize) ⌝ }
+    ensures { λ r. ⌜ r ≡ every (entryValid (now (s .entry))) n ⌝ }
+{
+    let mut i = 0;
+    while i < n {
+        if !entry_valid(s, i) {
+            return false;
+        }
+        i += 1;
+    }
+    true
+}

@@ -1,0 +1,20 @@
+-- Numbers at a position of a list of bytes, "little-endian" (document 01, "Blocks").
+use Prim.Native.Nat.{ℕ, _+_, _*_, _-_}
+use mathlib.Core.Bool.{cond}
+use mathlib.Core.List.{List}
+use lib.Dec.{ltb}
+use lib.IntN.{ℤ, pos, negsuc}
+use lib.ListN.{getD}
+
+unfoldable pub u16At : List ℕ → ℕ → ℕ
+u16At s at = getD s at 0 + 256 * getD s (at + 1) 0
+
+unfoldable pub u32At : List ℕ → ℕ → ℕ
+u32At s at = u16At s at + 65536 * u16At s (at + 2)
+
+-- the signed number with the 32 bits of n
+unfoldable pub signed : ℕ → ℤ
+signed n = cond (ltb n 0x8000_0000) (pos n) (negsuc (0xffff_ffff - n))
+
+unfoldable pub i32At : List ℕ → ℕ → ℤ
+i32At s at = signed (u32At s at)

@@ -1,0 +1,2 @@
+// Numbers and zeros in bytes, least significant byte first. It knows nothing of blocks.
+pub mod reading;

@@ -1,0 +1,64 @@
+-- The theorems of this crate for the reader. Assumes nothing.
+use Prim.Native.Nat.{ℕ, _<_}
+use mathlib.Core.Bool.{true}
+use mathlib.Core.List.{List}
+use mathlib.Core.Path.{_≡_, sym, ap, _∙_}
+use native.Mathlib.Nat.{zero-add}
+use lib.ListN.{length, getD}
+use Rattle.base.specs.Refusal.{accepted}
+use Rattle.blocks.specs.Block.{blockAt}
+use Rattle.blocks.specs.Directory.{boxAt, countAt}
+use Rattle.codec.specs.Tabulate.{tabulate}
+use Rattle.geometry.specs.Box.{inside}
+use Rattle.base.proofs.Outcomes.{accepted-injective}
+use Rattle.codec.proofs.Tabulate.{length-tabulate, getD-tabulate}
+use Rattle.tiles.specs.Accepted.{GoodTile, GoodFile}
+use Rattle.tiles.specs.Tile.{siteIn, sitePoint, tilePosition, openTile, siteAt, sitesAt}
+use Rattle.tiles.specs.Validate.{validate}
+use Rattle.tiles.specs.declared.tile.Site.{Site}
+use Rattle.tiles.proofs.TileLaws as laws
+
+-- a file passes the full check, with T = tiles, exactly when its directory and all its tiles are good
+pub validate-exactly : (f : List ℕ) (tiles : ℕ) →
+    (validate f ≡ accepted tiles → GoodFile f tiles)
+    × (GoodFile f tiles → validate f ≡ accepted tiles)
+validate-exactly f tiles = (laws.validate-good f, laws.validate-enough f tiles)
+
+module _ (f : List ℕ) (tiles t : ℕ) where
+  -- an opening is accepted exactly when its block is good
+  pub opening-exactly : (openTile f tiles t ≡ accepted (countAt f t) → GoodTile f tiles t)
+      × (GoodTile f tiles t → openTile f tiles t ≡ accepted (countAt f t))
+  opening-exactly = (laws.open-good f tiles t, laws.open-enough f tiles t)
+
+  -- an accepted opening gives the directory's count, and all its sites lie in the box
+  pub opened-count : {n : ℕ} → openTile f tiles t ≡ accepted n → n ≡ countAt f t
+  opened-count e = accepted-injective (sym e ∙ laws.open-enough f tiles t (laws.open-good f tiles t e))
+
+  pub opened-inside : {n : ℕ} → openTile f tiles t ≡ accepted n → (slot : ℕ) → slot < countAt f t →
+      inside (boxAt f t) (sitePoint (siteAt f tiles t slot)) ≡ true
+  unfolding siteAt
+  opened-inside e slot l = laws.open-good f tiles t e .inside slot l
+
+  -- the list of a tile's sites has the site of each slot
+  pub sites-length : length (sitesAt f tiles t) ≡ countAt f t
+  unfolding sitesAt
+  sites-length = length-tabulate (siteAt f tiles t) 0 (countAt f t)
+
+  pub sites-slot : (d : Site) (slot : ℕ) → slot < countAt f t → getD (sitesAt f tiles t) slot d ≡ siteAt f tiles t slot
+  unfolding sitesAt
+  sites-slot d slot l = getD-tabulate (siteAt f tiles t) d 0 (countAt f t) slot l ∙ ap (siteAt f tiles t) (zero-add slot)
+
+-- what an opening comes to, and the tile's sites, depend on its own block, its entry and T alone
+module _ (f g : List ℕ) (tiles t : ℕ) (block : blockAt g (tilePosition tiles t) ≡ blockAt f (tilePosition tiles t)) where
+  pub site-depends : (slot : ℕ) → siteAt g tiles t slot ≡ siteAt f tiles t slot
+  unfolding siteAt
+  site-depends slot = rw block
+
+  module _ (count : countAt g t ≡ countAt f t) where
+    pub sites-depend : sitesAt g tiles t ≡ sitesAt f tiles t
+    unfolding sitesAt siteAt
+    sites-depend = ap (λ s. tabulate (siteIn s) 0 (countAt g t)) block ∙ ap (tabulate (siteAt f tiles t) 0) count
+
+    pub opening-depends : boxAt g t ≡ boxAt f t → openTile g tiles t ≡ openTile f tiles t
+    unfolding openTile
+    opening-depends bounds = rw (block, bounds, count)

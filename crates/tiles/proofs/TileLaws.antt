@@ -1,0 +1,71 @@
+-- What an accepted tile and an accepted file show, and that this is enough. Assumes nothing.
+use Prim.Native.Nat.{ℕ}
+use mathlib.Core.List.{List}
+use mathlib.Core.Path.{_≡_, sym, ap, _∙_}
+use native.Mathlib.Nat.{zero-add}
+use lib.IntN.{ℤ}
+use borrow.Author.Tests.{eqb-true, eq-eqb}
+use Rattle.base.specs.Refusal.{accepted}
+use Rattle.blocks.specs.Block.{entriesIn, blockHead}
+use Rattle.blocks.specs.Directory.{directory, countAt}
+use Rattle.blocks.specs.Layout.{tileKind}
+use Rattle.blocks.specs.Outcome.{inTurn}
+use Rattle.base.proofs.Outcomes.{accepted-injective, require-accepted, andThen-accepted}
+use Rattle.blocks.proofs.BlockLaws.{head-good, head-enough}
+use Rattle.blocks.proofs.DirectoryLaws.{directory-good, directory-enough}
+use Rattle.blocks.proofs.OutcomeLaws.{turns-each, turns-all}
+use Rattle.codec.proofs.Every.{every-at, every-holds}
+use Rattle.tiles.specs.Accepted.{GoodTileBlock, GoodTile, GoodFile}
+use Rattle.tiles.specs.Tile.{tileBlock, siteInside, openTile}
+use Rattle.tiles.specs.Validate.{openAll, validate}
+
+module _ (s : List ℕ) (p : ℕ) (bounds : List (List ℤ)) (count : ℕ) where
+  pub tile-good : {n : ℕ} → tileBlock s p bounds count ≡ accepted n → GoodTileBlock s p bounds count
+  unfolding tileBlock siteInside
+  tile-good e =
+      let h = andThen-accepted (blockHead tileKind s p) _ e in
+      let a = require-accepted _ _ _ _ (h .2) in
+      let b = require-accepted _ _ _ _ (a .1) in
+      let c = require-accepted _ _ _ _ (b .1) in
+      record {
+        head = head-good tileKind s p (h .1);
+        entries = eqb-true (entriesIn s) count (a .0);
+        padding = b .0;
+        inside = λ slot l. every-at (siteInside bounds s) count slot (c .0) l;
+      }
+
+  pub tile-enough : GoodTileBlock s p bounds count → tileBlock s p bounds count ≡ accepted count
+  unfolding tileBlock siteInside
+  tile-enough g =
+      let v = every-holds (siteInside bounds s) count (g .inside) in
+      rw (head-enough tileKind s p (g .head), eq-eqb (entriesIn s) count (g .entries), g .padding, v)
+
+module _ (f : List ℕ) (tiles : ℕ) where
+  pub open-good : (t : ℕ) {n : ℕ} → openTile f tiles t ≡ accepted n → GoodTile f tiles t
+  unfolding openTile
+  open-good t e = tile-good _ _ _ _ e
+
+  pub open-enough : (t : ℕ) → GoodTile f tiles t → openTile f tiles t ≡ accepted (countAt f t)
+  unfolding openTile
+  open-enough t g = tile-enough _ _ _ _ g
+
+pub validate-good : (f : List ℕ) {tiles : ℕ} → validate f ≡ accepted tiles → GoodFile f tiles
+unfolding validate openAll
+validate-good f {tiles} e =
+    let h = andThen-accepted (directory f) (openAll f) e in
+    let n = h .0 in
+    let r = andThen-accepted (inTurn (openTile f n) 0 n) (λ _. accepted n) (h .2) in
+    let q : n ≡ tiles = accepted-injective (r .2) in
+    let g : GoodFile f n = record {
+      directory = directory-good f (h .1);
+      opened = λ t l. let x = turns-each (openTile f n) 0 n (r .1) t l in
+          open-good f n t (ap (openTile f n) (sym (zero-add t)) ∙ x .1);
+    } in
+    rw q at g
+
+pub validate-enough : (f : List ℕ) (tiles : ℕ) → GoodFile f tiles → validate f ≡ accepted tiles
+unfolding validate openAll
+validate-enough f tiles g =
+    let all = turns-all (openTile f tiles) 0 tiles
+    (λ t l. (countAt f t, ap (openTile f tiles) (zero-add t) ∙ open-enough f tiles t (g .opened t l))) in
+    rw (directory-enough f tiles (g .directory), all)

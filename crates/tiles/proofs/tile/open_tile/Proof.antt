@@ -1,0 +1,46 @@
+use mathlib.Core.Path.{_∙_}
+use borrow.Author.Needs.{needs}
+use Rattle.blocks.proofs.DirectoryLaws.{directory-good, count-small}
+use Rattle.tiles.specs.Tile.{openTile}
+use Rattle.tiles.proofs.tile.open_tile.Statement.{statement}
+use Rattle.tiles.proofs.tile.open_tile.Tie as tie
+
+tile-position-requires : tie.Need-tile-position-requires
+tile-position-requires c κs = search needs
+
+box-at-requires : tie.Need-box-at-requires
+box-at-requires c κs = search needs
+
+count-at-requires : tie.Need-count-at-requires
+count-at-requires c κs = search needs
+
+block-at-requires : tie.Need-block-at-requires
+block-at-requires c κs = search needs
+
+tile-block-requires : tie.Need-tile-block-requires
+tile-block-requires c κs =
+    let s = c .before .before .before .before .before in (
+      c .block-at .ensures .1,
+      c .before .before .before .tile-position .ensures .1,
+      rw (c .before .count-at .ensures) (count-small (directory-good _ (s .pre .0)) (s .args .t) (s .pre .1)),
+    )
+
+returns : tie.Need-returns
+unfolding openTile
+returns c = c .tile-block .ensures ∙ rw (
+  c .before .block-at .ensures .0,
+  c .before .before .count-at .ensures,
+  c .before .before .before .box-at .ensures,
+  c .before .before .before .before .tile-position .ensures .0,
+)
+
+pub open-tile-spec : {M : Type 1} → statement M
+open-tile-spec =
+    tie.close
+    (tie.spec
+    tile-position-requires
+    box-at-requires
+    count-at-requires
+    block-at-requires
+    tile-block-requires
+    returns)

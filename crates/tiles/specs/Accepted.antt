@@ -1,0 +1,28 @@
+-- What acceptance of a tile and of a file shows of the bytes. The theorems say that it shows exactly this.
+use Prim.Native.Nat.{ℕ, _<_}
+use mathlib.Core.Bool.{true}
+use mathlib.Core.List.{List}
+use mathlib.Core.Path.{_≡_}
+use lib.IntN.{ℤ}
+use Rattle.blocks.specs.Accepted.{GoodHead, GoodDirectory}
+use Rattle.blocks.specs.Block.{blockAt, entriesIn}
+use Rattle.blocks.specs.Directory.{boxAt, countAt}
+use Rattle.blocks.specs.Layout.{tileKind}
+use Rattle.geometry.specs.Box as geometry
+use Rattle.tiles.specs.Tile.{siteIn, sitePoint, tilePadding, tilePosition}
+
+-- the tile block at position p, whose entry has this box and this count
+pub record GoodTileBlock (s : List ℕ) (p : ℕ) (bounds : List (List ℤ)) (count : ℕ) : Type 0 where
+  pub head : GoodHead tileKind s p
+  pub entries : entriesIn s ≡ count
+  pub padding : tilePadding s count ≡ true
+  pub inside : (slot : ℕ) → slot < count → geometry.inside bounds (sitePoint (siteIn s slot)) ≡ true
+
+-- tile t of a file with T = tiles
+abbrev pub GoodTile : List ℕ → ℕ → ℕ → Type 0
+GoodTile f tiles t = GoodTileBlock (blockAt f (tilePosition tiles t)) (tilePosition tiles t) (boxAt f t) (countAt f t)
+
+-- a file with T = tiles
+pub record GoodFile (f : List ℕ) (tiles : ℕ) : Type 0 where
+  pub directory : GoodDirectory f tiles
+  pub opened : (t : ℕ) → t < tiles → GoodTile f tiles t

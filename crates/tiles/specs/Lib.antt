@@ -1,0 +1,3 @@
+pub mod Tile
+pub mod Validate
+pub mod Accepted

@@ -1,0 +1,65 @@
+-- The opening of a tile, and its sites (document 01, "Blocks" and "Numbers given to bad input").
+use Prim.Native.Nat.{ℕ, _+_, _*_}
+use mathlib.Core.Bool.{Bool, _&&_}
+use mathlib.Core.List.{List, [], _∷_}
+use lib.Dec.{eqb}
+use lib.IntN.{ℤ}
+use Rattle.base.specs.Refusal.{Outcome, accepted, require, andThen, #entries, #padding, #stray}
+use Rattle.blocks.specs.Block.{blockAt, entriesIn, blockHead}
+use Rattle.blocks.specs.Directory.{directoryBlocks, boxAt, countAt}
+use Rattle.blocks.specs.Layout.{tileKind, tilesAt, payloadAt, checkAt, siteSize}
+use Rattle.codec.specs.Every.{every, zeros}
+use Rattle.codec.specs.Number.{u32At, i32At}
+use Rattle.codec.specs.Tabulate.{tabulate}
+use Rattle.geometry.specs.Box.{inside}
+use Rattle.tiles.specs.declared.tile.Site.{Site}
+
+-- where the site of a slot stands in a block
+unfoldable pub siteOffset : ℕ → ℕ
+siteOffset slot = payloadAt + siteSize * slot
+
+-- "A site has 12 bytes: x, y (signed), cue"
+unfoldable pub siteIn : List ℕ → ℕ → Site
+siteIn s slot = record {
+  x = i32At s (siteOffset slot);
+  y = i32At s (siteOffset slot + 4);
+  cue = u32At s (siteOffset slot + 8);
+}
+
+-- where a site is
+abbrev pub sitePoint : Site → List ℤ
+sitePoint site = site .x ∷ site .y ∷ []
+
+-- 8: "a byte due to be zero is not"; with n sites these are bytes 6-15, since T is "zero in a tile", and what lies between
+-- the last site and the check: "All else zero, unused payload too"
+unfoldable pub tilePadding : List ℕ → ℕ → Bool
+tilePadding s n = zeros s tilesAt payloadAt && zeros s (siteOffset n) checkAt
+
+-- 10: "a site outside its box"
+unfoldable pub siteInside : List (List ℤ) → List ℕ → ℕ → Bool
+siteInside bounds s slot = inside bounds (sitePoint (siteIn s slot))
+
+-- "openings, each 2, 3, 4, 5, 7, 8, 10": of the block with bytes s at position p, by box and count of its entry; gives the
+-- number of its sites
+unfoldable pub tileBlock : List ℕ → ℕ → List (List ℤ) → ℕ → Outcome ℕ
+tileBlock s p bounds count =
+    andThen (blockHead tileKind s p) (λ _.
+    require (eqb (entriesIn s) count) #entries p
+    (require (tilePadding s count) #padding p
+    (require (every (siteInside bounds s) count) #stray p
+    (accepted count))))
+
+-- "tile t at position d + t", of T = tiles
+unfoldable pub tilePosition : ℕ → ℕ → ℕ
+tilePosition tiles t = directoryBlocks tiles + t
+
+-- the opening of tile t of a file
+unfoldable pub openTile : List ℕ → ℕ → ℕ → Outcome ℕ
+openTile f tiles t = tileBlock (blockAt f (tilePosition tiles t)) (tilePosition tiles t) (boxAt f t) (countAt f t)
+
+-- the site of a tile's slot, and all sites of a tile by slot
+unfoldable pub siteAt : List ℕ → ℕ → ℕ → ℕ → Site
+siteAt f tiles t slot = siteIn (blockAt f (tilePosition tiles t)) slot
+
+unfoldable pub sitesAt : List ℕ → ℕ → ℕ → List Site
+sitesAt f tiles t = tabulate (siteAt f tiles t) 0 (countAt f t)

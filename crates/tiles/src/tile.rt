@@ -1,0 +1,131 @@
+// Opening a tile, and its sites, read in place.
+ghost use mathlib.Core.Path.{_≡_};
+ghost use Prim.Native.Nat.{_+_, _*_, _<_, _≤_};
+ghost use lib.ListN.{length};
+ghost use Rattle.base.specs.Refusal.{accepted};
+ghost use Rattle.codec.specs.Every.{every};
+ghost use Rattle.blocks.specs.Layout.{blockSize, payloadAt, siteSize, maxSites};
+ghost use Rattle.blocks.specs.Outcome.{answerOutcome};
+ghost use Rattle.blocks.specs.Directory.{directory, countAt};
+ghost use Rattle.tiles.specs.Tile.{siteOffset, siteIn, tilePadding, siteInside, tileBlock, tilePosition, openTile, siteAt};
+use base::both;
+use blocks::block;
+use blocks::block::Answer;
+use blocks::directory;
+use blocks::layout;
+use codec::reading::i32_at;
+use codec::reading::u16_at;
+use codec::reading::u32_at;
+use codec::reading::zeros;
+use geometry::limits::inside;
+
+pub struct Site {
+    pub x: i32,
+    pub y: i32,
+    pub cue: u32,
+}
+
+pub fn site_offset(slot: usize) -> usize
+    requires { ⌜ slot ≤ maxSites ⌝ }
+    ensures { λ r. ⌜ (r ≡ siteOffset slot) × (r ≡ payloadAt + siteSize * slot) ⌝ }
+{
+    layout::PAYLOAD_AT + layout::SITE_SIZE * slot
+}
+
+// The site of a slot of a tile's block.
+pub fn site_in(s: &[u8], slot: usize) -> Site
+    requires { ⌜ (slot < maxSites) × (length (now s) ≡ blockSize) ⌝ }
+    ensures { λ r. ⌜ r ≡ siteIn (now (s .entry)) slot ⌝ }
+{
+    let at = site_offset(slot);
+    let x = i32_at(s, at);
+    let y = i32_at(s, at + 4);
+    let cue = u32_at(s, at + 8);
+    Site { x, y, cue }
+}
+
+// Test 8, of a tile with n sites.
+pub fn tile_padding(s: &[u8], n: usize) -> bool
+    requires { ⌜ (n ≤ maxSites) × (length (now s) ≡ blockSize) ⌝ }
+    ensures { λ r. ⌜ r ≡ tilePadding (now (s .entry)) n ⌝ }
+{
+    let used = site_offset(n);
+    both(
+        zeros(s, layout::TILES_AT, layout::PAYLOAD_AT),
+        zeros(s, used, layout::CHECK_AT),
+    )
+}
+
+// Test 10 of one site.
+pub fn site_inside(bounds: [[i32; 2]; 2], s: &[u8], slot: usize) -> bool
+    requires { ⌜ (slot < maxSites) × (length (now s) ≡ blockSize) ⌝ }
+    ensures { λ r. ⌜ r ≡ siteInside bounds (now (s .entry)) slot ⌝ }
+{
+    let site = site_in(s, slot);
+    let x = site.x;
+    let y = site.y;
+    inside(bounds, [x, y])
+}
+
+pub fn sites_inside(bounds: [[i32; 2]; 2], s: &[u8], n: usize) -> bool
+    requires { ⌜ (n ≤ maxSites) × (length (now s) ≡ blockSize) ⌝ }
+    ensures { λ r. ⌜ r ≡ every (siteInside bounds (now (s .entry))) n ⌝ }
+{
+    let mut i = 0;
+    while i < n {
+        if !site_inside(bounds, s, i) {
+            return false;
+        }
+        i += 1;
+    }
+    true
+}
+
+// A tile's block, by box and count of its entry: the first test that fails decides.
+pub fn tile_block(s: &[u8], p: usize, bounds: [[i32; 2]; 2], count: usize) -> Answer
+    requires { ⌜ (length (now s) ≡ blockSize) × (p < 65536) × (count ≤ maxSites) ⌝ }
+    ensures { λ r. ⌜ answerOutcome r ≡ tileBlock (now (s .entry)) p bounds count ⌝ }
+{
+    let head = block::head_number(s, layout::TILE_KIND, p);
+    if head != 0 {
+        return block::refused(head, p);
+    }
+    if u16_at(s, layout::ENTRIES_AT) != count {
+        return block::refused(base::ENTRIES, p);
+    }
+    if !tile_padding(s, count) {
+        return block::refused(base::PADDING, p);
+    }
+    if !sites_inside(bounds, s, count) {
+        return block::refused(base::STRAY, p);
+    }
+    Answer::Accepted(count)
+}
+
+// Where tile t stands, of a file whose directory is accepted.
+pub fn tile_position(f: &[u8], tiles: usize, t: usize) -> usize
+    requires { ⌜ (directory (now f) ≡ accepted tiles) × (t < tiles) ⌝ }
+    ensures { λ r. ⌜ (r ≡ tilePosition tiles t) × (r < 65536) × (blockSize * r + blockSize ≤ length (now (f .entry))) ⌝ }
+{
+    directory::directory_blocks(tiles) + t
+}
+
+// Opens tile t of a file whose directory is accepted: the number of its sites, or the first refusal.
+pub fn open_tile(f: &[u8], tiles: usize, t: usize) -> Answer
+    requires { ⌜ (directory (now f) ≡ accepted tiles) × (t < tiles) ⌝ }
+    ensures { λ r. ⌜ answerOutcome r ≡ openTile (now (f .entry)) tiles t ⌝ }
+{
+    let p = tile_position(f, tiles, t);
+    let bounds = directory::box_at(f, tiles, t);
+    let count = directory::count_at(f, tiles, t);
+    tile_block(block::block_at(f, p), p, bounds, count)
+}
+
+// The site of a slot of tile t, of a file whose directory is accepted.
+pub fn site_at(f: &[u8], tiles: usize, t: usize, slot: usize) -> Site
+    requires { ⌜ (directory (now f) ≡ accepted tiles) × (t < tiles) × (slot < countAt (now f) t) ⌝ }
+    ensures { λ r. ⌜ r ≡ siteAt (now (f .entry)) tiles t slot ⌝ }
+{
+    let p = tile_position(f, tiles, t);
+    site_in(block::block_at(f, p), slot)
+}
