@@ -1,3 +1,7 @@
 pub mod Every
 pub mod Number
 pub mod Tabulate
+pub mod Over
+pub mod Joined
+pub mod Holds
+pub mod Bytes

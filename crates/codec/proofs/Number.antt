@@ -1,12 +1,19 @@
 -- Laws of signed numbers. Assumes nothing.
-use Prim.Native.Nat.{ℕ, zero, suc, _<_}
+use Prim.Native.Nat.{ℕ, zero, suc, _-_, _<_}
+use mathlib.Core.Bool.{true, false}
 use mathlib.Core.Path.{_≡_, refl}
-use native.Mathlib.Nat.{zero-add}
-use lib.IntN.{ℤ, pos, negsuc, _-ℤ_}
-use lib.Signed.{mag}
+use native.Mathlib.Nat.{zero-add, suc-sub-suc, sub-zero}
+use native.Mathlib.Omega.{arith}
+use lib.Dec.{T, ltb, leb·zero}
+use lib.IntN.{ℤ, pos, negsuc, _-ℤ_, natAbs}
+use lib.Signed.{mag, leZ, nonNeg}
 use mir.Facts.{toZ-pos, toZ-ofZ}
 use mir.Syntax.{w32}
-use mir.Val.{SFits, toZ, ofZ}
+use mir.Val.{Fits, SFits, toZ, ofZ}
+use borrow.Author.Tests.{le-ltb, lt-ltb, ltb-true, ltb-false}
+use Rattle.base.proofs.Tests.{by-test, clash}
+use Rattle.codec.specs.Bytes.{bits}
+use Rattle.codec.specs.Number.{signed}
 
 minus-one : (k : ℕ) → negsuc 0 -ℤ pos k ≡ negsuc k
 minus-one zero = refl
@@ -22,3 +29,42 @@ below-fits k h = rw (below k h) (record { sfits = h })
 -- a signed number that passed through a local, where it is held as bits
 pub local-i32 : (z : ℤ) → mag z < 0x8000_0000 → toZ w32 (ofZ w32 z) ≡ z
 local-i32 z h = toZ-ofZ (record { sfits = h })
+
+-- ---- the 32 bits of a signed number, as the code has them
+pub bits-up : (x : ℤ) → mag x < 0x8000_0000 → leZ (pos 0) x ≡ true →
+    T (nonNeg x) × Fits w32 (natAbs x) × (natAbs x ≡ bits x)
+unfolding bits
+bits-up (pos n) h e = (tt, record { fits = omega arith }, refl)
+bits-up (negsuc n) h e = clash e refl
+
+one-less : (n : ℕ) → negsuc 0 -ℤ negsuc n ≡ pos n
+one-less n = rw (le-ltb (suc n) 1 (omega arith), suc-sub-suc, sub-zero)
+
+pub bits-down : (x : ℤ) → mag x < 0x8000_0000 → leZ (pos 0) x ≡ false →
+    (k : ℕ) × (negsuc 0 -ℤ x ≡ pos k) × (k < 0x8000_0000) × (0xffff_ffff - k ≡ bits x)
+unfolding bits
+bits-down (pos n) h e = clash (leb·zero n) e
+bits-down (negsuc n) h e = (n, one-less n, h, refl)
+
+-- ---- bits and the signed number with these bits
+pub bits-small : (z : ℤ) → mag z < 0x8000_0000 → bits z < 0x1_0000_0000
+unfolding bits
+bits-small (pos n) h = omega arith
+bits-small (negsuc n) h = omega arith
+
+pub signed-bits : (z : ℤ) → mag z < 0x8000_0000 → signed (bits z) ≡ z
+unfolding bits signed
+signed-bits (pos n) h = rw (lt-ltb n 0x8000_0000 h)
+signed-bits (negsuc n) h =
+    let k : 0xffff_ffff - (0xffff_ffff - n) ≡ n = omega arith in
+    rw (le-ltb (0xffff_ffff - n) 0x8000_0000 (omega arith), k)
+
+pub bits-signed : (n : ℕ) → n < 0x1_0000_0000 → bits (signed n) ≡ n
+unfolding bits signed
+bits-signed n h = by-test (ltb n 0x8000_0000) (λ e. rw e) (λ e. let k = ltb-false n 0x8000_0000 e in rw e (omega arith))
+
+pub signed-small : (n : ℕ) → n < 0x1_0000_0000 → mag (signed n) < 0x8000_0000
+unfolding signed
+signed-small n h =
+    by-test (ltb n 0x8000_0000) (λ e. rw e (ltb-true n 0x8000_0000 e))
+    (λ e. let k = ltb-false n 0x8000_0000 e in rw e (omega arith))

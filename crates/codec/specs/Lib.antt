@@ -1,3 +1,5 @@
 pub mod Every
 pub mod Number
 pub mod Tabulate
+pub mod Over
+pub mod Bytes

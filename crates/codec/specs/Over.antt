@@ -1,0 +1,8 @@
+-- A list with a run of elements replaced: the form in which every call that writes says what it leaves.
+use Prim.Native.Nat.{ℕ}
+use mathlib.Core.List.{List}
+use lib.Seq.{sets}
+
+-- l with vs from index i on
+unfoldable pub over : List ℕ → ℕ → List ℕ → List ℕ
+over l i vs = sets l i vs

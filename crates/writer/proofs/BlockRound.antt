@@ -1,0 +1,199 @@
+-- A block that holds what the writer makes is good, with the entries or sites of the lists; a good block of bytes with these
+-- entries or sites holds what the writer makes. Assumes nothing.
+use Prim.Native.Nat.{ℕ, zero, _+_, _*_, _-_, _<_, _≤_}
+use mathlib.Core.Bool.{true}
+use mathlib.Core.List.{List}
+use mathlib.Core.Path.{_≡_, sym, ap, _∙_}
+use native.Mathlib.Omega.{arith}
+use lib.Dec.{eqb, ltb}
+use lib.IntN.{ℤ, pos}
+use lib.ListN.{length, getD}
+use borrow.Author.Tests.{eqb-true, eqb-false, eq-eqb, ltb-true, ltb-false}
+use Rattle.blocks.specs.Accepted.{GoodHead, GoodDirectoryBlock}
+use Rattle.blocks.specs.Block.{tilesIn, kindDue}
+use Rattle.blocks.specs.Directory.{directoryBlocks, entriesDue, entryOffset, entryBox, entryCount, entryZero, directoryPadding}
+use Rattle.blocks.specs.Layout.{blockSize, kindAt, tilesAt, reservedAt, payloadAt, checkAt, entrySize, entriesPerBlock}
+use Rattle.blocks.specs.Layout.{siteSize, maxSites, maxTiles, directoryKind, tileKind}
+use Rattle.codec.specs.Every.{zeros}
+use Rattle.codec.specs.Number.{u16At}
+use Rattle.codec.specs.Tabulate.{joined}
+use Rattle.geometry.specs.Box as geometry
+use Rattle.tiles.specs.Accepted.{GoodTileBlock}
+use Rattle.tiles.specs.Tile.{siteOffset, siteIn, sitePoint, tilePadding}
+use Rattle.tiles.specs.declared.tile.Site.{Site}
+use Rattle.base.proofs.Tests.{and-both, both-and, by-test}
+use Rattle.codec.proofs.Every.{every-at, every-holds, zeros-at, zeros-hold}
+use Rattle.codec.proofs.Holds.{Holds, holds-each, holds-joined}
+use Rattle.writer.specs.Encode.{entryBytes, siteBytes, directoryBytes, tileBytes}
+use Rattle.writer.specs.Made.{Bytes, Signed, Unsigned}
+use Rattle.writer.specs.Supply.{boxOf, countOf, pointOf}
+use Rattle.writer.proofs.BlockFields.{Fields, fields-read, fields-held, entry-read, entry-held, site-read, site-held}
+use Rattle.writer.proofs.EncodeLaws.{length-entry, length-site, length-entries, length-sites, due-few, due-within}
+use Rattle.writer.proofs.EncodeLaws.{blocks-few}
+
+-- the fields that both kinds of block have in common
+module _ {s : List ℕ} {kind p : ℕ} where
+  head-of : {n t : ℕ} {payload : List ℕ} → Fields s kind p n t payload → GoodHead kind s p
+  unfolding kindDue
+  head-of g = record { sync = g .sync; check = g .check; due = eq-eqb (getD s kindAt 0) kind (g .kinds); position = g .position }
+
+  kind-of : GoodHead kind s p → getD s kindAt 0 ≡ kind
+  unfolding kindDue
+  kind-of g = eqb-true (getD s kindAt 0) kind (g .due)
+
+-- ---- a directory block
+-- its entries are those of its tiles
+abbrev pub Entries : List ℤ → List ℕ → List ℕ → ℕ → Type 0
+Entries boxes counts s p = (i : ℕ) → i < entriesDue (length counts) p →
+    (entryBox s i ≡ boxOf boxes (entriesPerBlock * p + i))
+    × (entryCount s i ≡ countOf counts (entriesPerBlock * p + i))
+
+module _ (boxes : List ℤ) (counts : List ℕ) (s : List ℕ) (p : ℕ) (size : length s ≡ blockSize) where
+  payload : List ℕ
+  payload = joined (entryBytes boxes counts) (entriesPerBlock * p) (entriesDue (length counts) p)
+
+  entries-fit : payloadAt + length payload ≤ checkAt
+  unfolding payload
+  entries-fit =
+      omega (arith, length-entries boxes counts (entriesPerBlock * p) (entriesDue (length counts) p), due-few (length counts) p)
+
+  payload-end : payloadAt + length payload ≡ entryOffset (entriesDue (length counts) p)
+  unfolding payload entryOffset
+  payload-end = omega (arith, length-entries boxes counts (entriesPerBlock * p) (entriesDue (length counts) p))
+
+  module _ (signed : Signed boxes) (few : length counts ≤ maxTiles) (here : p < directoryBlocks (length counts))
+      (small : (t : ℕ) → t < length counts → countOf counts t ≤ maxSites)
+      (valid : (t : ℕ) → t < length counts → geometry.validBox (boxOf boxes t) ≡ true) where
+    entries-read : Holds s payloadAt payload → (i : ℕ) → i < entriesDue (length counts) p →
+        (entryBox s i ≡ boxOf boxes (entriesPerBlock * p + i))
+        × (entryCount s i ≡ countOf counts (entriesPerBlock * p + i))
+        × (entryZero s i ≡ true)
+    unfolding payload entryOffset
+    entries-read h i l =
+        let t = entriesPerBlock * p + i in
+        let k : t < length counts = omega (arith, due-within (length counts) p here) in
+        entry-read s i boxes counts t signed (omega (arith, small t k))
+        (holds-each s (entryBytes boxes counts) entrySize payloadAt (entriesPerBlock * p) (entriesDue (length counts) p)
+        (λ j m. length-entry boxes counts (entriesPerBlock * p + j)) h i l)
+
+    pub directory-read : Holds s 0 (directoryBytes boxes counts p) →
+        GoodDirectoryBlock s p (length counts) × Entries boxes counts s p
+    unfolding directoryBytes payload directoryPadding
+    directory-read h =
+        let n = entriesDue (length counts) p in
+        let g = fields-read s size directoryKind p n (length counts) payload entries-fit
+        (omega (arith, blocks-few (length counts)))
+        (omega (arith, due-few (length counts) p)) (omega arith) h in
+        let e = entries-read (g .held) in
+        let tile : (i : ℕ) → i < n → entriesPerBlock * p + i < length counts = λ i l. omega
+        (arith, due-within (length counts) p here) in (
+          record {
+            head = head-of g;
+            tiles = g .tiles;
+            entries = g .entries;
+            padding = both-and (both-and (g .reserved) (every-holds (entryZero s) n (λ i l. e i l .2)))
+                (ap (λ k. zeros s k checkAt) (sym payload-end) ∙ g .unused);
+            boxes = λ i l. rw (e i l .0) (valid (entriesPerBlock * p + i) (tile i l));
+            counts = λ i l. rw (e i l .1) (small (entriesPerBlock * p + i) (tile i l));
+          },
+          λ i l. (e i l .0, e i l .1),
+        )
+
+  pub directory-held : Bytes s → GoodDirectoryBlock s p (length counts) → Entries boxes counts s p →
+      Holds s 0 (directoryBytes boxes counts p)
+  unfolding directoryBytes payload directoryPadding entryOffset
+  directory-held byte g e =
+      let n = entriesDue (length counts) p in
+      let z = and-both _ _ (g .padding) in
+      let y = and-both _ _ (z .0) in
+      fields-held s size directoryKind p n (length counts) payload entries-fit byte (record {
+        sync = g .head .sync;
+        kinds = kind-of (g .head);
+        position = g .head .position;
+        entries = g .entries;
+        tiles = g .tiles;
+        reserved = y .0;
+        held = holds-joined s (entryBytes boxes counts) entrySize payloadAt (entriesPerBlock * p) n
+            (λ j m. length-entry boxes counts (entriesPerBlock * p + j))
+            (λ i l. entry-held s i boxes counts (entriesPerBlock * p + i) byte (e i l .0) (e i l .1)
+            (every-at (entryZero s) n i (y .1) l));
+        unused = ap (λ k. zeros s k checkAt) payload-end ∙ z .1;
+        check = g .head .check;
+      })
+
+-- ---- T is zero in a tile: its two bytes and the eight after them
+module _ (s : List ℕ) where
+  tile-zeros : tilesIn s ≡ 0 → zeros s reservedAt payloadAt ≡ true → zeros s tilesAt payloadAt ≡ true
+  unfolding u16At
+  tile-zeros e z = zeros-hold s tilesAt payloadAt (λ i l k. by-test (ltb i reservedAt) (λ t. first i k (ltb-true i reservedAt t))
+      (λ t. zeros-at s reservedAt payloadAt z i (ltb-false i reservedAt t) l))
+    where
+      first : (i : ℕ) → tilesAt ≤ i → i < reservedAt → getD s i 0 ≡ 0
+      first i k l = by-test (eqb i tilesAt) (λ t. rw (eqb-true i tilesAt t) (omega (arith, e)))
+          (λ t. let q : i ≡ tilesAt + 1 = omega (arith, eqb-false i tilesAt t) in rw q (omega (arith, e)))
+
+  tiles-zero : zeros s tilesAt payloadAt ≡ true → (tilesIn s ≡ 0) × (zeros s reservedAt payloadAt ≡ true)
+  unfolding u16At
+  tiles-zero z =
+      let a = zeros-at s tilesAt payloadAt z tilesAt (omega arith) (omega arith) in
+      let b = zeros-at s tilesAt payloadAt z (tilesAt + 1) (omega arith) (omega arith) in
+      (omega (arith, a, b), zeros-hold s reservedAt payloadAt (λ i l k. zeros-at s tilesAt payloadAt z i (omega arith) l))
+
+-- ---- a tile's block
+-- its sites are n sites of the lists from site `first` on
+abbrev pub Sites : List ℤ → List ℤ → List ℕ → List ℕ → ℕ → ℕ → Type 0
+Sites xs ys cues s first n = (slot : ℕ) → slot < n →
+    siteIn s slot ≡ record {
+      x = getD xs (first + slot) (pos 0);
+      y = getD ys (first + slot) (pos 0);
+      cue = getD cues (first + slot) 0;
+    }
+
+module _ (xs ys : List ℤ) (cues : List ℕ) (s : List ℕ) (p first n : ℕ) (size : length s ≡ blockSize) (few : n ≤ maxSites) where
+  sites : List ℕ
+  sites = joined (siteBytes xs ys cues) first n
+
+  sites-fit : payloadAt + length sites ≤ checkAt
+  unfolding sites
+  sites-fit = omega (arith, length-sites xs ys cues first n)
+
+  sites-end : payloadAt + length sites ≡ siteOffset n
+  unfolding sites siteOffset
+  sites-end = omega (arith, length-sites xs ys cues first n)
+
+  pub tile-read : Signed xs → Signed ys → Unsigned cues → p < 65536 → (bounds : List (List ℤ)) →
+      ((slot : ℕ) → slot < n → geometry.inside bounds (pointOf xs ys (first + slot)) ≡ true) →
+      Holds s 0 (tileBytes xs ys cues p first n) → GoodTileBlock s p bounds n × Sites xs ys cues s first n
+  unfolding tileBytes sites tilePadding siteOffset
+  tile-read sx sy sc lp bounds inside h =
+      let g = fields-read s size tileKind p n 0 sites sites-fit lp (omega arith) (omega arith) h in
+      let e : Sites xs ys cues s first n = λ slot l. site-read s slot xs ys cues (first + slot) sx sy sc
+      (holds-each s (siteBytes xs ys cues) siteSize payloadAt first n (λ j m. length-site xs ys cues (first + j))
+      (g .held) slot l) in (
+        record {
+          head = head-of g;
+          entries = g .entries;
+          padding = both-and (tile-zeros s (g .tiles) (g .reserved)) (ap (λ k. zeros s k checkAt) (sym sites-end) ∙ g .unused);
+          inside = λ slot l. ap (λ (q : Site). geometry.inside bounds (sitePoint q)) (e slot l) ∙ inside slot l;
+        },
+        e,
+      )
+
+  pub tile-held : Bytes s → {bounds : List (List ℤ)} → GoodTileBlock s p bounds n → Sites xs ys cues s first n →
+      Holds s 0 (tileBytes xs ys cues p first n)
+  unfolding tileBytes sites tilePadding siteOffset
+  tile-held byte g e =
+      let z = and-both _ _ (g .padding) in
+      let y = tiles-zero s (z .0) in
+      fields-held s size tileKind p n 0 sites sites-fit byte (record {
+        sync = g .head .sync;
+        kinds = kind-of (g .head);
+        position = g .head .position;
+        entries = g .entries;
+        tiles = y .0;
+        reserved = y .1;
+        held = holds-joined s (siteBytes xs ys cues) siteSize payloadAt first n (λ j m. length-site xs ys cues (first + j))
+            (λ slot l. site-held s slot xs ys cues (first + slot) byte (e slot l));
+        unused = ap (λ k. zeros s k checkAt) sites-end ∙ z .1;
+        check = g .head .check;
+      })

@@ -1,0 +1,205 @@
+-- The file that the writer makes passes the full check and gives its lists back; a file of bytes that passes holds what the
+-- writer makes of the lists that are read from it. Assumes nothing.
+use Prim.Native.Nat.{ℕ, _+_, _*_, _-_, _/_, _%_, _<_, _≤_}
+use mathlib.Core.List.{List}
+use mathlib.Core.Path.{_≡_, sym, ap, _∙_}
+use native.Mathlib.Nat.{zero-add}
+use native.Mathlib.Omega.{arith}
+use lib.Dec.{ltb, lit<}
+use lib.ListN.{length, take, drop, length-append, length-take, List·getD-eq-default}
+use lib.Seq.{getD-take, getD-drop}
+use borrow.Author.Tests.{ltb-true, ltb-false}
+use Rattle.blocks.specs.Accepted.{GoodDirectoryBlock}
+use Rattle.blocks.specs.Block.{blockAt}
+use Rattle.blocks.specs.Directory.{directoryBlocks, boxAt, countAt}
+use Rattle.blocks.specs.Layout.{blockSize, entriesPerBlock, maxSites}
+use Rattle.codec.specs.Tabulate.{joined}
+use Rattle.geometry.specs.Box as geometry
+use Rattle.tiles.specs.Accepted.{GoodTileBlock, GoodFile}
+use Rattle.tiles.specs.Tile.{siteIn, tilePosition, siteAt}
+use Rattle.base.proofs.Tests.{by-test}
+use Rattle.blocks.proofs.BlockLaws as blocks
+use Rattle.blocks.proofs.DirectoryLaws.{entry-block, entry-due, block-fits, count-small}
+use Rattle.codec.proofs.Holds.{Holds, holds-run, holds-part, part-holds, holds-left, holds-right, holds-append, holds-each}
+use Rattle.codec.proofs.Holds.{holds-joined}
+use Rattle.codec.proofs.Joined.{length-joined}
+use Rattle.writer.specs.Accepted.{GoodSupply}
+use Rattle.writer.specs.Encode.{directoryBytes, tileBytesOf, fileBytes, fileLength}
+use Rattle.writer.specs.Made.{Bytes, Typed}
+use Rattle.writer.specs.Supply.{Supply, tilesOf, boxOf, countOf, offset, siteOf}
+use Rattle.writer.proofs.BlockRound.{Entries, directory-read, directory-held, tile-read, tile-held}
+use Rattle.writer.proofs.EncodeLaws.{length-directory-block, length-tile-block, due-few, due-within, blocks-few}
+
+-- what is read from a file is what these lists say: box and count of each tile, and the site of each slot
+pub record Reads (f : List ℕ) (s : Supply) : Type 0 where
+  pub box : (t : ℕ) → t < tilesOf s → boxAt f t ≡ boxOf (s .boxes) t
+  pub count : (t : ℕ) → t < tilesOf s → countAt f t ≡ countOf (s .counts) t
+  pub site : (t slot : ℕ) → t < tilesOf s → slot < countOf (s .counts) t → siteAt f (tilesOf s) t slot ≡ siteOf s t slot
+
+-- a block of a file of bytes is one of bytes
+pub block-bytes : (f : List ℕ) (p : ℕ) → Bytes f → Bytes (blockAt f p)
+unfolding blockAt
+block-bytes f p byte i =
+    let s = drop (blockSize * p) f in
+    by-test (ltb i blockSize)
+    (λ e. rw (getD-take blockSize s i 0 (ltb-true i blockSize e), getD-drop (blockSize * p) f i 0) (byte (blockSize * p + i)))
+    (λ e. let l : length (take blockSize s) ≤ i = omega (arith, length-take blockSize s, ltb-false i blockSize e) in
+    rw (List·getD-eq-default (take blockSize s) 0 l) (lit< tt))
+
+-- a tile's entry is entry t % 24 of directory block t / 24
+tile-entry : (t : ℕ) → entriesPerBlock * (t / entriesPerBlock) + t % entriesPerBlock ≡ t
+tile-entry t = omega arith
+
+entry-of : (p i : ℕ) → i < entriesPerBlock → ((entriesPerBlock * p + i) / entriesPerBlock ≡ p) ×
+    ((entriesPerBlock * p + i) % entriesPerBlock ≡ i)
+entry-of p i l = (omega arith, omega arith)
+
+module _ (s : Supply) where
+  abbrev directory : ℕ → List ℕ
+  directory = directoryBytes (s .boxes) (s .counts)
+
+  abbrev tile : ℕ → List ℕ
+  tile = tileBytesOf (s .counts) (s .xs) (s .ys) (s .cues)
+
+  length-all : length (joined directory 0 (directoryBlocks (tilesOf s))) ≡ blockSize * directoryBlocks (tilesOf s)
+  length-all = length-joined directory blockSize 0 (directoryBlocks (tilesOf s))
+      (λ i l. length-directory-block (s .boxes) (s .counts) (0 + i))
+
+  module _ (few : (t : ℕ) → t < tilesOf s → countOf (s .counts) t ≤ maxSites) where
+    length-tile : (t : ℕ) → t < tilesOf s → length (tile t) ≡ blockSize
+    unfolding tileBytesOf
+    length-tile t l =
+        length-tile-block (s .xs) (s .ys) (s .cues) (tilePosition (tilesOf s) t) (offset (s .counts) t) (countOf (s .counts) t)
+        (few t l)
+
+    tile-width : (k : ℕ) → k < tilesOf s → length (tile (0 + k)) ≡ blockSize
+    tile-width k l = ap (λ t. length (tile t)) (zero-add k) ∙ length-tile k l
+
+    pub length-file : length (fileBytes s) ≡ fileLength (tilesOf s)
+    unfolding fileBytes fileLength
+    length-file =
+        omega (
+          arith,
+          length-append (joined directory 0 (directoryBlocks (tilesOf s))) (joined tile 0 (tilesOf s)),
+          length-all,
+          length-joined tile blockSize 0 (tilesOf s) tile-width,
+        )
+
+    -- ---- block by block
+    module _ (f : List ℕ) where
+      file-directory : Holds f 0 (fileBytes s) → (p : ℕ) → p < directoryBlocks (tilesOf s) → Holds (blockAt f p) 0 (directory p)
+      unfolding fileBytes blockAt
+      file-directory h p l =
+          let g = holds-left f 0 (joined directory 0 (directoryBlocks (tilesOf s))) (joined tile 0 (tilesOf s)) h in
+          let e = holds-each f directory blockSize 0 0 (directoryBlocks (tilesOf s))
+          (λ i m. length-directory-block (s .boxes) (s .counts) (0 + i)) g p l in
+          let m = length-directory-block (s .boxes) (s .counts) p in
+          holds-part (holds-run e (ap directory (zero-add p))) blockSize (blockSize * p) 0 (omega arith) (omega arith)
+
+      file-tile : Holds f 0 (fileBytes s) → (t : ℕ) → t < tilesOf s → Holds (blockAt f (tilePosition (tilesOf s) t)) 0 (tile t)
+      unfolding fileBytes blockAt tilePosition
+      file-tile h t l =
+          let d = directoryBlocks (tilesOf s) in
+          let u : blockSize * d ≡ 0 + length (joined directory 0 d) = omega (arith, length-all) in
+          let g = holds-right f 0 (joined directory 0 d) (joined tile 0 (tilesOf s)) u h in
+          let e = holds-each f tile blockSize (blockSize * d) 0 (tilesOf s) tile-width g t l in
+          let m = length-tile t l in
+          holds-part (holds-run e (ap tile (zero-add t))) blockSize (blockSize * (d + t)) 0 (omega arith) (omega arith)
+
+      blocks-file : ((p : ℕ) → p < directoryBlocks (tilesOf s) → Holds (blockAt f p) 0 (directory p)) →
+          ((t : ℕ) → t < tilesOf s → Holds (blockAt f (tilePosition (tilesOf s) t)) 0 (tile t)) → Holds f 0 (fileBytes s)
+      unfolding fileBytes blockAt tilePosition
+      blocks-file h g =
+          let d = directoryBlocks (tilesOf s) in
+          let u : blockSize * d ≡ 0 + length (joined directory 0 d) = omega (arith, length-all) in
+          holds-append f 0 (joined directory 0 d) (joined tile 0 (tilesOf s)) u
+          (holds-joined f directory blockSize 0 0 d (λ i m. length-directory-block (s .boxes) (s .counts) (0 + i))
+          (λ p l. let m = length-directory-block (s .boxes) (s .counts) p in
+          holds-run (part-holds blockSize (blockSize * p) (h p l) (omega arith) (omega arith)) (ap directory (sym (zero-add p)))))
+          (holds-joined f tile blockSize (blockSize * d) 0 (tilesOf s) tile-width
+          (λ t l. let m = length-tile t l in
+          holds-run (part-holds blockSize (blockSize * (d + t)) (g t l) (omega arith) (omega arith))
+          (ap tile (sym (zero-add t)))))
+
+-- ---- what is written, read
+module _ (s : Supply) (g : GoodSupply s) (typed : Typed s) (f : List ℕ) (size : length f ≡ fileLength (tilesOf s))
+    (h : Holds f 0 (fileBytes s)) where
+  fits : (p : ℕ) → p < directoryBlocks (tilesOf s) + tilesOf s → length (blockAt f p) ≡ blockSize
+  unfolding fileLength
+  fits p l = blocks.length-block f p (omega (arith, size))
+
+  directory-at : (p : ℕ) → p < directoryBlocks (tilesOf s) →
+      GoodDirectoryBlock (blockAt f p) p (tilesOf s)
+      × Entries (s .boxes) (s .counts) (blockAt f p) p
+  directory-at p l =
+      directory-read (s .boxes) (s .counts) (blockAt f p) p (fits p (omega arith)) (typed .boxes) (g .most) l (g .counts)
+      (g .boxes)
+      (file-directory s (g .counts) f h p l)
+
+  entry-at : (t : ℕ) → t < tilesOf s → (boxAt f t ≡ boxOf (s .boxes) t) × (countAt f t ≡ countOf (s .counts) t)
+  unfolding boxAt countAt
+  entry-at t l =
+      let e = directory-at (t / entriesPerBlock) (entry-block (tilesOf s) t l) .1 (t % entriesPerBlock)
+      (entry-due (tilesOf s) t l) in
+      let q = tile-entry t in
+      (e .0 ∙ ap (boxOf (s .boxes)) q, e .1 ∙ ap (countOf (s .counts)) q)
+
+  tile-at : (t : ℕ) (l : t < tilesOf s) → let p = tilePosition (tilesOf s) t in
+      GoodTileBlock (blockAt f p) p (boxOf (s .boxes) t) (countOf (s .counts) t)
+      × ((slot : ℕ) → slot < countOf (s .counts) t → siteIn (blockAt f p) slot ≡ siteOf s t slot)
+  unfolding tileBytesOf tilePosition
+  tile-at t l =
+      let p = directoryBlocks (tilesOf s) + t in
+      tile-read (s .xs) (s .ys) (s .cues) (blockAt f p) p (offset (s .counts) t) (countOf (s .counts) t) (fits p (omega arith))
+      (g .counts t l)
+      (typed .xs) (typed .ys) (typed .cues) (omega (arith, blocks-few (tilesOf s), g .most)) (boxOf (s .boxes) t)
+      (λ slot k. g .inside t slot l k)
+      (file-tile s (g .counts) f h t l)
+
+  pub written-reads : Reads f s
+  unfolding siteAt
+  written-reads = record {
+    box = λ t l. entry-at t l .0;
+    count = λ t l. entry-at t l .1;
+    site = λ t slot l k. tile-at t l .1 slot k;
+  }
+
+  pub written-good : GoodFile f (tilesOf s)
+  unfolding fileLength directoryBlocks
+  written-good = record {
+    directory = record {
+      size = record {
+        least = omega (arith, size, g .least);
+        whole = omega (arith, size);
+        most = omega (arith, size, g .most);
+      };
+      tiles = record { least = g .least; most = g .most; sum = omega (arith, size) };
+      blocks = λ p l. directory-at p l .0;
+    };
+    opened = λ t l. let e = entry-at t l in rw (e .0, e .1) (tile-at t l .0);
+  }
+
+-- ---- what is read, written
+pub good-holds : (f : List ℕ) (s : Supply) → Bytes f → GoodFile f (tilesOf s) → Reads f s → Holds f 0 (fileBytes s)
+unfolding boxAt countAt siteAt tileBytesOf tilePosition
+good-holds f s byte g r =
+    blocks-file s few f
+    (λ p l. directory-held (s .boxes) (s .counts) (blockAt f p) p (size p (omega arith)) (block-bytes f p byte)
+    (g .directory .blocks p l)
+    (λ i k. let a = entry-of p i (omega (arith, due-few (tilesOf s) p)) in
+    let t = entriesPerBlock * p + i in
+    let m : t < tilesOf s = omega (arith, due-within (tilesOf s) p l) in
+    (rw (a .0, a .1) at (r .box t m), rw (a .0, a .1) at (r .count t m))))
+    (λ t l. let p = tilePosition (tilesOf s) t in
+    tile-held (s .xs) (s .ys) (s .cues) (blockAt f p) p (offset (s .counts) t) (countOf (s .counts) t) (size p (position t l))
+    (few t l)
+    (block-bytes f p byte) (rw (r .count t l) at (g .opened t l)) (λ slot k. r .site t slot l k))
+  where
+    few : (t : ℕ) → t < tilesOf s → countOf (s .counts) t ≤ maxSites
+    few t l = rw (r .count t l) at (count-small (g .directory) t l)
+
+    size : (p : ℕ) → p < directoryBlocks (tilesOf s) + tilesOf s → length (blockAt f p) ≡ blockSize
+    size p l = blocks.length-block f p (block-fits (g .directory) p l)
+
+    position : (t : ℕ) → t < tilesOf s → tilePosition (tilesOf s) t < directoryBlocks (tilesOf s) + tilesOf s
+    position t l = omega arith

@@ -1,0 +1,8 @@
+pub mod EncodeLaws
+pub mod SupplyLaws
+pub mod WriteLaws
+pub mod BlockFields
+pub mod BlockRound
+pub mod FileLaws
+pub mod SupplyOf
+pub mod Theorems

@@ -1,0 +1,228 @@
+-- The lists that a file holds: they are read from it, they are good where the file is, and no other lists are read from it.
+-- Assumes nothing.
+use Prim.Native.Nat.{ℕ, zero, suc, _+_, _*_, _-_, _/_, _%_, _<_, _≤_}
+use mathlib.Core.List.{List, [], _∷_}
+use mathlib.Core.Path.{_≡_, refl, sym, ap, _∙_}
+use native.Mathlib.Nat.{add-zero, zero-add}
+use native.Mathlib.Omega.{arith}
+use lib.Dec.{lit<}
+use lib.IntN.{ℤ, pos}
+use lib.ListN.{length, getD, take, drop}
+use lib.Seq.{take-length}
+use lib.Signed.{mag}
+use Rattle.blocks.specs.Block.{blockAt}
+use Rattle.blocks.specs.Directory.{entryOffset, entryBox, entryCount, boxAt, countAt}
+use Rattle.blocks.specs.Layout.{countOffset, entriesPerBlock}
+use Rattle.codec.specs.Number.{u32At, i32At}
+use Rattle.codec.specs.Tabulate.{tabulate, joined}
+use Rattle.geometry.specs.Box as geometry
+use Rattle.tiles.specs.Accepted.{GoodFile}
+use Rattle.tiles.specs.Tile.{siteIn, siteAt}
+use Rattle.tiles.specs.declared.tile.Site.{Site}
+use Rattle.blocks.proofs.DirectoryLaws.{box-valid, count-small}
+use Rattle.codec.proofs.Bytes.{u16-small, u32-small}
+use Rattle.codec.proofs.Joined.{length-joined, getD-joined, length-joined-next, joined-all, joined-same, joined-parts}
+use Rattle.codec.proofs.Number.{signed-small}
+use Rattle.codec.proofs.Tabulate.{length-tabulate, getD-tabulate, tabulate-same, tabulate-all, tabulate-part}
+use Rattle.writer.specs.Accepted.{GoodSupply}
+use Rattle.writer.specs.Made.{Bytes, Signed, Typed, boxNumbers, column, supplyOf}
+use Rattle.writer.specs.Supply.{Supply, tilesOf, numbersPerBox, boxOf, countOf, offset, total}
+use Rattle.writer.proofs.FileLaws.{Reads, block-bytes}
+use Rattle.writer.proofs.SupplyLaws.{offset-next, offset-within}
+
+module _ (f : List ℕ) (tiles : ℕ) where
+  counts : List ℕ
+  counts = tabulate (countAt f) 0 tiles
+
+  boxes : List ℤ
+  boxes = joined (λ t. boxNumbers (boxAt f t)) 0 tiles
+
+  tiles-own : length counts ≡ tiles
+  unfolding counts
+  tiles-own = length-tabulate (countAt f) 0 tiles
+
+  count-own : (t : ℕ) → t < tiles → countOf counts t ≡ countAt f t
+  unfolding counts
+  count-own t l = getD-tabulate (countAt f) 0 0 tiles t l ∙ ap (countAt f) (zero-add t)
+
+  -- ---- boxes
+  numbers-own : (n : ℕ) → length (joined (λ t. boxNumbers (boxAt f t)) 0 n) ≡ numbersPerBox * n
+  unfolding boxNumbers
+  numbers-own n = length-joined (λ t. boxNumbers (boxAt f t)) numbersPerBox 0 n (λ i l. refl)
+
+  number-own : (t j : ℕ) → t < tiles → j < numbersPerBox →
+      getD boxes (numbersPerBox * t + j) (pos 0) ≡ getD (boxNumbers (boxAt f t)) j (pos 0)
+  unfolding boxes boxNumbers
+  number-own t j l k =
+      ap (λ i. getD boxes (i + j) (pos 0)) (sym (numbers-own t))
+      ∙ getD-joined (λ t. boxNumbers (boxAt f t)) (pos 0) 0 tiles t j l k
+      ∙ ap (λ i. getD (boxNumbers (boxAt f i)) j (pos 0)) (zero-add t)
+
+  box-own : (t : ℕ) → t < tiles → boxOf boxes t ≡ boxAt f t
+  unfolding boxOf boxNumbers boxAt entryBox
+  box-own t l =
+      let e₀ : getD boxes (numbersPerBox * t) (pos 0) ≡ getD (boxNumbers (boxAt f t)) 0 (pos 0) =
+      ap (λ i. getD boxes i (pos 0)) (sym (add-zero (numbersPerBox * t))) ∙ number-own t 0 l (lit< tt) in
+      rw (e₀, number-own t 1 l (lit< tt), number-own t 2 l (lit< tt), number-own t 3 l (lit< tt))
+
+  -- ---- a field of all sites
+  module _ {A : Type 0} (field : Site → A) where
+    part : ℕ → List A
+    part t = tabulate (λ slot. field (siteAt f tiles t slot)) 0 (countAt f t)
+
+    column-starts : (t : ℕ) → t ≤ tiles → length (joined part 0 t) ≡ offset counts t
+    unfolding offset joined part
+    column-starts zero l = refl
+    column-starts (suc t) l =
+        let e : length (part (0 + t)) ≡ countOf counts t =
+        ap (λ i. length (part i)) (zero-add t) ∙ length-tabulate (λ slot. field (siteAt f tiles t slot)) 0 (countAt f t)
+        ∙ sym (count-own t l) in
+        length-joined-next part 0 t ∙ omega (arith, e, column-starts t (omega arith))
+
+    column-length : length (column field f tiles) ≡ total counts
+    unfolding column part
+    column-length = column-starts tiles (omega arith) ∙ ap (offset counts) (sym tiles-own)
+
+    column-at : (d : A) (t slot : ℕ) → t < tiles → slot < countAt f t →
+        getD (column field f tiles) (offset counts t + slot) d ≡ field (siteAt f tiles t slot)
+    unfolding column part
+    column-at d t slot l k =
+        let g : ℕ → A = λ slot. field (siteAt f tiles t slot) in
+        let e = zero-add t in
+        let m : slot < length (part (0 + t)) = rw (e, length-tabulate g 0 (countAt f t)) k in
+        ap (λ i. getD (joined part 0 tiles) (i + slot) d) (sym (column-starts t (omega arith)))
+        ∙ getD-joined part d 0 tiles t slot l m ∙ ap (λ i. getD (part i) slot d) e
+        ∙ getD-tabulate g d 0 (countAt f t) slot k ∙ ap g (zero-add slot)
+
+  pub reads-own : Reads f (supplyOf f tiles)
+  unfolding supplyOf counts boxes
+  reads-own = record {
+    box = λ t l. sym (box-own t (rw tiles-own at l));
+    count = λ t l. sym (count-own t (rw tiles-own at l));
+    site = λ t slot l k. let m : t < tiles = rw tiles-own at l in
+        let n : slot < countAt f t = rw (count-own t m) at k in
+        rw (
+          tiles-own,
+          column-at (λ (q : Site). q .x) (pos 0) t slot m n,
+          column-at (λ (q : Site). q .y) (pos 0) t slot m n,
+          column-at (λ (q : Site). q .cue) 0 t slot m n,
+        );
+  }
+
+  pub size-own : tilesOf (supplyOf f tiles) ≡ tiles
+  unfolding supplyOf counts
+  size-own = tiles-own
+
+  pub good-own : GoodFile f tiles → GoodSupply (supplyOf f tiles)
+  unfolding supplyOf counts boxes siteAt
+  good-own g =
+      record {
+        least = rw tiles-own (g .directory .tiles .least);
+        most = rw tiles-own (g .directory .tiles .most);
+        numbers = numbers-own tiles ∙ ap (λ k. numbersPerBox * k) (sym tiles-own);
+        boxes = λ t l. let m : t < tiles = rw tiles-own at l in rw (box-own t m) (box-valid (g .directory) t m);
+        counts = λ t l. let m : t < tiles = rw tiles-own at l in rw (count-own t m) (count-small (g .directory) t m);
+        xs = column-length (λ (q : Site). q .x);
+        ys = column-length (λ (q : Site). q .y);
+        cues = column-length (λ (q : Site). q .cue);
+        inside = λ t slot l k. let m : t < tiles = rw tiles-own at l in
+            let n : slot < countAt f t = rw (count-own t m) at k in
+            rw (
+              box-own t m,
+              column-at (λ (q : Site). q .x) (pos 0) t slot m n,
+              column-at (λ (q : Site). q .y) (pos 0) t slot m n,
+            ) (g .opened t m .inside slot n);
+      }
+
+  -- ---- of a file of bytes
+  module _ (byte : Bytes f) where
+    four-all {ℓ} : {A : Type 0} (P : A → Type ℓ) {a b c e d : A} → P a → P b → P c → P e → P d → (j : ℕ) →
+        P (getD (a ∷ b ∷ c ∷ e ∷ []) j d)
+    four-all P p q r t z zero = p
+    four-all P p q r t z (suc zero) = q
+    four-all P p q r t z (suc (suc zero)) = r
+    four-all P p q r t z (suc (suc (suc zero))) = t
+    four-all P p q r t z (suc (suc (suc (suc j)))) = z
+
+    signed-at : (p i : ℕ) → mag (i32At (blockAt f p) i) < 0x8000_0000
+    unfolding i32At
+    signed-at p i = signed-small (u32At (blockAt f p) i) (u32-small (blockAt f p) i (block-bytes f p byte))
+
+    column-signed : (field : Site → ℤ) → ((t slot : ℕ) → mag (field (siteAt f tiles t slot)) < 0x8000_0000) →
+        Signed (column field f tiles)
+    unfolding column
+    column-signed field h =
+        joined-all (λ t. tabulate (λ slot. field (siteAt f tiles t slot)) 0 (countAt f t)) (λ z. mag z < 0x8000_0000)
+        (pos 0) 0 tiles (lit< tt)
+        (λ t. tabulate-all (λ slot. field (siteAt f tiles t slot)) (λ z. mag z < 0x8000_0000) (pos 0) 0 (countAt f t) (lit< tt)
+        (h t))
+
+    pub typed-own : Typed (supplyOf f tiles)
+    unfolding supplyOf boxNumbers boxAt entryBox countAt entryCount column siteAt siteIn
+    typed-own = record {
+      boxes = joined-all (λ t. boxNumbers (boxAt f t)) (λ z. mag z < 0x8000_0000) (pos 0) 0 tiles (lit< tt)
+          (λ t. four-all (λ z. mag z < 0x8000_0000) (signed-at _ _) (signed-at _ _) (signed-at _ _) (signed-at _ _) (lit< tt));
+      counts = tabulate-all (countAt f) (λ n. n < 0x1_0000_0000) 0 0 tiles (lit< tt)
+          (λ t. let p = t / entriesPerBlock in
+          omega (arith, u16-small (blockAt f p) (entryOffset (t % entriesPerBlock) + countOffset) (block-bytes f p byte)));
+      xs = column-signed (λ (q : Site). q .x) (λ t slot. signed-at _ _);
+      ys = column-signed (λ (q : Site). q .y) (λ t slot. signed-at _ _);
+      cues = joined-all (λ t. tabulate (λ slot. siteAt f tiles t slot .cue) 0 (countAt f t)) (λ n. n < 0x1_0000_0000) 0 0 tiles
+          (lit< tt)
+          (λ t. tabulate-all (λ slot. siteAt f tiles t slot .cue) (λ n. n < 0x1_0000_0000) 0 0 (countAt f t) (lit< tt)
+          (λ slot. u32-small (blockAt f _) _ (block-bytes f _ byte)));
+    }
+
+-- ---- no other lists
+module _ (f : List ℕ) (s : Supply) (g : GoodSupply s) (r : Reads f s) where
+  -- a list that is read part by part, where part t has size t elements, from start t on
+  parts : {A : Type 0} (l : List A) (d : A) (start size : ℕ → ℕ) → start 0 ≡ 0 → ((t : ℕ) → start (t + 1) ≡ start t + size t) →
+      length l ≡ start (tilesOf s) → ((t : ℕ) → t < tilesOf s → start t + size t ≤ length l) →
+      joined (λ t. tabulate (λ i. getD l (start t + i) d) 0 (size t)) 0 (tilesOf s) ≡ l
+  parts l d start size z next n fits =
+      let e : start (0 + tilesOf s) - start 0 ≡ length l = omega (arith, ap start (zero-add (tilesOf s))) in
+      joined-same (λ t. tabulate (λ i. getD l (start t + i) d) 0 (size t)) (λ t. take (size t) (drop (start t) l)) 0 (tilesOf s)
+      (λ t k. let q = zero-add t in rw q (tabulate-part l d (start t) (size t) (fits t k)))
+      ∙ joined-parts l start size next 0 (tilesOf s)
+      ∙ ap (λ k. take k (drop (start 0) l)) e ∙ ap (λ k. take (length l) (drop k l)) z ∙ take-length l
+
+  counts-only : tabulate (countAt f) 0 (tilesOf s) ≡ s .counts
+  counts-only =
+      tabulate-same (countAt f) (λ t. getD (s .counts) (0 + t) 0) 0 (tilesOf s)
+      (λ t l. let e = zero-add t in rw (e, e) (r .count t l))
+      ∙ tabulate-part (s .counts) 0 0 (tilesOf s) (omega arith) ∙ take-length (s .counts)
+
+  boxes-only : joined (λ t. boxNumbers (boxAt f t)) 0 (tilesOf s) ≡ s .boxes
+  unfolding boxNumbers boxOf tabulate
+  boxes-only =
+      joined-same (λ t. boxNumbers (boxAt f t)) (λ t. tabulate
+      (λ i. getD (s .boxes) (numbersPerBox * t + i) (pos 0)) 0 numbersPerBox) 0 (tilesOf s)
+      (λ t l. let q = zero-add t in rw (q, add-zero) (ap boxNumbers (r .box t l)))
+      ∙ parts (s .boxes) (pos 0) (λ t. numbersPerBox * t) (λ t. numbersPerBox) refl (λ t. omega arith) (g .numbers)
+      (λ t l. omega (arith, g .numbers))
+
+  column-only : {A : Type 0} (field : Site → A) (l : List A) (d : A) → length l ≡ total (s .counts) →
+      ((t slot : ℕ) → t < tilesOf s → slot < countOf (s .counts) t → field (siteAt f (tilesOf s) t slot) ≡ getD l
+      (offset (s .counts) t + slot) d) →
+      column field f (tilesOf s) ≡ l
+  unfolding column offset
+  column-only field l d n h =
+      joined-same (λ t. tabulate (λ slot. field (siteAt f (tilesOf s) t slot)) 0 (countAt f t))
+      (λ t. tabulate (λ i. getD l (offset (s .counts) t + i) d) 0 (countOf (s .counts) t)) 0 (tilesOf s)
+      (λ t k. let q = zero-add t in
+      rw (q, r .count t k)
+      (tabulate-same (λ slot. field (siteAt f (tilesOf s) t slot)) (λ i. getD l (offset (s .counts) t + i) d) 0
+      (countOf (s .counts) t)
+      (λ slot m. let e = zero-add slot in rw e (h t slot k m))))
+      ∙ parts l d (offset (s .counts)) (countOf (s .counts)) refl (offset-next (s .counts)) n
+      (λ t k. rw n (offset-within (s .counts) t (tilesOf s) k))
+
+  pub only-own : s ≡ supplyOf f (tilesOf s)
+  unfolding supplyOf
+  only-own = rw (
+    boxes-only,
+    counts-only,
+    column-only (λ (q : Site). q .x) (s .xs) (pos 0) (g .xs) (λ t slot k m. ap (λ (q : Site). q .x) (r .site t slot k m)),
+    column-only (λ (q : Site). q .y) (s .ys) (pos 0) (g .ys) (λ t slot k m. ap (λ (q : Site). q .y) (r .site t slot k m)),
+    column-only (λ (q : Site). q .cue) (s .cues) 0 (g .cues) (λ t slot k m. ap (λ (q : Site). q .cue) (r .site t slot k m)),
+  )

@@ -1,0 +1,168 @@
+-- The theorems of this crate for the reader. Assumes nothing.
+use Prim.Native.Nat.{ℕ, _+_, _<_, _≤_}
+use mathlib.Core.List.{List, _++_}
+use mathlib.Core.Path.{_≡_, refl, sym, ap, _∙_}
+use native.Mathlib.Nat.{zero-add}
+use native.Mathlib.Omega.{arith}
+use lib.ListN.{length, take, drop}
+use lib.Seq.{take-at, drop-at}
+use Rattle.base.specs.Refusal.{accepted}
+use Rattle.blocks.specs.Directory.{boxAt, countAt}
+use Rattle.codec.specs.Tabulate.{tabulate}
+use Rattle.tiles.specs.Accepted.{GoodFile}
+use Rattle.tiles.specs.Tile.{siteAt, sitesAt}
+use Rattle.tiles.specs.Validate.{validate}
+use Rattle.base.proofs.Outcomes.{accepted-injective, andThen-accepted}
+use Rattle.codec.proofs.Holds.{Holds, holds-self, holds-all, over-all}
+use Rattle.codec.proofs.Over.{over-eq}
+use Rattle.codec.proofs.Tabulate.{tabulate-same}
+use Rattle.tiles.proofs.Theorems.{validate-exactly}
+use Rattle.writer.specs.Accepted.{GoodSupply}
+use Rattle.writer.specs.Encode.{fileBytes, fileLength}
+use Rattle.writer.specs.Made.{Bytes, Typed, Made, supplyOf}
+use Rattle.writer.specs.Supply.{Supply, tilesOf, boxOf, countOf, siteOf}
+use Rattle.writer.specs.Write.{writeTests, writeCall, writeExit}
+use Rattle.writer.proofs.FileLaws.{Reads, length-file, written-reads, written-good, good-holds}
+use Rattle.writer.proofs.SupplyOf.{reads-own, size-own, good-own, typed-own, only-own}
+use Rattle.writer.proofs.WriteLaws.{tests-good, tests-enough, call-accepted, exit-accepted}
+
+-- ---- the call
+-- the writer accepts exactly good lists, where the file fits the output slice, and gives the file's length
+pub write-exactly : (s : Supply) (room n : ℕ) →
+    (writeCall s room ≡ accepted n → GoodSupply s × (fileLength (tilesOf s) ≤ room) × (n ≡ fileLength (tilesOf s)))
+    × (GoodSupply s × (fileLength (tilesOf s) ≤ room) × (n ≡ fileLength (tilesOf s)) → writeCall s room ≡ accepted n)
+unfolding writeCall
+write-exactly s room n = (
+  λ e. let h = andThen-accepted (writeTests s room) (λ _. accepted (fileLength (tilesOf s))) e in
+      let g = tests-good s room (h .1) in
+      (g .0, g .1, sym (accepted-injective (h .2))),
+  λ h. call-accepted s room (tests-enough s room (h .0) (h .1)) ∙ ap accepted (sym (h .2)),
+)
+
+-- accepted, the output slice starts with the file, and "later bytes stay"
+module _ (s : Supply) (out : List ℕ) (n : ℕ) (e : writeCall s (length out) ≡ accepted n) where
+  good : GoodSupply s × (fileLength (tilesOf s) ≤ length out) × (n ≡ fileLength (tilesOf s))
+  good = write-exactly s (length out) n .0 e
+
+  size : length (fileBytes s) ≡ n
+  size = length-file s (good .0 .counts) ∙ sym (good .2)
+
+  laid : writeExit s out ≡ fileBytes s ++ drop n out
+  laid =
+      exit-accepted s out e ∙ over-eq out 0 (fileBytes s) (omega (arith, good .1, good .2, size))
+      ∙ ap (λ k. fileBytes s ++ drop k out) (zero-add (length (fileBytes s)) ∙ size)
+
+  pub written-file : (take n (writeExit s out) ≡ fileBytes s) × (drop n (writeExit s out) ≡ drop n out)
+  written-file = (
+    ap (take n) laid ∙ take-at (fileBytes s) (drop n out) n size,
+    ap (drop n) laid ∙ drop-at (fileBytes s) (drop n out) n size,
+  )
+
+-- ---- "A file passes the full check exactly when our writer makes it from some town" (demand 2): with T = tiles, and into an
+-- output slice of the file's length
+module _ (f : List ℕ) (tiles : ℕ) where
+  -- what was made: lists that pass the writer's tests, whose bytes are the file
+  module _ (s : Supply) (m : Made f tiles s) where
+    made-good : GoodSupply s
+    made-good = write-exactly s (length f) (length f) .0 (m .answer) .0
+
+    made-bytes : f ≡ fileBytes s
+    made-bytes =
+        let n = length-file s (made-good .counts) in
+        let k = write-exactly s (length f) (length f) .0 (m .answer) .2 in
+        sym (m .bytes f refl) ∙ exit-accepted s f (m .answer) ∙ over-all f (fileBytes s) (k ∙ sym n)
+
+    made-length : length f ≡ fileLength (tilesOf s)
+    made-length = write-exactly s (length f) (length f) .0 (m .answer) .2
+
+    made-holds : Holds f 0 (fileBytes s)
+    made-holds = rw made-bytes (holds-self (fileBytes s))
+
+  good-length : GoodFile f tiles → length f ≡ fileLength tiles
+  unfolding fileLength
+  good-length g = omega (arith, g .directory .size .whole, g .directory .tiles .sum)
+
+  -- the lists that are read from a file of bytes that passes
+  makes : Bytes f → GoodFile f tiles → Made f tiles (supplyOf f tiles)
+  makes byte g =
+      let s = supplyOf f tiles in
+      let k : tilesOf s ≡ tiles = size-own f tiles in
+      let good = good-own f tiles g in
+      let n : length f ≡ fileLength (tilesOf s) = good-length g ∙ ap fileLength (sym k) in
+      let h = good-holds f s byte (rw k g) (reads-own f tiles) in
+      let l : length (fileBytes s) ≡ length f = length-file s (good .counts) ∙ sym n in
+      let e : writeCall s (length f) ≡ accepted (length f) = write-exactly s (length f) (length f) .1
+      (good, omega (arith, n), n) in
+      record {
+        typed = typed-own f tiles byte;
+        size = k;
+        answer = e;
+        bytes = λ out q. exit-accepted s out (ap (writeCall s) q ∙ e) ∙ over-all out (fileBytes s) (q ∙ sym l)
+            ∙ sym (holds-all h (sym l));
+      }
+
+  passes : (s : Supply) → Made f tiles s → validate f ≡ accepted tiles
+  passes s m =
+      let g = written-good s (made-good s m) (m .typed) f (made-length s m) (made-holds s m) in
+      validate-exactly f tiles .1 (rw (m .size) at g)
+
+  pub passes-exactly : Bytes f →
+      (validate f ≡ accepted tiles → (s : Supply) × Made f tiles s)
+      × ((s : Supply) × Made f tiles s → validate f ≡ accepted tiles)
+  passes-exactly byte = (λ e. (supplyOf f tiles, makes byte (validate-exactly f tiles .0 e)), λ h. passes (h .0) (h .1))
+
+  -- reading back what was written gives the same boxes, counts and sites
+  module _ (s : Supply) (m : Made f tiles s) where
+    made-reads : Reads f s
+    made-reads = written-reads s (made-good s m) (m .typed) f (made-length s m) (made-holds s m)
+
+    pub read-back : (t : ℕ) → t < tiles →
+        (boxAt f t ≡ boxOf (s .boxes) t)
+        × (countAt f t ≡ countOf (s .counts) t)
+        × (sitesAt f tiles t ≡ tabulate (siteOf s t) 0 (countOf (s .counts) t))
+    unfolding sitesAt
+    read-back t l =
+        let r = made-reads in
+        let k = m .size in
+        let h : t < tilesOf s = rw k l in (
+          r .box t h,
+          r .count t h,
+          rw (r .count t h) (tabulate-same (siteAt f tiles t) (siteOf s t) 0 (countOf (s .counts) t)
+              (λ slot n. let z = zero-add slot in rw z (rw k at (r .site t slot h n)))),
+        )
+
+    -- and no lists but these make the file
+    pub only-town : s ≡ supplyOf f tiles
+    only-town = only-own f s (made-good s m) made-reads ∙ ap (supplyOf f) (m .size)
+
+-- ---- the same about what the call leaves in an output slice
+module _ (s : Supply) (typed : Typed s) (out : List ℕ) (n : ℕ) (e : writeCall s (length out) ≡ accepted n) where
+  made-from : Made (take n (writeExit s out)) (tilesOf s) s
+  made-from =
+      let f = take n (writeExit s out) in
+      let q : f ≡ fileBytes s = written-file s out n e .0 in
+      let g = good s out n e in
+      let k : length f ≡ n = ap length q ∙ size s out n e in
+      let answer : writeCall s (length f) ≡ accepted (length f) =
+      write-exactly s (length f) (length f) .1 (g .0, omega (arith, k, g .2), k ∙ g .2) in
+      record {
+        typed = typed;
+        size = refl;
+        answer = answer;
+        bytes = λ o l. exit-accepted s o (ap (writeCall s) l ∙ answer) ∙ over-all o (fileBytes s) (l ∙ ap length q) ∙ sym q;
+      }
+
+  -- what the writer leaves passes the full check, with T
+  pub written-passes : validate (take n (writeExit s out)) ≡ accepted (tilesOf s)
+  written-passes = passes (take n (writeExit s out)) (tilesOf s) s made-from
+
+-- two towns that differ give different files
+pub different-towns : (s r : Supply) → Typed s → Typed r → (out other : List ℕ) (n k : ℕ) →
+    writeCall s (length out) ≡ accepted n →
+    writeCall r (length other) ≡ accepted k → take n (writeExit s out) ≡ take k (writeExit r other) → s ≡ r
+different-towns s r ts tr out other n k e h q =
+    let f = take n (writeExit s out) in
+    let m : Made f (tilesOf s) s = made-from s ts out n e in
+    let w : Made f (tilesOf r) r = rw q (made-from r tr other k h) in
+    let t : tilesOf s ≡ tilesOf r = accepted-injective (sym (passes f (tilesOf s) s m) ∙ passes f (tilesOf r) r w) in
+    only-town f (tilesOf s) s m ∙ ap (supplyOf f) t ∙ sym (only-town f (tilesOf r) r w)

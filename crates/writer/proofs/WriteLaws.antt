@@ -1,0 +1,131 @@
+-- What the writer's tests show, that this is enough, and what the call comes to. Assumes nothing.
+use Prim.Native.Nat.{ℕ, _+_, _*_, _<_, _≤_}
+use mathlib.Core.Bool.{true}
+use mathlib.Core.List.{List}
+use mathlib.Core.Path.{_≡_}
+use native.Mathlib.Omega.{arith}
+use lib.IntN.{ℤ}
+use lib.ListN.{length}
+use borrow.Author.Tests.{leb-true, le-leb, eqb-true, eq-eqb}
+use Rattle.base.specs.Refusal.{accepted, refused}
+use Rattle.blocks.specs.Directory.{directoryBlocks}
+use Rattle.blocks.specs.Layout.{blockSize, maxSites, maxTiles}
+use Rattle.codec.specs.Over.{over}
+use Rattle.codec.specs.Tabulate.{joined}
+use Rattle.geometry.specs.Box.{validBox, inside}
+use Rattle.base.proofs.Outcomes.{require-accepted}
+use Rattle.base.proofs.Tests.{and-both, both-and}
+use Rattle.codec.proofs.Every.{every-at, every-holds}
+use Rattle.codec.proofs.Joined.{length-joined}
+use Rattle.codec.proofs.Over.{also}
+use Rattle.writer.specs.Accepted.{GoodSupply}
+use Rattle.writer.specs.Encode.{directoryBytes, tileBytesOf, fileBytes, fileLength}
+use Rattle.writer.specs.Supply.{Supply, tilesOf, numbersPerBox, boxOf, countOf, offset, total, pointOf}
+use Rattle.writer.specs.Write.{tilesFit, entryFits, listsFit, sitesFit, tileFits, writeTests, writeCall, writeExit}
+use Rattle.writer.proofs.EncodeLaws.{length-directory-block}
+
+-- ---- test by test
+pub tiles-good : (t : ℕ) → tilesFit t ≡ true → (1 ≤ t) × (t ≤ maxTiles)
+unfolding tilesFit
+tiles-good t e = let h = and-both _ _ e in (leb-true 1 t (h .0), leb-true t maxTiles (h .1))
+
+pub entry-good : (boxes : List ℤ) (counts : List ℕ) (t : ℕ) → entryFits boxes counts t ≡ true →
+    (validBox (boxOf boxes t) ≡ true)
+    × (countOf counts t ≤ maxSites)
+unfolding entryFits
+entry-good boxes counts t e = let h = and-both _ _ e in (h .0, leb-true (countOf counts t) maxSites (h .1))
+
+pub lists-good : (sum x y cue : ℕ) → listsFit sum x y cue ≡ true → (x ≡ sum) × (y ≡ sum) × (cue ≡ sum)
+unfolding listsFit
+lists-good sum x y cue e =
+    let h = and-both _ _ e in
+    let g = and-both _ _ (h .0) in
+    (eqb-true x sum (g .0), eqb-true y sum (g .1), eqb-true cue sum (h .1))
+
+tile-good : (boxes : List ℤ) (counts : List ℕ) (xs ys : List ℤ) (t : ℕ) → tileFits boxes counts xs ys t ≡ true → (slot : ℕ) →
+    slot < countOf counts t → inside (boxOf boxes t) (pointOf xs ys (offset counts t + slot)) ≡ true
+unfolding tileFits sitesFit
+tile-good boxes counts xs ys t e slot l =
+    every-at (λ i. inside (boxOf boxes t) (pointOf xs ys (offset counts t + i))) (countOf counts t) slot e l
+
+-- ---- all tests
+module _ (s : Supply) (room : ℕ) where
+  pub tests-good : {u : Unit} → writeTests s room ≡ accepted u → GoodSupply s × (fileLength (tilesOf s) ≤ room)
+  unfolding writeTests
+  tests-good e =
+      let a = require-accepted _ _ _ _ e in
+      let b = require-accepted _ _ _ _ (a .1) in
+      let c = require-accepted _ _ _ _ (b .1) in
+      let d = require-accepted _ _ _ _ (c .1) in
+      let g = require-accepted _ _ _ _ (d .1) in
+      let h = require-accepted _ _ _ _ (g .1) in
+      let t = tiles-good (tilesOf s) (a .0) in
+      let l = lists-good (total (s .counts)) (length (s .xs)) (length (s .ys)) (length (s .cues)) (d .0) in
+      let v : (t : ℕ) → t < tilesOf s → (validBox (boxOf (s .boxes) t) ≡ true) × (countOf (s .counts) t ≤ maxSites) =
+      λ t k. entry-good (s .boxes) (s .counts) t (every-at (entryFits (s .boxes) (s .counts)) (tilesOf s) t (c .0) k) in (
+        record {
+          least = t .0;
+          most = t .1;
+          numbers = eqb-true (length (s .boxes)) (numbersPerBox * tilesOf s) (b .0);
+          boxes = λ t k. v t k .0;
+          counts = λ t k. v t k .1;
+          xs = l .0;
+          ys = l .1;
+          cues = l .2;
+          inside = λ t slot k m. tile-good (s .boxes) (s .counts) (s .xs) (s .ys) t
+              (every-at (tileFits (s .boxes) (s .counts) (s .xs) (s .ys)) (tilesOf s) t (g .0) k) slot m;
+        },
+        leb-true (fileLength (tilesOf s)) room (h .0),
+      )
+
+  pub tests-enough : GoodSupply s → fileLength (tilesOf s) ≤ room → writeTests s room ≡ accepted tt
+  unfolding writeTests tilesFit entryFits listsFit tileFits sitesFit
+  tests-enough g h =
+      let v = every-holds (entryFits (s .boxes) (s .counts)) (tilesOf s)
+      (λ t k. both-and (g .boxes t k) (le-leb (countOf (s .counts) t) maxSites (g .counts t k))) in
+      let w = every-holds (tileFits (s .boxes) (s .counts) (s .xs) (s .ys)) (tilesOf s)
+      (λ t k. every-holds (λ i. inside (boxOf (s .boxes) t) (pointOf (s .xs) (s .ys) (offset (s .counts) t + i)))
+      (countOf (s .counts) t)
+      (λ slot m. g .inside t slot k m)) in
+      rw (
+        le-leb 1 (tilesOf s) (g .least),
+        le-leb (tilesOf s) maxTiles (g .most),
+        eq-eqb (length (s .boxes)) (numbersPerBox * tilesOf s) (g .numbers),
+        v,
+        eq-eqb (length (s .xs)) (total (s .counts)) (g .xs),
+        eq-eqb (length (s .ys)) (total (s .counts)) (g .ys),
+        eq-eqb (length (s .cues)) (total (s .counts)) (g .cues),
+        w,
+        le-leb (fileLength (tilesOf s)) room h,
+      )
+
+  -- ---- the call
+  pub call-refused : {n b : ℕ} → writeTests s room ≡ refused n b → writeCall s room ≡ refused n b
+  unfolding writeCall
+  call-refused e = rw e
+
+  pub call-accepted : writeTests s room ≡ accepted tt → writeCall s room ≡ accepted (fileLength (tilesOf s))
+  unfolding writeCall
+  call-accepted e = rw e
+
+module _ (s : Supply) (out : List ℕ) where
+  pub exit-refused : {n b : ℕ} → writeCall s (length out) ≡ refused n b → writeExit s out ≡ out
+  unfolding writeExit
+  exit-refused e = rw e
+
+  pub exit-accepted : {n : ℕ} → writeCall s (length out) ≡ accepted n → writeExit s out ≡ over out 0 (fileBytes s)
+  unfolding writeExit
+  exit-accepted e = rw e
+
+  pub file-row : {d₁ d₂ : List ℕ} →
+      d₁ ≡ over out 0 (joined (directoryBytes (s .boxes) (s .counts)) 0 (directoryBlocks (tilesOf s))) →
+      d₂ ≡ over d₁ (blockSize * directoryBlocks (tilesOf s))
+      (joined (tileBytesOf (s .counts) (s .xs) (s .ys) (s .cues)) 0 (tilesOf s)) →
+      d₂ ≡ over out 0 (fileBytes s)
+  unfolding fileBytes
+  file-row e₁ e₂ =
+      let g = directoryBytes (s .boxes) (s .counts) in
+      let n = length-joined g blockSize 0 (directoryBlocks (tilesOf s))
+      (λ i l. length-directory-block (s .boxes) (s .counts) (0 + i)) in
+      also out 0 (blockSize * directoryBlocks (tilesOf s)) (joined g 0 (directoryBlocks (tilesOf s)))
+      (joined (tileBytesOf (s .counts) (s .xs) (s .ys) (s .cues)) 0 (tilesOf s)) e₁ e₂ (omega (arith, n))

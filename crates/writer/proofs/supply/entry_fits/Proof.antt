@@ -1,0 +1,44 @@
+use Prim.Native.Nat.{_-_}
+use borrow.Author.Needs.{needs}
+use Rattle.writer.specs.Write.{entryFits}
+use Rattle.writer.proofs.supply.entry_fits.Statement.{statement}
+use Rattle.writer.proofs.supply.entry_fits.Tie as tie
+
+box-of-requires : tie.Need-box-of-requires
+box-of-requires c κs = search needs
+
+valid-box-requires : tie.Need-valid-box-requires
+valid-box-requires c κs = search needs
+
+mul-wide : tie.Need-mul-wide
+mul-wide c = search needs
+
+shared-slice-read-wide : tie.Need-shared-slice-read-wide
+shared-slice-read-wide c = search needs
+
+wide-requires : tie.Need-wide-requires
+wide-requires c κs = search needs
+
+both-requires : tie.Need-both-requires
+both-requires c κs = search needs
+
+returns : tie.Need-returns
+unfolding entryFits
+returns c = simp (
+  c .both .ensures,
+  c .before .wide .ensures .0,
+  c .before .before .before .valid-box .ensures,
+  c .before .before .before .before .box-of .ensures,
+)
+
+pub entry-fits-spec : {M : Type 1} → statement M
+entry-fits-spec =
+    tie.close
+    (tie.spec
+    box-of-requires
+    valid-box-requires
+    mul-wide
+    shared-slice-read-wide
+    wide-requires
+    both-requires
+    returns)

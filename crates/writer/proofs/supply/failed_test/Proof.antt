@@ -1,0 +1,146 @@
+use Prim.Native.Nat.{_-_, _*_}
+use mathlib.Core.Bool.{true}
+use mathlib.Core.Path.{_≡_, ap, _∙_}
+use native.Mathlib.Omega.{arith}
+use lib.Dec.{eqb, leb}
+use lib.ListN.{length}
+use borrow.Author.Needs.{needs}
+use borrow.Author.Tests.{eq-eqb, ne-eqb}
+use Rattle.base.specs.Refusal.{accepted, require, #stray, #short}
+use Rattle.codec.specs.Every.{every}
+use Rattle.blocks.proofs.TestLaws.{passed, failed}
+use Rattle.codec.proofs.Every.{every-at}
+use Rattle.writer.specs.Encode.{fileLength}
+use Rattle.writer.specs.Supply.{supply, numbersPerBox, total}
+use Rattle.writer.specs.Write.{tilesFit, entryFits, listsFit, tileFits, writeTests}
+use Rattle.writer.proofs.WriteLaws.{tiles-good, entry-good, lists-good}
+use Rattle.writer.proofs.supply.failed_test.Statement.{statement}
+use Rattle.writer.proofs.supply.failed_test.Tie as tie
+
+-- what each test that was passed shows
+pass-1 : (c : tie.Else1) → tilesFit (length (c .before .before .before .before .args .counts .now)) ≡ true
+pass-1 c = passed (c .before .tiles-fit .ensures) (c .if1 .left)
+
+pass-2 : (c : tie.Else2) → let a = c .before .before .before .before .before .args in
+    eqb (length (a .boxes .now)) (numbersPerBox * length (a .counts .now)) ≡ true
+pass-2 c = eq-eqb _ _ (c .if2 .left)
+
+pass-3 : (c : tie.Else3) → let a = c .before .before .before .before .before .before .before .args in
+    every (entryFits (a .boxes .now) (a .counts .now)) (length (a .counts .now)) ≡ true
+pass-3 c = passed (c .before .entries-fit .ensures) (c .if3 .left)
+
+-- test 15 of the site lists, against the sum as the definition has it
+lists : (c : tie.After-lists-fit) → let a = c .before .before .before .before .before .before .before .before .before .args in
+    c .lists-fit .result ≡ listsFit (total (a .counts .now)) (length (a .xs .now)) (length (a .ys .now)) (length (a .cues .now))
+lists c =
+    let a = c .before .before .before .before .before .before .before .before .before .args in
+    c .lists-fit .ensures ∙ ap (λ n. listsFit n (length (a .xs .now)) (length (a .ys .now)) (length (a .cues .now)))
+    (c .before .sum-of .ensures)
+
+pass-4 : (c : tie.Else4) → let a = c .before .before .before .before .before .before .before .before .before .before .args in
+    listsFit (total (a .counts .now)) (length (a .xs .now)) (length (a .ys .now)) (length (a .cues .now)) ≡ true
+pass-4 c = passed (lists (c .before)) (c .if4 .left)
+
+-- what is left of the tests
+after-4 : (c : tie.Else4) → let a = c .before .before .before .before .before .before .before .before .before .before .args in
+    let s = supply (a .boxes .now) (a .counts .now) (a .xs .now) (a .ys .now) (a .cues .now) in
+    writeTests s (a .room)
+    ≡ require (every (tileFits (s .boxes) (s .counts) (s .xs) (s .ys)) (length (s .counts))) #stray 0
+    (require (leb (fileLength (length (s .counts))) (a .room)) #short 0 (accepted tt))
+unfolding writeTests
+after-4 c =
+    let c₁ = c .before .before .before .before .before in
+    rw (pass-1 (c₁ .before), pass-2 c₁, pass-3 (c .before .before .before), pass-4 c)
+
+pass-5 : (c : tie.Else5) →
+    let a = c .before .before .before .before .before .before .before .before .before .before .before .before .before .args in
+    every (tileFits (a .boxes .now) (a .counts .now) (a .xs .now) (a .ys .now)) (length (a .counts .now)) ≡ true
+pass-5 c = passed (c .before .before .tiles-inside .ensures) (c .if5 .left)
+
+fits : (c : tie.Else5) →
+    let a = c .before .before .before .before .before .before .before .before .before .before .before .before .before .args in
+    leb (c .before .file-length .result) (a .room) ≡ leb (fileLength (length (a .counts .now))) (a .room)
+fits c =
+    let c₁ = c .before .before .before .before .before .before .before .before .before .before .before .before .before in
+    ap (λ n. leb n (c₁ .args .room)) (c .before .file-length .ensures)
+
+tiles-fit-requires : tie.Need-tiles-fit-requires
+tiles-fit-requires c κs = search needs
+
+returns : tie.Need-returns
+unfolding writeTests
+returns c = rw (failed (c .before .tiles-fit .ensures) (c .if1 .taken))
+
+mul-if2 : tie.Need-mul-if2
+mul-if2 c = omega (arith, tiles-good _ (pass-1 c))
+
+returns-2 : tie.Need-returns-2
+unfolding writeTests
+returns-2 c = rw (pass-1 (c .before), ne-eqb _ _ (c .if2 .taken))
+
+entries-fit-requires : tie.Need-entries-fit-requires
+entries-fit-requires c κs = search needs
+
+returns-3 : tie.Need-returns-3
+unfolding writeTests
+returns-3 c = rw (
+  pass-1 (c .before .before .before),
+  pass-2 (c .before .before),
+  failed (c .before .entries-fit .ensures)
+      (c .if3 .taken),
+)
+
+sum-of-requires : tie.Need-sum-of-requires
+sum-of-requires c κs =
+    let a = c .before .before .before .before .before .before .before .args in (
+      tiles-good _ (pass-1 (c .before .before .before)) .1,
+      λ t h. entry-good (a .boxes .now) (a .counts .now) t
+          (every-at (entryFits (a .boxes .now) (a .counts .now)) (length (a .counts .now)) t (pass-3 c) h) .1,
+    )
+
+lists-fit-requires : tie.Need-lists-fit-requires
+lists-fit-requires c κs = search needs
+
+returns-4 : tie.Need-returns-4
+unfolding writeTests
+returns-4 c =
+    let c₁ = c .before .before .before .before .before in
+    rw (pass-1 (c₁ .before), pass-2 c₁, pass-3 (c .before .before .before), failed (lists (c .before)) (c .if4 .taken))
+
+tiles-inside-requires : tie.Need-tiles-inside-requires
+tiles-inside-requires c κs =
+    let c₁ = c .before .before .before .before .before in
+    let a = c₁ .before .before .before .before .before .args in
+    let l = lists-good (total (a .counts .now)) (length (a .xs .now)) (length (a .ys .now)) (length (a .cues .now)) (pass-4 c) in
+    (c₁ .if2 .left, l .0, l .1)
+
+file-length-requires : tie.Need-file-length-requires
+file-length-requires c κs = tiles-good _ (pass-1 (c .before .before .before .before .before .before .before)) .1
+
+returns-5 : tie.Need-returns-5
+returns-5 c = rw (after-4 (c .before .before .before), failed (c .before .before .tiles-inside .ensures) (c .if5 .taken))
+
+returns-6 : tie.Need-returns-6
+returns-6 c = rw (after-4 (c .before .before .before .before), pass-5 (c .before), failed (fits (c .before)) (c .if6 .taken))
+
+returns-7 : tie.Need-returns-7
+returns-7 c = rw (after-4 (c .before .before .before .before), pass-5 (c .before), passed (fits (c .before)) (c .if6 .left))
+
+pub failed-test-spec : {M : Type 1} → statement M
+failed-test-spec =
+    tie.close
+    (tie.spec
+    tiles-fit-requires
+    returns
+    mul-if2
+    returns-2
+    entries-fit-requires
+    returns-3
+    sum-of-requires
+    lists-fit-requires
+    returns-4
+    tiles-inside-requires
+    file-length-requires
+    returns-5
+    returns-6
+    returns-7)

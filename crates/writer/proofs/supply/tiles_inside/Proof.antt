@@ -1,0 +1,116 @@
+use Prim.Native.Nat.{ℕ, _-_, _<_, _≤_}
+use mathlib.Core.Bool.{true}
+use mathlib.Core.Path.{_≡_, refl, sym, _∙_}
+use native.Mathlib.Omega.{arith}
+use lib.ListN.{length}
+use borrow.Author.Count.{below-more}
+use borrow.Author.Needs.{needs}
+use Rattle.blocks.proofs.TestLaws.{passed, failed}
+use Rattle.codec.proofs.Every.{every-fails, every-holds}
+use Rattle.writer.specs.Supply.{offset}
+use Rattle.writer.specs.Write.{tileFits}
+use Rattle.writer.proofs.SupplyLaws.{tile-test, offset-next, offset-within}
+use Rattle.writer.proofs.supply.tiles_inside.Statement.{statement}
+use Rattle.writer.proofs.supply.tiles_inside.Tie as tie
+
+abbrev Inv-loop : tie.InvT-loop
+Inv-loop boxes counts xs ys t₀ first₀ t first = (first ≡ offset counts t) × (t ≤ length counts) ×
+    ((i : ℕ) → i < t → tileFits boxes counts xs ys i ≡ true)
+
+abbrev μ-loop : tie.MeasureT-loop
+μ-loop boxes counts xs ys t₀ first₀ t first = length counts - t
+
+loop-holds : tie.Need-loop-holds Inv-loop μ-loop
+unfolding offset
+loop-holds c = (refl, search needs, λ i l. absurd (omega arith))
+
+mul-wide : tie.Need-mul-wide Inv-loop μ-loop
+mul-wide c = search needs
+
+shared-slice-read-wide : tie.Need-shared-slice-read-wide Inv-loop μ-loop
+shared-slice-read-wide c = search needs
+
+wide-requires : tie.Need-wide-requires Inv-loop μ-loop
+wide-requires c κs = search needs
+
+box-of-requires : tie.Need-box-of-requires Inv-loop μ-loop
+box-of-requires c κs = search needs
+
+sites-fit-requires : tie.Need-sites-fit-requires Inv-loop μ-loop
+sites-fit-requires c κs =
+    let l = c .before .before .before .before in
+    let a = l .before .before .args in
+    omega (
+      arith,
+      l .loop .inv .0,
+      l .before .before .pre,
+      c .before .wide .ensures,
+      offset-within (a .counts .now) (l .loop .t)
+          (length (a .counts .now)) (search needs),
+    )
+
+returns : tie.Need-returns Inv-loop μ-loop
+returns c =
+    let l = c .before .before .before .before .before .before in
+    let a = l .before .before .args in
+    sym (every-fails (tileFits (a .boxes .now) (a .counts .now) (a .xs .now) (a .ys .now)) (length (a .counts .now))
+    (l .loop .t) (search needs)
+    (failed (c .before .sites-fit .ensures ∙ tile-test (a .boxes .now) (a .counts .now) (a .xs .now) (a .ys .now) (l .loop .t)
+    (c .before .before .box-of .ensures) (l .loop .inv .0) (c .before .before .before .wide .ensures .0)) (c .if1 .taken)))
+
+add-first : tie.Need-add-first Inv-loop μ-loop
+add-first c =
+    let l = c .before .before .before .before .before .before in
+    let a = l .before .before .args in
+    omega (
+      arith,
+      l .loop .inv .0,
+      l .before .before .pre,
+      c .before .before .before .wide .ensures,
+      offset-within
+          (a .counts .now) (l .loop .t) (length (a .counts .now)) (search needs),
+    )
+
+add-t : tie.Need-add-t Inv-loop μ-loop
+add-t c = search needs
+
+loop-less : tie.Need-loop-less Inv-loop μ-loop
+loop-less c = search needs
+
+loop-again : tie.Need-loop-again Inv-loop μ-loop
+loop-again c =
+    let l = c .before .before .before .before .before .before in
+    let a = l .before .before .args in (
+      omega (arith, offset-next (a .counts .now) (l .loop .t), l .loop .inv .0, c .before .before .before .wide .ensures),
+      search needs,
+      below-more _ _ (l .loop .inv .2)
+          (passed (c .before .sites-fit .ensures ∙ tile-test (a .boxes .now) (a .counts .now) (a .xs .now) (a .ys .now)
+          (l .loop .t) (c .before .before .box-of .ensures) (l .loop .inv .0) (c .before .before .before .wide .ensures .0))
+          (c .if1 .left)),
+    )
+
+returns-2 : tie.Need-returns-2 Inv-loop μ-loop
+returns-2 c =
+    let l = c .before in
+    let a = l .before .before .args in
+    sym (every-holds (tileFits (a .boxes .now) (a .counts .now) (a .xs .now) (a .ys .now)) (length (a .counts .now))
+    (λ i h. l .loop .inv .2 i (omega arith)))
+
+pub tiles-inside-spec : {M : Type 1} → statement M
+tiles-inside-spec =
+    tie.close
+    (tie.spec
+    Inv-loop
+    μ-loop
+    loop-holds
+    mul-wide
+    shared-slice-read-wide
+    wide-requires
+    box-of-requires
+    sites-fit-requires
+    returns
+    add-first
+    add-t
+    loop-less
+    loop-again
+    returns-2)

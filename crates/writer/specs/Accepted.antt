@@ -1,0 +1,20 @@
+-- What the writer's tests show of its lists. The theorems say that they show exactly this.
+use Prim.Native.Nat.{ℕ, _+_, _*_, _<_, _≤_}
+use mathlib.Core.Bool.{true}
+use mathlib.Core.Path.{_≡_}
+use lib.ListN.{length}
+use Rattle.blocks.specs.Layout.{maxSites, maxTiles}
+use Rattle.geometry.specs.Box as geometry
+use Rattle.writer.specs.Supply.{Supply, tilesOf, numbersPerBox, boxOf, countOf, offset, total, pointOf}
+
+pub record GoodSupply (s : Supply) : Type 0 where
+  pub least : 1 ≤ tilesOf s
+  pub most : tilesOf s ≤ maxTiles
+  pub numbers : length (s .boxes) ≡ numbersPerBox * tilesOf s
+  pub boxes : (t : ℕ) → t < tilesOf s → geometry.validBox (boxOf (s .boxes) t) ≡ true
+  pub counts : (t : ℕ) → t < tilesOf s → countOf (s .counts) t ≤ maxSites
+  pub xs : length (s .xs) ≡ total (s .counts)
+  pub ys : length (s .ys) ≡ total (s .counts)
+  pub cues : length (s .cues) ≡ total (s .counts)
+  pub inside : (t slot : ℕ) → t < tilesOf s → slot < countOf (s .counts) t →
+      geometry.inside (boxOf (s .boxes) t) (pointOf (s .xs) (s .ys) (offset (s .counts) t + slot)) ≡ true

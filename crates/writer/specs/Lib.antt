@@ -1,0 +1,5 @@
+pub mod Supply
+pub mod Encode
+pub mod Write
+pub mod Accepted
+pub mod Made

@@ -1,0 +1,59 @@
+-- A file and the lists from which the writer makes it (demand 2: "A file passes the full check exactly when our writer makes
+-- it from some town").
+use Prim.Native.Nat.{ℕ, _<_}
+use mathlib.Core.List.{List, [], _∷_}
+use mathlib.Core.Path.{_≡_}
+use lib.IntN.{ℤ, pos}
+use lib.ListN.{getD, length}
+use lib.Signed.{mag}
+use Rattle.base.specs.Refusal.{accepted}
+use Rattle.blocks.specs.Directory.{boxAt, countAt}
+use Rattle.codec.specs.Tabulate.{tabulate, joined}
+use Rattle.geometry.specs.Box.{lo, hi}
+use Rattle.tiles.specs.Tile.{siteAt}
+use Rattle.tiles.specs.declared.tile.Site.{Site}
+use Rattle.writer.specs.Supply.{Supply, tilesOf}
+use Rattle.writer.specs.Write.{writeCall, writeExit}
+
+-- lists of bytes, of unsigned and of signed 32-bit numbers, as slices hold them
+abbrev pub Bytes : List ℕ → Type 0
+Bytes l = (i : ℕ) → getD l i 0 < 256
+
+abbrev pub Unsigned : List ℕ → Type 0
+Unsigned l = (i : ℕ) → getD l i 0 < 0x1_0000_0000
+
+abbrev pub Signed : List ℤ → Type 0
+Signed l = (i : ℕ) → mag (getD l i (pos 0)) < 0x8000_0000
+
+pub record Typed (s : Supply) : Type 0 where
+  pub boxes : Signed (s .boxes)
+  pub counts : Unsigned (s .counts)
+  pub xs : Signed (s .xs)
+  pub ys : Signed (s .ys)
+  pub cues : Unsigned (s .cues)
+
+-- the writer makes exactly this file from these lists, with T = tiles: into an output slice of the file's length, whatever it
+-- held before
+pub record Made (f : List ℕ) (tiles : ℕ) (s : Supply) : Type 0 where
+  pub typed : Typed s
+  pub size : tilesOf s ≡ tiles
+  pub answer : writeCall s (length f) ≡ accepted (length f)
+  pub bytes : (out : List ℕ) → length out ≡ length f → writeExit s out ≡ f
+
+-- the four numbers of a box, in the directory's order
+unfoldable pub boxNumbers : List (List ℤ) → List ℤ
+boxNumbers b = lo (getD b 0 []) ∷ lo (getD b 1 []) ∷ hi (getD b 0 []) ∷ hi (getD b 1 []) ∷ []
+
+-- a field of all sites, in tile order
+unfoldable pub column : {A : Type 0} → (Site → A) → List ℕ → ℕ → List A
+column field f tiles = joined (λ t. tabulate (λ slot. field (siteAt f tiles t slot)) 0 (countAt f t)) 0 tiles
+
+-- the lists that a file with T = tiles holds
+unfoldable pub supplyOf : List ℕ → ℕ → Supply
+supplyOf f tiles = record {
+  boxes = joined (λ t. boxNumbers (boxAt f t)) 0 tiles;
+  counts = tabulate (countAt f) 0 tiles;
+  xs = column (λ site. site .x) f tiles;
+  ys = column (λ site. site .y) f tiles;
+  cues = column (λ site. site .cue) f tiles;
+}

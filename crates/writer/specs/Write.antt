@@ -1,0 +1,58 @@
+-- The writer's call (document 01, "Writer, full check, host, program").
+use Prim.Native.Nat.{ℕ, _+_, _*_}
+use mathlib.Core.Bool.{Bool, _&&_}
+use mathlib.Core.List.{List}
+use lib.Dec.{eqb, leb}
+use lib.IntN.{ℤ}
+use lib.ListN.{length}
+use Rattle.base.specs.Refusal.{Outcome, accepted, refused, require, andThen, #tiles, #box, #stray, #short, #supply}
+use Rattle.blocks.specs.Layout.{maxSites, maxTiles}
+use Rattle.codec.specs.Every.{every}
+use Rattle.codec.specs.Over.{over}
+use Rattle.geometry.specs.Box.{validBox, inside}
+use Rattle.writer.specs.Encode.{fileBytes, fileLength}
+use Rattle.writer.specs.Supply.{Supply, tilesOf, numbersPerBox, boxOf, countOf, offset, total, pointOf}
+
+-- 6: "T is 0, over 960"
+unfoldable pub tilesFit : ℕ → Bool
+tilesFit t = leb 1 t && leb t maxTiles
+
+-- 9 of tile t: "coordinate beyond limits, low above high, or count over 40"
+unfoldable pub entryFits : List ℤ → List ℕ → ℕ → Bool
+entryFits boxes counts t = validBox (boxOf boxes t) && leb (countOf counts t) maxSites
+
+-- 15: "a site list's length is not the sum of counts"
+unfoldable pub listsFit : ℕ → ℕ → ℕ → ℕ → Bool
+listsFit sum x y cue = (eqb x sum && eqb y sum) && eqb cue sum
+
+-- 10 of n sites of the lists from site i on, and of tile t: "a site outside its box"
+unfoldable pub sitesFit : List (List ℤ) → List ℤ → List ℤ → ℕ → ℕ → Bool
+sitesFit bounds xs ys i n = every (λ slot. inside bounds (pointOf xs ys (i + slot))) n
+
+unfoldable pub tileFits : List ℤ → List ℕ → List ℤ → List ℤ → ℕ → Bool
+tileFits boxes counts xs ys t = sitesFit (boxOf boxes t) xs ys (offset counts t) (countOf counts t)
+
+-- "Order: 6, 15 (boxes are not 4 numbers for each tile, in the directory's order), 9, 15 (a site list's length is not the sum
+-- of counts), 10, 14"; the block is 0 "for every refusal by the writer"
+unfoldable pub writeTests : Supply → ℕ → Outcome Unit
+writeTests s room =
+    require (tilesFit (tilesOf s)) #tiles 0
+    (require (eqb (length (s .boxes)) (numbersPerBox * tilesOf s)) #supply 0
+    (require (every (entryFits (s .boxes) (s .counts)) (tilesOf s)) #box 0
+    (require (listsFit (total (s .counts)) (length (s .xs)) (length (s .ys)) (length (s .cues))) #supply 0
+    (require (every (tileFits (s .boxes) (s .counts) (s .xs) (s .ys)) (tilesOf s)) #stray 0
+    (require (leb (fileLength (tilesOf s)) room) #short 0
+    (accepted tt))))))
+
+-- of these lists and an output slice of this length: "It gives the file's length in bytes"
+unfoldable pub writeCall : Supply → ℕ → Outcome ℕ
+writeCall s room = andThen (writeTests s room) (λ _. accepted (fileLength (tilesOf s)))
+
+-- "writes the file; later bytes stay"; "refused, it writes nothing"
+abbrev pub leaves : Outcome ℕ → List ℕ → List ℕ → List ℕ
+leaves (accepted n) out file = over out 0 file
+leaves (refused number block) out file = out
+
+-- what the output slice holds afterwards
+unfoldable pub writeExit : Supply → List ℕ → List ℕ
+writeExit s out = leaves (writeCall s (length out)) out (fileBytes s)

@@ -1,0 +1,6 @@
+// The writer of files (document 01, "Writer, full check, host, program"). write::write takes any lists; the other calls serve it.
+pub mod directory;
+pub mod head;
+pub mod supply;
+pub mod tile;
+pub mod write;

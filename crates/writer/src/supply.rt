@@ -1,0 +1,181 @@
+// The tests of the writer's lists, in their order.
+ghost use mathlib.Core.Path.{_≡_};
+ghost use Prim.Native.Nat.{ℕ, _+_, _*_, _<_, _≤_};
+ghost use lib.ListN.{length};
+ghost use Rattle.blocks.specs.Layout.{maxSites, maxTiles};
+ghost use Rattle.blocks.specs.Outcome.{numberOutcome};
+ghost use Rattle.codec.specs.Every.{every};
+ghost use Rattle.geometry.specs.Box.{inside};
+ghost use Rattle.writer.specs.Supply.{supply, numbersPerBox, boxOf, countOf, total, pointOf};
+ghost use Rattle.writer.specs.Write.{tilesFit, entryFits, listsFit, sitesFit, tileFits, writeTests};
+ghost use Rattle.writer.specs.Encode.{fileLength};
+use base::both;
+use blocks::directory::directory_blocks;
+use blocks::layout;
+use geometry::limits::inside;
+use geometry::limits::valid_box;
+
+pub const NUMBERS_PER_BOX: usize = 4;
+
+pub fn wide(n: u32) -> usize
+    ensures { λ r. ⌜ (r ≡ n) × (r < 0x1_0000_0000) ⌝ }
+{
+    n as usize
+}
+
+// The box of tile t.
+pub fn box_of(boxes: &[i32], t: usize) -> [[i32; 2]; 2]
+    requires { ⌜ numbersPerBox * t + numbersPerBox ≤ length (now boxes) ⌝ }
+    ensures { λ r. ⌜ r ≡ boxOf (now (boxes .entry)) t ⌝ }
+{
+    let b = NUMBERS_PER_BOX * t;
+    let low_x = boxes[b];
+    let low_y = boxes[b + 1];
+    let high_x = boxes[b + 2];
+    let high_y = boxes[b + 3];
+    [[low_x, high_x], [low_y, high_y]]
+}
+
+// Test 6.
+pub fn tiles_fit(t: usize) -> bool
+    ensures { λ r. ⌜ r ≡ tilesFit t ⌝ }
+{
+    both(1 <= t, t <= layout::MAX_TILES)
+}
+
+// Test 9 of tile t.
+pub fn entry_fits(boxes: &[i32], counts: &[u32], t: usize) -> bool
+    requires { ⌜ (numbersPerBox * t + numbersPerBox ≤ length (now boxes)) × (t < length (now counts)) ⌝ }
+    ensures { λ r. ⌜ r ≡ entryFits (now (boxes .entry)) (now (counts .entry)) t ⌝ }
+{
+    both(
+        valid_box(box_of(boxes, t)),
+        wide(counts[t]) <= layout::MAX_SITES,
+    )
+}
+
+pub fn entries_fit(boxes: &[i32], counts: &[u32]) -> bool
+    requires { ⌜ length (now boxes) ≡ numbersPerBox * length (now counts) ⌝ }
+    ensures { λ r. ⌜ r ≡ every (entryFits (now (boxes .entry)) (now (counts .entry))) (length (now (counts .entry))) ⌝ }
+{
+    let mut t = 0;
+    while t < counts.len() {
+        if !entry_fits(boxes, counts, t) {
+            return false;
+        }
+        t += 1;
+    }
+    true
+}
+
+// The sum of counts that passed test 9.
+pub fn sum_of(counts: &[u32]) -> usize
+    requires { ⌜ (length (now counts) ≤ maxTiles) × ((t : ℕ) → t < length (now counts) → countOf (now counts) t ≤ maxSites) ⌝ }
+    ensures { λ r. ⌜ r ≡ total (now (counts .entry)) ⌝ }
+{
+    let mut sum = 0;
+    let mut t = 0;
+    while t < counts.len() {
+        sum += wide(counts[t]);
+        t += 1;
+    }
+    sum
+}
+
+// Test 15 of the site lists.
+pub fn lists_fit(sum: usize, x: usize, y: usize, cue: usize) -> bool
+    ensures { λ r. ⌜ r ≡ listsFit sum x y cue ⌝ }
+{
+    both(both(x == sum, y == sum), cue == sum)
+}
+
+// Test 10 of site i of the lists.
+pub fn site_fits(bounds: [[i32; 2]; 2], xs: &[i32], ys: &[i32], i: usize) -> bool
+    requires { ⌜ (i < length (now xs)) × (i < length (now ys)) ⌝ }
+    ensures { λ r. ⌜ r ≡ inside bounds (pointOf (now (xs .entry)) (now (ys .entry)) i) ⌝ }
+{
+    let x = xs[i];
+    let y = ys[i];
+    inside(bounds, [x, y])
+}
+
+// Test 10 of n sites of the lists from site `first` on.
+pub fn sites_fit(bounds: [[i32; 2]; 2], xs: &[i32], ys: &[i32], first: usize, n: usize) -> bool
+    requires { ⌜ (first + n ≤ length (now xs)) × (first + n ≤ length (now ys)) ⌝ }
+    ensures { λ r. ⌜ r ≡ sitesFit bounds (now (xs .entry)) (now (ys .entry)) first n ⌝ }
+{
+    let mut i = 0;
+    while i < n {
+        if !site_fits(bounds, xs, ys, first + i) {
+            return false;
+        }
+        i += 1;
+    }
+    true
+}
+
+// Test 10.
+pub fn tiles_inside(boxes: &[i32], counts: &[u32], xs: &[i32], ys: &[i32]) -> bool
+    requires { ⌜
+        (length (now boxes) ≡ numbersPerBox * length (now counts)) × (length (now xs) ≡ total (now counts))
+        × (length (now ys) ≡ total (now counts)) ⌝ }
+    ensures { λ r. ⌜
+        r ≡ every (tileFits (now (boxes .entry)) (now (counts .entry)) (now (xs .entry)) (now (ys .entry)))
+        (length (now (counts .entry))) ⌝ }
+{
+    let mut t = 0;
+    let mut first = 0;
+    while t < counts.len() {
+        let n = wide(counts[t]);
+        if !sites_fit(box_of(boxes, t), xs, ys, first, n) {
+            return false;
+        }
+        first += n;
+        t += 1;
+    }
+    true
+}
+
+// The file's length in bytes, of t tiles.
+pub fn file_length(t: usize) -> usize
+    requires { ⌜ t ≤ maxTiles ⌝ }
+    ensures { λ r. ⌜ r ≡ fileLength t ⌝ }
+{
+    layout::BLOCK_SIZE * (directory_blocks(t) + t)
+}
+
+// The number of the first test that the lists and an output slice of this length fail, or 0.
+pub fn failed_test(
+    boxes: &[i32],
+    counts: &[u32],
+    xs: &[i32],
+    ys: &[i32],
+    cues: &[u32],
+    room: usize,
+) -> u32
+    ensures { λ r. ⌜
+        numberOutcome r 0 ≡ writeTests (supply (now (boxes .entry)) (now (counts .entry)) (now (xs .entry)) (now (ys .entry))
+        (now (cues .entry))) room ⌝ }
+{
+    if !tiles_fit(counts.len()) {
+        return base::TILES;
+    }
+    if boxes.len() != NUMBERS_PER_BOX * counts.len() {
+        return base::SUPPLY;
+    }
+    if !entries_fit(boxes, counts) {
+        return base::BOX;
+    }
+    if !lists_fit(sum_of(counts), xs.len(), ys.len(), cues.len()) {
+        return base::SUPPLY;
+    }
+    let inside = tiles_inside(boxes, counts, xs, ys);
+    let fits = file_length(counts.len()) <= room;
+    if !inside {
+        return base::STRAY;
+    }
+    if !fits {
+        return base::SHORT;
+    }
+    0
+}
