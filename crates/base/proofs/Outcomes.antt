@@ -27,3 +27,8 @@ pub andThen-same : {A B : Type 0} (o : Outcome A) (f g : A → Outcome B) → ((
     andThen o f ≡ andThen o g
 andThen-same (accepted a) f g h = h a refl
 andThen-same (refused n p) f g h = refl
+
+-- a refusal of what is only counted afterwards is its own
+pub andThen-refused : {A B : Type 0} (o : Outcome A) (b : B) {n p : ℕ} → andThen o (λ _. accepted b) ≡ refused n p → o ≡ refused n p
+andThen-refused (accepted a) b e = accepted-refused refl e
+andThen-refused (refused n p) b e = cc

@@ -11,7 +11,7 @@ use crate::layout;
 use base::Refusal;
 use codec::reading::u16_at;
 
-// The answer of every reading: accepted, with T or a tile's number of sites, or refused.
+// The answer of every reading and of the writer: accepted, with T, a number of sites or a length, or refused.
 pub enum Answer {
     Accepted(usize),
     Refused(Refusal),

@@ -10,7 +10,7 @@ use Rattle.base.proofs.Tests.{and-both, both-and, clash}
 use Rattle.geometry.specs.Box.{lo, withinLimits, validAxis, validBox, validPoint, onAxis, inside}
 use Rattle.geometry.specs.Distance.{D, closestPoint, farthestPoint, minDist, maxDist}
 use Rattle.geometry.specs.Margin.{bestPoint}
-use Rattle.geometry.proofs.OneAxis.{Axis, axis, On, on, on-test, low-on, limited-on, closest-on, closest-least, farthest-on, farthest-most, best-end-on, best-end-limited, best-end-most}
+use Rattle.geometry.proofs.OneAxis.{Axis, axis, On, on, on-test, low-on, valid-on, limited-on, closest-on, closest-least, farthest-on, farthest-most, best-end-on, best-end-limited, best-end-most}
 use Rattle.geometry.proofs.Shift.{Limited, limited, square-bound, axisBound}
 
 -- a point of a box, axis by axis
@@ -136,6 +136,12 @@ within-box (more {s} {b} o i) t =
     let u = and-both (validAxis s) (validBox b) t in
     more (limited-on (axis s (u .0)) o) (within-box i (u .1))
 
+-- a point of a valid box is a valid point
+pub in-valid : {b : List (List ℤ)} {p : List ℤ} → In b p → validBox b ≡ true → validPoint p ≡ true
+unfolding validBox validPoint
+in-valid none t = refl
+in-valid (more {s} {b} o i) t = let u = and-both (validAxis s) (validBox b) t in both-and (valid-on (u .0) o) (in-valid i (u .1))
+
 pub distance-bound : {p q : List ℤ} → Within p → Within q → D p q ≤ axisBound * length p
 unfolding D
 distance-bound none w = omega arith
@@ -145,3 +151,11 @@ distance-bound (more {x = x} l v) (more {x = y} m w) = omega (arith, square-boun
 pub in-length : {b : List (List ℤ)} {p : List ℤ} → In b p → length p ≡ length b
 in-length none = refl
 in-length (more o i) = ap suc (in-length i)
+
+-- from a point of O, E can be measured
+pub over-in : {o e b : List (List ℤ)} {x : List ℤ} → Three o e b → In o x → Over e x × Over b x
+over-in none none = (none, none)
+over-in (more ao ae ab r) (more i is) =
+    let l = limited-on ao i in
+    let w = over-in r is in
+    (more ae l (w .0), more ab l (w .1))

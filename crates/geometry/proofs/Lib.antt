@@ -4,3 +4,4 @@ pub mod OneAxis
 pub mod AllAxes
 pub mod Two
 pub mod Theorems
+pub mod Corners

@@ -11,12 +11,12 @@ use lib.IntN.{ℤ}
 use lib.Signed.{leZ, ltZ}
 use borrow.Author.Tests.{ltb-true, ltb-false}
 use Rattle.base.proofs.Tests.{and-both, both-and, cond-ind, cond-ap}
-use Rattle.geometry.specs.Box.{lo, hi, withinLimits, validAxis, onAxis}
+use Rattle.geometry.specs.Box.{lowest, highest, lo, hi, withinLimits, validAxis, onAxis}
 use Rattle.geometry.specs.Distance.{gap, square, closest, farthest}
 use Rattle.geometry.specs.Margin.{gain, bestEnd}
 use Rattle.geometry.specs.Shift.{shift}
 use Rattle.geometry.proofs.Line.{order, rises}
-use Rattle.geometry.proofs.Shift.{Small, Limited, limited, limited-between, shift-fits, less-shift, at-most-shift, at-most-refl, not-less, gap-shift, square-shift, square-bound, axisBound, less-sub}
+use Rattle.geometry.proofs.Shift.{Small, Limited, limited, limited-between, shift-fits, less-shift, at-most-shift, at-most-refl, not-less, at-most-trans, gap-shift, square-shift, square-bound, axisBound, less-sub}
 
 -- what the test of an axis shows
 pub record Axis (s : List ℤ) : Type 0 where
@@ -59,6 +59,15 @@ low-on {s} a = record { from = at-most-refl (lo s); to = a .ordered }
 
 pub high-on : {s : List ℤ} → Axis s → On s (hi s)
 high-on {s} a = record { from = a .ordered; to = at-most-refl (hi s) }
+
+pub valid-on : {s : List ℤ} {x : ℤ} → validAxis s ≡ true → On s x → withinLimits x ≡ true
+unfolding validAxis withinLimits
+valid-on {s} {x} v o =
+    let ends = and-both (withinLimits (lo s) && withinLimits (hi s)) (leZ (lo s) (hi s)) v .0 in
+    let a = and-both (withinLimits (lo s)) (withinLimits (hi s)) ends in
+    let l = and-both (leZ lowest (lo s)) (leZ (lo s) highest) (a .0) in
+    let h = and-both (leZ lowest (hi s)) (leZ (hi s) highest) (a .1) in
+    both-and (at-most-trans lowest (lo s) x (l .0) (o .from)) (at-most-trans x (hi s) highest (o .to) (h .1))
 
 pub limited-on : {s : List ℤ} {x : ℤ} → Axis s → On s x → Limited x
 limited-on {s} {x} a p = limited-between (lo s) x (hi s) (a .low) (a .high) (p .from) (p .to)

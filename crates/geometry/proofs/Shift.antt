@@ -61,6 +61,21 @@ not-less (pos a) (negsuc b) t = refl
 not-less (negsuc a) (pos b) t = clash refl t
 not-less (negsuc a) (negsuc b) t = le-leb a b (ltb-false b a t)
 
+pub at-most-trans : (a b c : ℤ) → leZ a b ≡ true → leZ b c ≡ true → leZ a c ≡ true
+at-most-trans (pos a) (pos b) (pos c) h k = le-leb a c (omega (arith, leb-true a b h, leb-true b c k))
+at-most-trans (pos a) (pos b) (negsuc c) h k = clash k refl
+at-most-trans (pos a) (negsuc b) c h k = clash h refl
+at-most-trans (negsuc a) (pos b) (pos c) h k = refl
+at-most-trans (negsuc a) (pos b) (negsuc c) h k = clash k refl
+at-most-trans (negsuc a) (negsuc b) (pos c) h k = refl
+at-most-trans (negsuc a) (negsuc b) (negsuc c) h k = le-leb c a (omega (arith, leb-true b a h, leb-true c b k))
+
+pub less-at-most : (a b : ℤ) → ltZ a b ≡ true → leZ a b ≡ true
+less-at-most (pos a) (pos b) h = le-leb a b (omega (arith, ltb-true a b h))
+less-at-most (pos a) (negsuc b) h = clash h refl
+less-at-most (negsuc a) (pos b) h = refl
+less-at-most (negsuc a) (negsuc b) h = le-leb b a (omega (arith, ltb-true b a h))
+
 -- what lies between two 32-bit numbers is one
 small-between : (a z b : ℤ) → Small a → Small b → leZ a z ≡ true → leZ z b ≡ true → Small z
 small-between a (pos z) (pos b) h k s t = omega (arith, leb-true z b t)

@@ -49,7 +49,7 @@ inside-2 b p n m =
     ∙ rw and-true
 
 -- the tests of a box and of a point, axis by axis
-valid-axes-2 : (b : List (List ℤ)) → length b ≡ 2 → validBox b ≡ true → (validAxis (axis-x b) ≡ true) × (validAxis (axis-y b) ≡ true)
+pub valid-axes-2 : (b : List (List ℤ)) → length b ≡ 2 → validBox b ≡ true → (validAxis (axis-x b) ≡ true) × (validAxis (axis-y b) ≡ true)
 valid-axes-2 b n v = and-both (validAxis (axis-x b)) (validAxis (axis-y b)) (sym (valid-box-2 b n) ∙ v)
 
 pub axes-2 : (b : List (List ℤ)) → length b ≡ 2 → validBox b ≡ true → Axis (axis-x b) × Axis (axis-y b)
@@ -71,6 +71,14 @@ three-2 o e b p q r v =
     let ve = valid-axes-2 e q (v .1 .0) in
     let vb = valid-axes-2 b r (v .1 .1) in
     ((vo .0, (ve .0, vb .0)), (vo .1, (ve .1, vb .1)))
+
+-- D: one square an axis
+pub dist-2 : (p q : List ℤ) → length p ≡ 2 → length q ≡ 2 → D p q ≡ square (at-x p) (at-x q) + square (at-y p) (at-y q)
+unfolding D
+dist-2 p q n m =
+    ap (λ (z : List ℤ). D z q) (two p (pos 0) n)
+    ∙ ap (λ (z : List ℤ). D (at-x p ∷ at-y p ∷ []) z) (two q (pos 0) m)
+    ∙ rw add-zero
 
 -- near and far: one square an axis
 module _ (b : List (List ℤ)) (p : List ℤ) (n : length b ≡ 2) (m : length p ≡ 2) where

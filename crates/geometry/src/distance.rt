@@ -1,8 +1,8 @@
-// The least and the largest squared distance from a point to the points of a box: near and far of document 01.
+// The squared distance of two points; the least and the largest from a point to the points of a box: near and far of document 01.
 ghost use mathlib.Core.Path.{_≡_};
 ghost use mathlib.Core.Bool.{true};
 ghost use Rattle.geometry.specs.Box.{validBox, validPoint};
-ghost use Rattle.geometry.specs.Distance.{minDist, maxDist};
+ghost use Rattle.geometry.specs.Distance.{D, minDist, maxDist};
 ghost use Rattle.base.specs.Refusal as outcome;
 ghost use Rattle.geometry.specs.Calls.{distanceOutcome, minDistCall, maxDistCall};
 use crate::axis;
@@ -12,6 +12,14 @@ use base::Refusal;
 pub enum DistanceAnswer {
     Squared(u64),
     Refused(Refusal),
+}
+
+// D of two points.
+pub fn squared_dist(p: [i32; 2], q: [i32; 2]) -> u64
+    requires { ⌜ (validPoint p ≡ true) × (validPoint q ≡ true) ⌝ }
+    ensures { λ r. ⌜ r ≡ D p q ⌝ }
+{
+    axis::square(p[0], q[0]) + axis::square(p[1], q[1])
 }
 
 pub fn min_dist_within(b: [[i32; 2]; 2], p: [i32; 2]) -> u64

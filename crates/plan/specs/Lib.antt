@@ -1,0 +1,2 @@
+pub mod FilePlan
+pub mod Stops

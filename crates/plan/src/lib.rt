@@ -1,0 +1,1 @@
+// A file as the search sees it: definitions and theorems, no code.

@@ -1,0 +1,160 @@
+-- Marks and the counts that a result carries; the k places of a stop; the stops' places one after another.
+use Prim.Native.Nat.{ℕ, zero, suc, _+_, _*_, _≤_, _<_}
+use mathlib.Core.Bool.{Bool, true, false}
+use mathlib.Core.List.{List, [], _∷_, _++_, map, head-eq-of-cons-eq, tail-eq-of-cons-eq}
+use mathlib.Core.Logic.{_↔_}
+use mathlib.Core.Path.{_≡_, refl, sym, ap, _∙_}
+use native.Mathlib.Nat.{zero-mul, suc-mul, zero-add, add-zero}
+use native.Mathlib.Omega.{arith}
+use lib.Dec.{eqb}
+use lib.ListN.{length, take, getD, replicate, length-append, length-take, length-replicate, List·getD-append}
+use lib.Seq.{getD-append-add}
+use Rattle.base.proofs.Tests.{clash, by-test}
+use Rattle.search.specs.Lists.{range, count, filter, member, All, Distinct}
+use Rattle.search.specs.Plan.{Plan}
+use Rattle.search.specs.Pruning.{pruned, prunedCount}
+use Rattle.search.specs.Run.{Place, noPlace, padded, slices, mark, marks, openedCount}
+use Rattle.search.proofs.Lists.{all-any, all-mem, count-all, count-perm, filter-passes, filter-mem, filter-distinct, range-mem, range-distinct, member-mem, mem-member, same-elements}
+
+count-map : {A B : Type 0} (p : B → Bool) (f : A → B) (l : List A) → count p (map f l) ≡ count (λ x. p (f x)) l
+unfolding count
+count-map p f [] = refl
+count-map p f (x ∷ l) = let ih = count-map p f l in omega arith
+
+pub count-same : {A : Type 0} (p q : A → Bool) (l : List A) → All (λ x. p x ≡ q x) l → count p l ≡ count q l
+unfolding count
+count-same p q [] h = refl
+count-same p q (x ∷ l) h = rw (h .0) (let ih = count-same p q l (h .1) in omega arith)
+
+count-filter : {A : Type 0} (q : A → Bool) (l : List A) → count q l ≡ length (filter q l)
+unfolding count filter
+count-filter q [] = refl
+count-filter q (x ∷ l) = let ih = count-filter q l in by-test (q x) (λ e. rw e (omega arith)) (λ e. rw e (omega arith))
+
+pub getD-map-lt : {A B : Type 0} (f : A → B) (l : List A) (i : ℕ) (d : B) (e : A) → i < length l
+    → getD (map f l) i d ≡ f (getD l i e)
+getD-map-lt f [] i d e h = absurd (omega arith)
+getD-map-lt f (x ∷ l) zero d e h = refl
+getD-map-lt f (x ∷ l) (suc i) d e h = getD-map-lt f l i d e (omega arith)
+
+range-length : (a n : ℕ) → length (range a n) ≡ n
+range-length a zero = refl
+range-length a (suc n) = ap suc (range-length (suc a) n)
+
+range-getD : (a n i : ℕ) → i < n → getD (range a n) i 0 ≡ a + i
+range-getD a zero i h = absurd (omega arith)
+range-getD a (suc n) zero h = sym (add-zero a)
+range-getD a (suc n) (suc i) h = let u : suc a + i ≡ a + suc i = omega arith in range-getD (suc a) n i (omega arith) ∙ u
+
+-- of the first n numbers as many stand in a list as it is long, if it has no repeats and nothing else
+count-members : (n : ℕ) (l : List ℕ) → Distinct l → All (λ t. t < n) l → count (λ t. member t l) (range 0 n) ≡ length l
+count-members n l d h =
+    let q : ℕ → Bool = λ t. member t l in
+    let f = filter q (range 0 n) in
+    let e = same-elements f l (filter-distinct q (range 0 n) (range-distinct 0 n)) d
+    (λ t m. member-mem t l (all-mem (λ u. member u l ≡ true) (filter-passes q (range 0 n)) m))
+    (λ t m. filter-mem q (range-mem t 0 n (omega arith) (let u = all-mem (λ v. v < n) h m in omega arith))
+    (mem-member t l m)) in
+    let size : (m : List ℕ) → count (λ t. true) m ≡ length m =
+    λ m. count-all (λ t. true) m (all-any (λ t. true ≡ true) m (λ t. refl)) in
+    count-filter q (range 0 n) ∙ sym (size f) ∙ count-perm (λ t. true) e ∙ size l
+
+module _ (G : Plan) where
+  open Plan G using (tiles, k)
+
+  -- ---- marks
+
+  module _ (opened : List ℕ) where
+    two : (t : ℕ) → eqb (mark G opened t) 2 ≡ member t opened
+    unfolding mark
+    two t = by-test (member t opened) (λ e. rw e) (λ e. by-test (pruned G t) (λ s. rw (e, s)) (λ s. rw (e, s)))
+
+    pub marks-at : (t : ℕ) → t < tiles → getD (marks G opened) t 0 ≡ mark G opened t
+    unfolding marks
+    marks-at t h = getD-map-lt (mark G opened) (range 0 tiles) t 0 0 (rw range-length h)
+        ∙ ap (mark G opened) (range-getD 0 tiles t h ∙ zero-add t)
+
+    pub mark-opened : (t : ℕ) → (mark G opened t ≡ 2) ↔ (member t opened ≡ true)
+    unfolding mark
+    mark-opened t = (λ h. sym (two t) ∙ rw h, λ h. rw h)
+
+    pub marks-opened : Distinct opened → All (λ t. t < tiles) opened
+        → count (λ m. eqb m 2) (marks G opened) ≡ openedCount G opened
+    unfolding marks openedCount
+    marks-opened d h =
+        count-map (λ m. eqb m 2) (mark G opened) (range 0 tiles)
+        ∙ count-same (λ t. eqb (mark G opened t) 2) (λ t. member t opened) (range 0 tiles)
+        (all-any (λ t. eqb (mark G opened t) 2 ≡ member t opened) (range 0 tiles) two)
+        ∙ count-members tiles opened d h
+
+    module _ (unpruned : All (λ t. pruned G t ≡ false) opened) where
+      one : (t : ℕ) → eqb (mark G opened t) 1 ≡ pruned G t
+      unfolding mark
+      one t = by-test (member t opened)
+          (λ e. rw (e, all-mem (λ u. pruned G u ≡ false) unpruned (member-mem t opened e)))
+          (λ e. by-test (pruned G t) (λ s. rw (e, s)) (λ s. rw (e, s)))
+
+      pub mark-pruned : (t : ℕ) → (mark G opened t ≡ 1) ↔ (pruned G t ≡ true)
+      unfolding mark
+      mark-pruned t = (
+        λ h. sym (one t) ∙ rw h,
+        λ h. by-test (member t opened) (λ e. clash h (all-mem (λ u. pruned G u ≡ false) unpruned (member-mem t opened e)))
+            (λ e. rw (e, h)),
+      )
+
+      pub marks-pruned : count (λ m. eqb m 1) (marks G opened) ≡ prunedCount G
+      unfolding marks prunedCount
+      marks-pruned =
+          count-map (λ m. eqb m 1) (mark G opened) (range 0 tiles)
+          ∙ count-same (λ t. eqb (mark G opened t) 1) (pruned G) (range 0 tiles)
+          (all-any (λ t. eqb (mark G opened t) 1 ≡ pruned G t) (range 0 tiles) one)
+
+  -- ---- places
+
+  pub padded-length : (l : List Place) → length (padded G l) ≡ k
+  unfolding padded
+  padded-length l =
+      let zeros : List Place = replicate k noPlace in
+      let a = length-take k (l ++ zeros) in
+      let b = length-append l zeros in
+      let c = length-replicate {A = Place} k noPlace in
+      omega arith
+
+  same-front : {A : Type 0} (a b c d : List A) (n : ℕ) → length a ≡ length b → length a ≤ n
+      → take n (a ++ c) ≡ take n (b ++ d) → a ≡ b
+  same-front [] [] c d n l h e = refl
+  same-front [] (y ∷ b) c d n l h e = absurd (omega arith)
+  same-front (x ∷ a) [] c d n l h e = absurd (omega arith)
+  same-front (x ∷ a) (y ∷ b) c d zero l h e = absurd (omega arith)
+  same-front (x ∷ a) (y ∷ b) c d (suc n) l h e =
+      rw (head-eq-of-cons-eq e, same-front a b c d n (omega arith) (omega arith) (tail-eq-of-cons-eq e))
+
+  -- padding loses nothing of lists of one length
+  pub unpad : (a b : List Place) → length a ≡ length b → length a ≤ k → padded G a ≡ padded G b → a ≡ b
+  unfolding padded
+  unpad a b l h e = same-front a b (replicate k _) (replicate k _) k l h e
+
+  -- place j of stop i
+  pub slices-at : (ls : List (List Place)) (i j : ℕ) (d : Place) → i < length ls → j < k
+      → getD (slices G ls) (i * k + j) d ≡ getD (padded G (getD ls i [])) j d
+  unfolding slices
+  slices-at [] i j d h g = absurd (omega arith)
+  slices-at (l ∷ ls) zero j d h g =
+      let e : 0 * k + j ≡ j = ap (λ (n : ℕ). n + j) (zero-mul k) ∙ zero-add j in
+      let f = padded-length l in
+      rw e (List·getD-append (padded G l) (slices G ls) d j (omega arith))
+  slices-at (l ∷ ls) (suc i) j d h g =
+      let f = padded-length l in
+      let m = suc-mul i k in
+      let e : suc i * k + j ≡ length (padded G l) + (i * k + j) = omega arith in
+      rw e (getD-append-add (padded G l) (slices G ls) (i * k + j) d ∙ slices-at ls i j d (omega arith) g)
+
+  pub slices-length : (ls : List (List Place)) → length (slices G ls) ≡ length ls * k
+  unfolding slices
+  slices-length [] = sym (zero-mul k)
+  slices-length (l ∷ ls) =
+      let ih = slices-length ls in
+      let f = padded-length l in
+      let m = suc-mul (length ls) k in
+      let e = length-append (padded G l) (slices G ls) in
+      omega arith

@@ -1,0 +1,52 @@
+-- Document 01, "What a full search of a town gives for a stop", and demand 3's words about it.
+use Prim.Native.Nat.{ℕ, _+_, _*_, _<_}
+use mathlib.Core.Bool.{true, cond}
+use mathlib.Core.List.{List, List·Memᴰ}
+use mathlib.Core.Option.{some}
+use mathlib.Core.Path.{_≡_}
+use lib.Dec.{eqb}
+use lib.ListN.{getElem?}
+use Rattle.base.specs.Refusal.{accepted}
+use Rattle.search.specs.Lists.{range, All}
+use Rattle.search.specs.Plan.{Plan, slots, ranks, Town, Agrees}
+use Rattle.search.specs.Run.{Place, Reading, nearest, padded}
+
+module _ (G : Plan) where
+  open Plan G using (Site, Stop, D, cue, tiles)
+
+  -- "the town's sites in their ranking, cut after k of them"
+  unfoldable pub firstOf : Stop → Town G → List Place
+  firstOf p g = nearest G p g (range 0 tiles)
+
+  -- "places left over up to k are 0"
+  unfoldable pub fullSearch : Stop → Town G → List Place
+  fullSearch p g = padded G (firstOf p g)
+
+  -- a is the place of a site of the town: "each place with D, tile × 40 + slot, and cue"
+  pub record SiteOf (p : Stop) (g : Town G) (a : Place) : Type 0 where
+    pub tile : ℕ
+    pub slot : ℕ
+    pub it : Site
+    pub below : tile < tiles
+    pub there : getElem? (g tile) slot ≡ some it
+    pub ranked : ranks G it ≡ true
+    pub place : a ≡ record { dist = D p it; site = tile * slots + slot; cue = cue it }
+
+  -- a town "that agrees with the directory and the opened tiles": it "has the sites of that block there, slot for slot"
+  pub record Fits (read : Reading G) (opened : List ℕ) (g : Town G) : Type 0 where
+    pub directory : Agrees G g
+    pub blocks : All (λ t. read t ≡ accepted (g t)) opened
+
+  -- tile t filled otherwise, "with nothing else changed"
+  unfoldable pub refill : Town G → ℕ → List Site → Town G
+  refill g t f u = cond (eqb u t) f (g u)
+
+  -- "some other filling of it, agreeing with the directory and put into that town with nothing else changed, changes what
+  -- the full search gives for at least one stop, in a distance, a site or a cue"
+  pub record Changes (g : Town G) (ps : List Stop) (t : ℕ) : Type 0 where
+    pub filling : List Site
+    pub another : filling ≡ g t → ⊥
+    pub agrees : Agrees G (refill g t filling)
+    pub stop : Stop
+    pub served : List·Memᴰ stop ps
+    pub differs : fullSearch stop (refill g t filling) ≡ fullSearch stop g → ⊥

@@ -1,0 +1,6 @@
+pub mod Lists
+pub mod Order
+pub mod Plan
+pub mod Pruning
+pub mod Run
+pub mod FullSearch

@@ -1,0 +1,146 @@
+-- Document 01, "The join": the ranking, the run over the stops, and what it gives out.
+use Prim.Native.Nat.{ℕ, suc, _+_, _*_, _/_, _<_, min}
+use mathlib.Core.Bool.{Bool, true, cond, not, _&&_}
+use mathlib.Core.List.{List, [], _∷_, _++_, map}
+use mathlib.Core.Path.{_≡_}
+use lib.Dec.{ltb, leb}
+use lib.ListN.{length, take, replicate}
+use Rattle.base.specs.Refusal.{Outcome, accepted, refused, andThen}
+pub use Rattle.search.specs.declared.Place.{Place}
+use Rattle.search.specs.Lists.{range, count, total, filter, member}
+use Rattle.search.specs.Order.{lex, sort}
+use Rattle.search.specs.Plan.{Plan, slots, ranks, ranked, Town, Fills}
+use Rattle.search.specs.Pruning.{pruned}
+
+-- "Sites rank by D from the stop, then tile, then slot": the last two are the order of tile × 40 + slot.
+unfoldable pub rank : Place → Place → Bool
+rank a b = lex (a .dist) (a .site) (b .dist) (b .site)
+
+-- A place is "ahead of the .. key (smaller D, or equal D and a lower tile number)".
+unfoldable pub aheadOf : Place → ℕ → ℕ → Bool
+aheadOf a least tile = lex (a .dist) (a .site / slots) least tile
+
+-- "Unused places are 0."
+abbrev pub noPlace : Place
+noPlace = record { dist = 0; site = 0; cue = 0 }
+
+-- A run: the tiles whose opening was tried, in that order, a refused one included; and what it comes to.
+pub record Run (X : Type 0) : Type 0 where
+  pub openings : List ℕ
+  pub outcome : Outcome X
+
+module _ (G : Plan) where
+  open Plan G using (Site, Stop, cue, D, minDist, tiles, box, k)
+
+  -- the sites of a filling that rank, as places numbered by slot from a on
+  unfoldable pub listing : Stop → ℕ → List Site → List Place
+  listing p a [] = []
+  listing p a (s ∷ f) =
+      cond (ranks G s) (record { dist = D p s; site = a; cue = cue s } ∷ listing p (suc a) f) (listing p (suc a) f)
+
+  -- those of a tile: "the site as tile × 40 + slot"
+  abbrev pub tilePlaces : Stop → ℕ → List Site → List Place
+  tilePlaces p t f = listing p (t * slots) f
+
+  -- those of some tiles of a town
+  unfoldable pub placesOf : Stop → Town G → List ℕ → List Place
+  placesOf p g [] = []
+  placesOf p g (t ∷ ts) = tilePlaces p t (g t) ++ placesOf p g ts
+
+  -- the first k of them
+  unfoldable pub nearest : Stop → Town G → List ℕ → List Place
+  nearest p g ts = take k (sort rank (placesOf p g ts))
+
+  -- "the tiles that are not struck and not empty are taken by key: near distance from the stop, then tile number"
+  unfoldable pub candidate : ℕ → Bool
+  candidate t = not (pruned G t) && ltb 0 (ranked G t)
+
+  unfoldable pub byKey : Stop → ℕ → ℕ → Bool
+  byKey p t u = lex (minDist p (box t)) t (minDist p (box u)) u
+
+  unfoldable pub queue : Stop → List ℕ
+  queue p = sort (byKey p) (filter candidate (range 0 tiles))
+
+  unfoldable pub ahead : Stop → ℕ → Place → Bool
+  ahead p t a = aheadOf a (minDist p (box t)) t
+
+  -- "k sites .. are ahead of the next key", that of tile t
+  unfoldable pub enough : Stop → ℕ → List Place → Bool
+  enough p t found = leb k (count (ahead p t) found)
+
+  -- what the opening of each tile gives: its sites by slot, or a refusal
+  abbrev pub Reading : Type 0
+  Reading = ℕ → Outcome (List Site)
+
+  -- the sites of a tile that opens
+  unfoldable pub contents : Reading → Town G
+  contents read t = sites (read t)
+    where
+      sites : Outcome (List Site) → List Site
+      sites (accepted f) = f
+      sites (refused number block) = []
+
+  -- what opens agrees with the directory: an opening tests its entries (7) and each of its sites (10)
+  abbrev pub Checked : Reading → Type 0
+  Checked read = (t : ℕ) (f : List Site) → t < tiles → read t ≡ accepted f → Fills G t f
+
+  -- a refused opening ends the run with its number and block, and is the last in it
+  unfoldable pub opening : {X : Type 0} → Outcome (List Site) → List ℕ → Run X → Run X
+  opening (accepted f) openings rest = rest
+  opening (refused number block) openings rest = record { openings = openings; outcome = refused number block }
+
+  -- a stop's end, with its list: the first k sites of the tiles opened so far
+  abbrev pub answer : Reading → Stop → List ℕ → Run (List Place)
+  answer read p opened = record { openings = opened; outcome = accepted (nearest p (contents read) opened) }
+
+  -- One stop, with the tiles that wait, and those opened in the run so far, for this stop or an earlier one. "It ends when k
+  -- sites of opened tiles are ahead of the next key .., or no tile remains. A tile not yet opened is opened".
+  unfoldable pub serve : Reading → Stop → List ℕ → List ℕ → Run (List Place)
+  serve read p [] opened = answer read p opened
+  serve read p (t ∷ ts) opened =
+      let more = opened ++ t ∷ [] in
+      let next = cond (member t opened) (serve read p ts opened) (opening (read t) more (serve read p ts more)) in
+      cond (enough p t (placesOf p (contents read) opened)) (answer read p opened) next
+
+  -- a stop's list before those of the later stops, unless it is refused
+  unfoldable pub follow : Run (List Place) → Run (List (List Place)) → Run (List (List Place))
+  follow stop rest = go (stop .outcome)
+    where
+      go : Outcome (List Place) → Run (List (List Place))
+      go (accepted l) = record { openings = rest .openings; outcome = andThen (rest .outcome) (λ ls. accepted (l ∷ ls)) }
+      go (refused number block) = record { openings = stop .openings; outcome = refused number block }
+
+  -- "Stops are taken in turn."
+  unfoldable pub run : Reading → List Stop → List ℕ → Run (List (List Place))
+  run read [] opened = record { openings = opened; outcome = accepted [] }
+  run read (p ∷ ps) opened =
+      let stop = serve read p (queue p) opened in
+      follow stop (run read ps (stop .openings))
+
+  -- The join: at the start no tile is open.
+  unfoldable pub join : Reading → List Stop → Run (List (List Place))
+  join read ps = run read ps []
+
+  -- a stop's k places
+  unfoldable pub padded : List Place → List Place
+  padded l = take k (l ++ replicate k noPlace)
+
+  -- what the output slices hold: "place j of stop i is at i × k + j"
+  unfoldable pub slices : List (List Place) → List Place
+  slices [] = []
+  slices (l ∷ ls) = padded l ++ slices ls
+
+  -- "Places used for each stop: the smaller of k and all sites."
+  unfoldable pub placesUsed : ℕ
+  placesUsed = min k (total (λ t. true) (ranked G) (range 0 tiles))
+
+  -- "Marks, one byte for each tile: 2 opened, 1 struck, 0 neither."
+  unfoldable pub mark : List ℕ → ℕ → ℕ
+  mark opened t = cond (member t opened) 2 (cond (pruned G t) 1 0)
+
+  unfoldable pub marks : List ℕ → List ℕ
+  marks opened = map (mark opened) (range 0 tiles)
+
+  -- the number opened
+  unfoldable pub openedCount : List ℕ → ℕ
+  openedCount opened = length opened
