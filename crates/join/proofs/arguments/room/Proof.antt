@@ -1,0 +1,21 @@
+use Prim.Native.Nat.{_-_}
+use borrow.Author.Needs.{needs}
+use Rattle.join.specs.Arguments.{room}
+use Rattle.join.proofs.arguments.room.Statement.{statement}
+use Rattle.join.proofs.arguments.room.Tie as tie
+
+both-requires : tie.Need-both-requires
+both-requires c κs = search needs
+
+both-requires-2 : tie.Need-both-requires-2
+both-requires-2 c κs = search needs
+
+both-requires-3 : tie.Need-both-requires-3
+both-requires-3 c κs = search needs
+
+returns : tie.Need-returns
+unfolding room
+returns c = simp (c .both3 .ensures, c .before .both2 .ensures, c .before .before .both .ensures)
+
+pub room-spec : {M : Type 1} → statement M
+room-spec = tie.close (tie.spec both-requires both-requires-2 both-requires-3 returns)

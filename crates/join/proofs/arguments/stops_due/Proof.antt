@@ -1,0 +1,18 @@
+use Prim.Native.Nat.{_-_}
+use borrow.Author.Needs.{needs}
+use Rattle.join.specs.Arguments.{stopsDue}
+use Rattle.join.proofs.arguments.stops_due.Statement.{statement}
+use Rattle.join.proofs.arguments.stops_due.Tie as tie
+
+both-requires : tie.Need-both-requires
+both-requires c κs = search needs
+
+both-requires-2 : tie.Need-both-requires-2
+both-requires-2 c κs = search needs
+
+returns : tie.Need-returns
+unfolding stopsDue
+returns c = simp (c .both2 .ensures, c .before .both .ensures)
+
+pub stops-due-spec : {M : Type 1} → statement M
+stops-due-spec = tie.close (tie.spec both-requires both-requires-2 returns)

@@ -1,0 +1,7 @@
+pub mod Join
+pub mod Stops
+pub mod Arguments
+pub mod Queue
+pub mod Marks
+pub mod Serving
+pub mod Running

@@ -1,0 +1,82 @@
+// The stops of a run: their points, the test of their coordinates, and the smallest box around them.
+ghost use mathlib.Core.Path.{_≡_};
+ghost use mathlib.Core.Bool.{Bool, cond};
+ghost use mathlib.Core.List.{[], _∷_};
+ghost use Prim.Native.Nat.{_<_};
+ghost use lib.ListN.{getD, length};
+ghost use lib.Signed.{ltZ};
+ghost use Rattle.codec.specs.Every.{every};
+ghost use Rattle.plan.specs.Stops.{least, greatest, around};
+ghost use Rattle.join.specs.Stops.{stopAt, validStop};
+use geometry::limits::valid_point;
+
+pub fn stop_at(xs: &[i32], ys: &[i32], i: usize) -> [i32; 2]
+    requires { ⌜ (i < length (now xs)) × (i < length (now ys)) ⌝ }
+    ensures { λ r. ⌜ r ≡ stopAt (now (xs .entry)) (now (ys .entry)) i ⌝ }
+{
+    [xs[i], ys[i]]
+}
+
+// Test 13.
+pub fn valid_stops(xs: &[i32], ys: &[i32]) -> bool
+    requires { ⌜ length (now ys) ≡ length (now xs) ⌝ }
+    ensures { λ r. ⌜ r ≡ every (validStop (now (xs .entry)) (now (ys .entry))) (length (now (xs .entry))) ⌝ }
+{
+    let mut i: usize = 0;
+    while i < xs.len() {
+        if !valid_point(stop_at(xs, ys, i)) {
+            return false;
+        }
+        i += 1;
+    }
+    true
+}
+
+fn lesser(x: i32, a: i32) -> i32
+    ensures { λ r. ⌜ r ≡ cond (ltZ x a) x a ⌝ }
+{
+    if x < a { x } else { a }
+}
+
+fn greater(x: i32, a: i32) -> i32
+    ensures { λ r. ⌜ r ≡ cond (ltZ a x) x a ⌝ }
+{
+    if a < x { x } else { a }
+}
+
+fn least(xs: &[i32]) -> i32
+    requires { ⌜ 0 < length (now xs) ⌝ }
+    ensures { λ r. ⌜ r ≡ least (now (xs .entry)) ⌝ }
+{
+    let mut a = xs[0];
+    let mut i: usize = 1;
+    while i < xs.len() {
+        a = lesser(xs[i], a);
+        i += 1;
+    }
+    a
+}
+
+fn greatest(xs: &[i32]) -> i32
+    requires { ⌜ 0 < length (now xs) ⌝ }
+    ensures { λ r. ⌜ r ≡ greatest (now (xs .entry)) ⌝ }
+{
+    let mut a = xs[0];
+    let mut i: usize = 1;
+    while i < xs.len() {
+        a = greater(xs[i], a);
+        i += 1;
+    }
+    a
+}
+
+pub fn around(xs: &[i32], ys: &[i32]) -> [[i32; 2]; 2]
+    requires { ⌜ (0 < length (now xs)) × (0 < length (now ys)) ⌝ }
+    ensures { λ r. ⌜ r ≡ around (now (xs .entry)) (now (ys .entry)) ⌝ }
+{
+    let low_x = least(xs);
+    let high_x = greatest(xs);
+    let low_y = least(ys);
+    let high_y = greatest(ys);
+    [[low_x, high_x], [low_y, high_y]]
+}

@@ -1,0 +1,3 @@
+pub mod Filling
+pub mod Closer
+pub mod Summing

@@ -1,0 +1,30 @@
+-- A sum over the tiles, turn by turn. Assumes nothing.
+use Prim.Native.Nat.{ℕ, suc, _+_, _-_, _<_, _≤_}
+use mathlib.Core.Bool.{Bool, true, false, cond}
+use mathlib.Core.Path.{_≡_}
+use native.Mathlib.Numerals.{add-one}
+use native.Mathlib.Omega.{arith}
+use Rattle.search.specs.Lists.{range, bit, count, total}
+
+module _ (p : ℕ → Bool) (w : ℕ → ℕ) where
+  pub sum-turn : (e n : ℕ) → e < n → cond (p e) (w e) 0 + total p w (range (e + 1) (n - (e + 1))) ≡ total p w (range e (n - e))
+  unfolding total
+  sum-turn e n h = let d : n - e ≡ suc (n - (e + 1)) = omega arith in rw (d, add-one e)
+
+  pub sum-done : (e n : ℕ) → n ≤ e → total p w (range e (n - e)) ≡ 0
+  unfolding total
+  sum-done e n h = let d : n - e ≡ 0 = omega arith in rw d
+
+pub bit-small : (b : Bool) → bit b ≤ 1
+bit-small true = omega arith
+bit-small false = omega arith
+
+-- how many pass a test
+module _ (p : ℕ → Bool) where
+  pub count-turn : (e n : ℕ) → e < n → bit (p e) + count p (range (e + 1) (n - (e + 1))) ≡ count p (range e (n - e))
+  unfolding count
+  count-turn e n h = let d : n - e ≡ suc (n - (e + 1)) = omega arith in rw (d, add-one e)
+
+  pub count-done : (e n : ℕ) → n ≤ e → count p (range e (n - e)) ≡ 0
+  unfolding count
+  count-done e n h = let d : n - e ≡ 0 = omega arith in rw d

@@ -1,0 +1,15 @@
+use Prim.Native.Nat.{_-_}
+use borrow.Author.Needs.{needs}
+use Rattle.prune.specs.Prune.{validK}
+use Rattle.prune.proofs.call.valid_k.Statement.{statement}
+use Rattle.prune.proofs.call.valid_k.Tie as tie
+
+both-requires : tie.Need-both-requires
+both-requires c κs = search needs
+
+returns : tie.Need-returns
+unfolding validK
+returns c = c .both .ensures
+
+pub valid-k-spec : {M : Type 1} → statement M
+valid-k-spec = tie.close (tie.spec both-requires returns)
