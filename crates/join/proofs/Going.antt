@@ -24,6 +24,7 @@ use Rattle.tiles.specs.Tile.{openTile}
 use Rattle.base.proofs.Outcomes.{accepted-injective, accepted-refused}
 use Rattle.base.proofs.Tests.{by-test}
 use Rattle.codec.proofs.Over.{over-under, over-set, length-over}
+use Rattle.places.proofs.Insertion.{inserts-few, inserts-grow, inserts-sorted}
 use Rattle.places.proofs.Laying.{places-length, laid-self, laid-places, laid-next}
 use Rattle.prune.proofs.Filling.{filled-at}
 use Rattle.search.proofs.Places.{rank-order}
@@ -32,7 +33,6 @@ use Rattle.join.specs.Marks.{markAll}
 use Rattle.join.specs.Queue.{none, IsLeast}
 use Rattle.join.specs.Serving.{Walk, entered, walkStop, byKey, Opens, Rising, withTile, TileTaken, StopServed}
 use Rattle.join.specs.declared.queue.Least.{Least}
-use Rattle.places.proofs.Insertion.{inserts-few, inserts-grow, inserts-sorted}
 use Rattle.join.proofs.Small.{near-small}
 use Rattle.join.proofs.Taking.{Keyed, living, living-all, living-none, living-next, keyed-next, fewer}
 

@@ -11,3 +11,5 @@ pub mod Rises
 pub mod Linking
 pub mod RunLaws
 pub mod CallLaws
+pub mod Theorems
+pub mod Cases

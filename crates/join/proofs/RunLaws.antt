@@ -45,7 +45,7 @@ use Rattle.join.proofs.Marking.{marks-end}
 
 -- ---- the stops
 
-stops-length : (xs ys : List ℤ) → length ys ≡ length xs → length (stopsOf xs ys) ≡ length xs
+pub stops-length : (xs ys : List ℤ) → length ys ≡ length xs → length (stopsOf xs ys) ≡ length xs
 unfolding stopsOf
 stops-length [] ys e = refl
 stops-length (x ∷ xs) [] e = absurd (omega arith)
@@ -58,7 +58,7 @@ stops-valid (x ∷ xs) [] e h = absurd (omega arith)
 stops-valid (x ∷ xs) (y ∷ ys) e h = (h 0 (omega arith), stops-valid xs ys (omega arith) (λ i l. h (suc i) (omega arith)))
 
 -- as many lists as stops
-lists-length : (G : Plan) (read : ℕ → Outcome (List (G .Site))) (ps : List (G .Stop)) (ls : List (List Place)) → cutWalks G read ps .out ≡ accepted ls → length ls ≡ length ps
+pub lists-length : (G : Plan) (read : ℕ → Outcome (List (G .Site))) (ps : List (G .Stop)) (ls : List (List Place)) → cutWalks G read ps .out ≡ accepted ls → length ls ≡ length ps
 unfolding cutWalks both
 lists-length G read [] ls e = let i : ls ≡ [] = sym (accepted-injective e) in rw i
 lists-length G read (p ∷ ps) ls e = by-outcome (cutWalk G read p (queue G p) [] .out)
@@ -82,6 +82,10 @@ slices-plain f tiles k o (l ∷ ls) = rw (slices-plain f tiles k o ls)
 refused-from : {A : Type 0} (o : Outcome A) (g : A → ℕ) {x y : ℕ} → refused x y ≡ andThen o (λ a. accepted (g a)) → o ≡ refused x y
 refused-from (accepted a) g e = accepted-refused {o = accepted (g a)} refl (sym e)
 refused-from (refused x y) g e = cc
+
+-- what was laid at the start, taken
+pub take-over : (n : ℕ) (l vs : List ℕ) → length vs ≡ n → n ≤ length l → take n (over l 0 vs) ≡ vs
+take-over n l vs e h = rw (over-eq l 0 vs (omega arith)) (take-at vs _ n e)
 
 -- ---- the plan of the run
 
@@ -194,8 +198,7 @@ module _ {f : List ℕ} {tiles : ℕ} {xs ys : List ℤ} {k : ℕ} {ds ss cs ms 
       marks-taken e =
           let u = runFor f tiles xs ys k .openings in
           let l = range-length (mark G u) 0 tiles in
-          let h = over-eq ms 0 (map (mark G u) (range 0 tiles)) (omega (arith, r .marks)) in
-          rw (e, h) (take-at (map (mark G u) (range 0 tiles)) _ tiles l)
+          rw e (take-over tiles ms (map (mark G u) (range 0 tiles)) l (r .marks))
 
       opened-is : ms′ ≡ over ms 0 (marks G (runFor f tiles xs ys k .openings)) → count (λ m. eqb m 2) (take tiles ms′) ≡ openedCount G (runFor f tiles xs ys k .openings)
       unfolding runFor

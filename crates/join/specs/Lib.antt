@@ -5,3 +5,5 @@ pub mod Queue
 pub mod Marks
 pub mod Serving
 pub mod Running
+pub mod Claims
+pub mod Cases
