@@ -8,10 +8,6 @@ use lib.Dec.{T}
 pub true-T : {a : Bool} → a ≡ true → T a
 true-T e = rw e tt
 
-pub T-true : (a : Bool) → T a → a ≡ true
-T-true true t = refl
-T-true false t = absurd t
-
 -- no test is both true and false
 pub clash {ℓ} : {X : Type ℓ} {a : Bool} → a ≡ true → a ≡ false → X
 clash p q = absurd (let z : _≡_ {A = ℕ} 0 1 = cc in omega arith)

@@ -17,17 +17,9 @@ unfolding bytes
 length-bytes zero n = refl
 length-bytes (suc k) n = ap suc (length-bytes k (n / 256))
 
-pub length-bytes16 : (n : ℕ) → length (bytes16 n) ≡ 2
-unfolding bytes16
-length-bytes16 n = length-bytes 2 n
-
 pub length-bytes32 : (n : ℕ) → length (bytes32 n) ≡ 4
 unfolding bytes32
 length-bytes32 n = length-bytes 4 n
-
-pub length-bytesSigned : (z : ℤ) → length (bytesSigned z) ≡ 4
-unfolding bytesSigned
-length-bytesSigned z = length-bytes32 (bits z)
 
 -- ---- over the width: k bytes from an index on, as a number, and how many numbers k bytes have
 unfoldable numberAt : ℕ → List ℕ → ℕ → ℕ

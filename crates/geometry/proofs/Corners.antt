@@ -2,17 +2,17 @@
 -- program measures each box once from each corner, and compares. Over any number of axes. Assumes nothing.
 use mathlib.Core.Bool.{Bool, true, _&&_}
 use mathlib.Core.List.{List, [], _∷_}
-use mathlib.Core.Path.{_≡_, sym, _∙_}
-use borrow.Author.Tests.{lt-ltb}
+use mathlib.Core.Path.{_≡_, _∙_}
 use lib.Dec.{ltb}
 use lib.IntN.{ℤ}
 use lib.ListN.{length}
+use borrow.Author.Tests.{lt-ltb}
 use Rattle.base.proofs.Tests.{and-both, both-and, cond-ind, iff-eq}
 use Rattle.geometry.specs.Box.{lo, hi, validBox}
 use Rattle.geometry.specs.Distance.{closestPoint, farthestPoint, minDist, maxDist}
-use Rattle.geometry.specs.Margin.{bestEnd, bestPoint, closer}
-use Rattle.geometry.proofs.OneAxis.{low-on, high-on, better, best-end-test}
+use Rattle.geometry.specs.Margin.{bestPoint, closer}
 use Rattle.geometry.proofs.AllAxes.{In, none, more, in-test, Three, three, over-in, closest-in, farthest-in}
+use Rattle.geometry.proofs.OneAxis.{low-on, high-on, better, best-end-test}
 use Rattle.geometry.proofs.Theorems.{closer-test, closer-exact}
 
 -- a test at every corner: every point with an end of O on each axis

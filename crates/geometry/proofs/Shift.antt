@@ -36,13 +36,6 @@ less-shift (pos a) (negsuc b) h k t = clash t refl
 less-shift (negsuc a) (pos b) h k t = omega arith
 less-shift (negsuc a) (negsuc b) h k t = omega (arith, ltb-true b a t)
 
-pub not-less-shift : (a b : ℤ) → Small a → Small b → ltZ a b ≡ false → shift b ≤ shift a
-unfolding shift
-not-less-shift (pos a) (pos b) h k t = omega (arith, ltb-false a b t)
-not-less-shift (pos a) (negsuc b) h k t = omega arith
-not-less-shift (negsuc a) (pos b) h k t = clash refl t
-not-less-shift (negsuc a) (negsuc b) h k t = omega (arith, ltb-false b a t)
-
 pub at-most-shift : (a b : ℤ) → Small a → Small b → leZ a b ≡ true → shift a ≤ shift b
 unfolding shift
 at-most-shift (pos a) (pos b) h k t = omega (arith, leb-true a b t)

@@ -25,8 +25,7 @@ use Rattle.base.proofs.Tests.{by-test}
 use Rattle.places.proofs.Theorems.{own-places-are}
 use Rattle.prune.proofs.Filling.{filled-at}
 use Rattle.search.proofs.Cut.{full, cutWalk, cutWalks, inserts}
-use Rattle.search.proofs.Lists.{all-map, range-below}
-use Rattle.search.proofs.Waiting.{filter-same}
+use Rattle.search.proofs.Lists.{all-map, filter-same, range-below}
 use Rattle.search.proofs.Walk.{by-outcome, enter, both}
 use Rattle.join.specs.Queue.{sooner, waits}
 use Rattle.join.specs.Serving.{entered, walkStop, byKey, follows, walkStops}

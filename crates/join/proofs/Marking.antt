@@ -6,7 +6,7 @@ use mathlib.Core.Path.{_≡_, refl, sym, _∙_}
 use native.Mathlib.Decide.{decLt}
 use native.Mathlib.Omega.{arith}
 use lib.Dec.{eqb}
-use lib.ListN.{length, getD, set, length-set, replicate, length-replicate}
+use lib.ListN.{length, getD, set, length-set}
 use lib.Seq.{getD-set-same, getD-set-other, ext-getD}
 use borrow.Author.Tests.{eqb-true, eqb-false}
 use Rattle.codec.specs.Over.{over}
@@ -15,7 +15,7 @@ use Rattle.search.specs.Plan.{Plan}
 use Rattle.search.specs.Pruning.{pruned}
 use Rattle.search.specs.Run.{mark, marks}
 use Rattle.base.proofs.Tests.{by-test}
-use Rattle.codec.proofs.Over.{length-over, getD-after, over-set}
+use Rattle.codec.proofs.Over.{length-over, getD-after}
 use Rattle.prune.proofs.Filling.{filled-at, range-length}
 use Rattle.search.proofs.Equation.{withNew, withNew-member}
 use Rattle.join.specs.Marks.{markAll}
@@ -42,14 +42,6 @@ mark-all-at ms (t ∷ ts) h i =
     same : (b : Bool) → _≡_ {A = ℕ} (cond b 2 2) 2
     same true = refl
     same false = refl
-
--- what lies under zeros does not show
-pub mark-all-under : (ms ts : List ℕ) (n : ℕ) → All (λ t. t < n) ts → over (markAll ms ts) 0 (replicate n 0) ≡ over ms 0 (replicate n 0)
-unfolding markAll
-mark-all-under ms [] n h = refl
-mark-all-under ms (t ∷ ts) n h =
-    let l = length-replicate {A = ℕ} n 0 in
-    mark-all-under (set ms t 2) ts n (h .1) ∙ over-set ms t 0 2 (replicate n 0) (omega arith) (omega (arith, h .0))
 
 module _ (G : Plan) (asked : List ℕ) where
   -- the mark of a tile, from what pruning left

@@ -7,14 +7,13 @@ use native.Mathlib.Omega.{arith}
 use lib.ListN.{length, take, replicate, length-replicate, getD-replicate}
 use lib.Seq.{take-append-add}
 use Rattle.codec.specs.Over.{over}
-use Rattle.codec.specs.Tabulate.{tabulate}
 use Rattle.search.specs.Plan.{Plan}
 use Rattle.search.specs.Run.{noPlace, padded, slices}
 use Rattle.search.specs.declared.Place.{Place}
 use Rattle.codec.proofs.Tabulate.{tabulate-const}
 use Rattle.search.proofs.Marks.{padded-length}
-use Rattle.places.specs.Places.{placeAt, places, Laid, Ready}
-use Rattle.places.proofs.Laying.{Long, laid-self, laid-place, laid-places, laid-after, Same, same-done, same-append, laid-append}
+use Rattle.places.specs.Places.{placeAt, places, Laid}
+use Rattle.places.proofs.Laying.{Long, laid-self, laid-place, laid-after, Same, same-done, same-append, laid-append}
 
 map-replicate : (show : Place → ℕ) (n : ℕ) → map show (replicate n noPlace) ≡ replicate n (show noPlace)
 map-replicate show zero = refl
@@ -53,15 +52,6 @@ clear-kept p a a′ b e h z i f g = laid-after p i (omega arith) ∙ z i (omega 
 
 -- ---- a stop
 
--- at its start the list is empty, and ready
-pub places-none : (ds ss cs : List ℕ) (at : ℕ) → places ds ss cs at 0 ≡ []
-unfolding places tabulate
-places-none ds ss cs at = refl
-
-pub ready-starts : (ds ss cs : List ℕ) (at k : ℕ) → 0 < k → Long ds ss cs (at + k) → Ready ds ss cs at 0 k
-unfolding places tabulate
-ready-starts ds ss cs at k some g = record { some = some; few = omega arith; d = g .0; s = g .1 .0; c = g .1 .1; sorted = tt }
-
 module _ (G : Plan) where
   open Plan G using (k)
 
@@ -84,11 +74,6 @@ module _ (G : Plan) where
         tabulate-const (placeAt ds′ ss′ cs′) noPlace (at + length l) n
         (λ i a b. laid-after p i a ∙ z i (omega arith) (omega arith)) in
         rw (padded-is l few) (laid-append p (replicate n noPlace) (rw rest at (laid-self ds′ ss′ cs′ (at + length l) n)))
-
-    pub padded-places : Long ds ss cs (at + k) → places ds′ ss′ cs′ at k ≡ padded G l
-    padded-places g =
-        let n = padded-length G l in
-        rw n at (laid-places laid-padded (omega arith, (omega arith, omega arith)))
 
     -- the list of a stop is laid, and those of the later stops are left
     pub stop-turn : (ls : List (List Place)) → Same ds ss cs at (slices G (l ∷ ls)) ds′ ss′ cs′ (at + k) (slices G ls)

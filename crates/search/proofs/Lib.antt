@@ -21,4 +21,3 @@ pub mod Theorems
 pub mod Cases
 -- for the code of the join
 pub mod Cut
-pub mod Waiting

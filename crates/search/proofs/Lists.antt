@@ -156,6 +156,13 @@ unfolding filter
 filter-id q [] h = refl
 filter-id q (x ∷ l) h = rw (h .0) (ap (λ r. x ∷ r) (filter-id q l (h .1)))
 
+-- two tests that agree on the list
+pub filter-same : {A : Type 0} (p q : A → Bool) (l : List A) → All (λ x. p x ≡ q x) l → filter p l ≡ filter q l
+unfolding filter
+filter-same p q [] h = refl
+filter-same p q (x ∷ l) h = rw (h .0)
+    (by-test (q x) (λ e. rw e (ap (λ r. x ∷ r) (filter-same p q l (h .1)))) (λ e. rw e (filter-same p q l (h .1))))
+
 -- those that fail, then those that pass
 pub filter-split : {A : Type 0} (q : A → Bool) (l : List A) → List·Permᴰ l (filter (λ x. not (q x)) l ++ filter q l)
 unfolding filter
