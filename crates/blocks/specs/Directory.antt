@@ -47,9 +47,12 @@ tilesDue t first blocks = (leb 1 t && leb t maxTiles) && (eqb t first && eqb (di
 unfoldable pub directoryPadding : List ℕ → ℕ → Bool
 directoryPadding s n = (zeros s reservedAt payloadAt && every (entryZero s) n) && zeros s (entryOffset n) checkAt
 
--- 9: "coordinate beyond limits, low above high, or count over 40"
+-- 9: "coordinate beyond limits, low above high, or count over 40"; the writer's test too
+abbrev pub validEntry : List (List ℤ) → ℕ → Bool
+validEntry bounds count = validBox bounds && leb count maxSites
+
 unfoldable pub entryValid : List ℕ → ℕ → Bool
-entryValid s i = validBox (entryBox s i) && leb (entryCount s i) maxSites
+entryValid s i = validEntry (entryBox s i) (entryCount s i)
 
 -- the directory block with bytes s at position p, of a file with this many blocks whose block 0 has T = first; gives T
 unfoldable pub directoryBlock : List ℕ → ℕ → ℕ → ℕ → Outcome ℕ

@@ -17,10 +17,6 @@ unfolding bytes
 length-bytes zero n = refl
 length-bytes (suc k) n = ap suc (length-bytes k (n / 256))
 
-pub length-bytes32 : (n : ℕ) → length (bytes32 n) ≡ 4
-unfolding bytes32
-length-bytes32 n = length-bytes 4 n
-
 -- ---- over the width: k bytes from an index on, as a number, and how many numbers k bytes have
 unfoldable numberAt : ℕ → List ℕ → ℕ → ℕ
 numberAt zero s at = 0

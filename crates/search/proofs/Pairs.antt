@@ -1,8 +1,8 @@
 -- Pairs of numbers in order: what the test `lex` says, and that it is an order.
-use Prim.Native.Nat.{ℕ, _+_, _/_, _≤_, _<_}
+use Prim.Native.Nat.{ℕ, _/_, _≤_, _<_}
 use mathlib.Core.Bool.{true, false, not}
 use mathlib.Core.Logic.{_⊎_, inl, inr, _≢_}
-use mathlib.Core.Path.{_≡_, refl, sym}
+use mathlib.Core.Path.{_≡_, refl}
 use native.Mathlib.Omega.{arith}
 use lib.Dec.{ltb, eqb}
 use borrow.Author.Tests.{ltb-true, ltb-false, eqb-true, eqb-false, lt-ltb, le-ltb, eq-eqb, ne-eqb}
@@ -96,22 +96,6 @@ lex-not-less {a} {b} {c} {d} h g = lex-no a b c d go
     go : Ahead a b c d → ⊥
     go (inl u) = omega arith
     go (inr u) = omega arith
-
--- behind (c, d) is ahead of (a, b), exactly if (a, b) is not ahead of (c, d + 1)
-pub lex-flip : (a b c d : ℕ) → not (lex a b c (d + 1)) ≡ lex c d a b
-lex-flip a b c d = by-test (lex c d a b)
-    (λ e. rw (e, lex-no a b c (d + 1) (not-both (lex-ahead c d a b e))))
-    (λ e. rw (e, one (lex-behind c d a b e)))
-  where
-    not-both : Ahead c d a b → Ahead a b c (d + 1) → ⊥
-    not-both (inl h) (inl g) = omega arith
-    not-both (inl h) (inr g) = omega arith
-    not-both (inr h) (inl g) = omega arith
-    not-both (inr h) (inr g) = omega arith
-
-    one : Behind c d a b → lex a b c (d + 1) ≡ true
-    one (inl h) = lex-less b (d + 1) h
-    one (inr h) = lex-same (sym (h .0)) (omega arith)
 
 -- ---- a second part in units of a tile
 

@@ -37,10 +37,6 @@ module _ (G : Plan) where
     negtrans = λ a b c. lex-negtrans (minDist p (box a)) a (minDist p (box b)) b (minDist p (box c)) c;
   }
 
-  pub by-key-tight : (p : Stop) → Tight (byKey G p) (λ t. Unit {0})
-  unfolding byKey
-  by-key-tight p a b x y e f = lex-tight (minDist p (box a)) a (minDist p (box b)) b e f .1
-
   -- ---- the places of a list of tiles
 
   pub placesOf-append : (p : Stop) (g : Town G) (ts us : List ℕ)

@@ -6,10 +6,11 @@ use lib.Dec.{eqb, leb}
 use lib.IntN.{ℤ}
 use lib.ListN.{length}
 use Rattle.base.specs.Refusal.{Outcome, accepted, refused, require, andThen, #tiles, #box, #stray, #short, #supply}
-use Rattle.blocks.specs.Layout.{maxSites, maxTiles}
+use Rattle.blocks.specs.Directory.{validEntry}
+use Rattle.blocks.specs.Layout.{maxTiles}
 use Rattle.codec.specs.Every.{every}
 use Rattle.codec.specs.Over.{over}
-use Rattle.geometry.specs.Box.{validBox, inside}
+use Rattle.geometry.specs.Box.{inside}
 use Rattle.writer.specs.Encode.{fileBytes, fileLength}
 use Rattle.writer.specs.Supply.{Supply, tilesOf, numbersPerBox, boxOf, countOf, offset, total, pointOf}
 
@@ -17,9 +18,9 @@ use Rattle.writer.specs.Supply.{Supply, tilesOf, numbersPerBox, boxOf, c
 unfoldable pub tilesFit : ℕ → Bool
 tilesFit t = leb 1 t && leb t maxTiles
 
--- 9 of tile t: "coordinate beyond limits, low above high, or count over 40"
+-- 9 of tile t: the directory's test of its entry
 unfoldable pub entryFits : List ℤ → List ℕ → ℕ → Bool
-entryFits boxes counts t = validBox (boxOf boxes t) && leb (countOf counts t) maxSites
+entryFits boxes counts t = validEntry (boxOf boxes t) (countOf counts t)
 
 -- 15: "a site list's length is not the sum of counts"
 unfoldable pub listsFit : ℕ → ℕ → ℕ → ℕ → Bool
