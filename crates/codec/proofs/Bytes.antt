@@ -5,17 +5,12 @@ use mathlib.Core.Path.{_≡_, refl, sym, ap, _∙_}
 use native.Mathlib.Nat.{not-suc-le-zero}
 use native.Mathlib.Omega.{arith}
 use lib.IntN.{ℤ}
-use lib.ListN.{length, getD}
+use lib.ListN.{getD}
 use lib.Signed.{mag}
 use Rattle.codec.specs.Bytes.{bytes, bytes16, bytes32, bits, bytesSigned}
 use Rattle.codec.specs.Number.{u16At, u32At, signed, i32At}
 use Rattle.codec.proofs.Holds.{Holds, holds-run, holds-cons, holds-head, holds-tail}
 use Rattle.codec.proofs.Number.{bits-small, bits-signed, signed-bits}
-
-pub length-bytes : (k n : ℕ) → length (bytes k n) ≡ k
-unfolding bytes
-length-bytes zero n = refl
-length-bytes (suc k) n = ap suc (length-bytes k (n / 256))
 
 -- ---- over the width: k bytes from an index on, as a number, and how many numbers k bytes have
 unfoldable numberAt : ℕ → List ℕ → ℕ → ℕ
