@@ -1,11 +1,17 @@
-# make run: the main job. make test: every test; its last line is the verdict of `rt ci`.
-.PHONY: run test
+# make run: the program on a sample town. make lib: the library for hosts in C. make test: everything; its last line is the
+# verdict of `rt ci`.
+.PHONY: run lib test
 
 run:
 	@mkdir -p target
-	@rt check cases >target/run.log 2>&1 || { cat target/run.log; exit 1; }
-	@target/bin/cases
+	@echo "proving and building the program; the first time takes some minutes"
+	@rt check nearby >target/run.log 2>&1 || { cat target/run.log; exit 1; }
+	python3 examples/ask.py samples/riverside.town 3 1200,3000 2600,3100 4100,3200 5600,3200 | target/bin/nearby
+
+lib:
+	@mkdir -p target
+	@rt staticlib host >target/lib.log 2>&1 || { cat target/lib.log; exit 1; }
+	@echo "target/staticlib/libhost.a, with include/nearby.h"
 
 test:
-	@rt fmt --check
-	@rt ci
+	@tests/run.sh

@@ -145,7 +145,8 @@ fn margin_points(o: [[i32; 2]; 2], e: [[i32; 2]; 2], b: [[i32; 2]; 2]) -> Margin
     }
 }
 
-fn valid_boxes(o: [[i32; 2]; 2], e: [[i32; 2]; 2], b: [[i32; 2]; 2]) -> bool
+// Whether all three boxes are valid.
+pub fn valid_boxes(o: [[i32; 2]; 2], e: [[i32; 2]; 2], b: [[i32; 2]; 2]) -> bool
     ensures { λ r. ⌜ r ≡ ((validBox o && validBox e) && validBox b) ⌝ }
 {
     both(

@@ -1,0 +1,2 @@
+pub mod Cab
+pub mod Reports

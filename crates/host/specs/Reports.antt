@@ -1,0 +1,27 @@
+-- What C gets of an outcome: the number 0 and the call's values, or the refusal's number and block, and every value 0.
+use Prim.Native.Nat.{ℕ}
+use Rattle.base.specs.Refusal.{Outcome, accepted, refused}
+use Rattle.join.specs.Join.{Result}
+use Rattle.prune.specs.Prune.{Counts}
+use Rattle.host.specs.declared.reports.JoinReport.{JoinReport}
+use Rattle.host.specs.declared.reports.PruneReport.{PruneReport}
+use Rattle.host.specs.declared.reports.ValidateReport.{ValidateReport}
+use Rattle.host.specs.declared.reports.WriteReport.{WriteReport}
+
+abbrev pub joinReport : Outcome Result → JoinReport
+joinReport (accepted r) = record { number = 0; block = 0; used = r .used; tiles = r .tiles; opened = r .opened; pruned = r .pruned }
+joinReport (refused number block) = record { number = number; block = block; used = 0; tiles = 0; opened = 0; pruned = 0 }
+
+abbrev pub pruneReport : Outcome Counts → PruneReport
+pruneReport (accepted c) = record { number = 0; block = 0; tiles = c .tiles; pruned = c .pruned }
+pruneReport (refused number block) = record { number = number; block = block; tiles = 0; pruned = 0 }
+
+-- of a full check: T
+abbrev pub validateReport : Outcome ℕ → ValidateReport
+validateReport (accepted tiles) = record { number = 0; block = 0; tiles = tiles }
+validateReport (refused number block) = record { number = number; block = block; tiles = 0 }
+
+-- of the writer: "the file's length in bytes"
+abbrev pub writeReport : Outcome ℕ → WriteReport
+writeReport (accepted length) = record { number = 0; block = 0; length = length }
+writeReport (refused number block) = record { number = number; block = block; length = 0 }

@@ -1,0 +1,66 @@
+// The two calls of the cab's sound host.
+ghost use mathlib.Core.Path.{_≡_};
+ghost use Rattle.host.specs.Cab.{blockCheck, boxOf, marginNumber};
+use blocks::checksum;
+use blocks::layout;
+use geometry::margin;
+
+// What `nearby_margin` gives for a bad box: no margin is so large.
+pub const BAD_BOX: i64 = 9_000_000_000_000_000_000;
+
+// 0 where the slice is a block with the right first byte and check; else 1, 2 or 3 of the table.
+#[no_mangle]
+pub extern "C" fn nearby_block_check(block: &[u8]) -> u32
+    ensures { λ r. ⌜ r ≡ blockCheck (now (block .entry)) ⌝ }
+{
+    if block.len() != layout::BLOCK_SIZE {
+        return base::LENGTH;
+    }
+    if block[0] != layout::SYNC_BYTE {
+        return base::SYNC;
+    }
+    if !checksum::agrees(block) {
+        return base::CHECK;
+    }
+    0
+}
+
+// A box from its ends: 0 is a low end, 1 a high end.
+pub fn box_of(x0: i32, x1: i32, y0: i32, y1: i32) -> [[i32; 2]; 2]
+    ensures { λ r. ⌜ r ≡ boxOf x0 x1 y0 y1 ⌝ }
+{
+    [[x0, x1], [y0, y1]]
+}
+
+fn margin_or_bad(o: [[i32; 2]; 2], e: [[i32; 2]; 2], b: [[i32; 2]; 2]) -> i64
+    ensures { λ r. ⌜ r ≡ marginNumber o e b ⌝ }
+{
+    if !margin::valid_boxes(o, e, b) {
+        return BAD_BOX;
+    }
+    margin::margin_within(o, e, b)
+}
+
+// The margin of three boxes, each low x, high x, low y, high y; `BAD_BOX` if a box is bad.
+#[no_mangle]
+pub extern "C" fn nearby_margin(
+    ox0: i32,
+    ox1: i32,
+    oy0: i32,
+    oy1: i32,
+    ex0: i32,
+    ex1: i32,
+    ey0: i32,
+    ey1: i32,
+    bx0: i32,
+    bx1: i32,
+    by0: i32,
+    by1: i32,
+) -> i64
+    ensures { λ r. ⌜ r ≡ marginNumber (boxOf ox0 ox1 oy0 oy1) (boxOf ex0 ex1 ey0 ey1) (boxOf bx0 bx1 by0 by1) ⌝ }
+{
+    let o = box_of(ox0, ox1, oy0, oy1);
+    let e = box_of(ex0, ex1, ey0, ey1);
+    let b = box_of(bx0, bx1, by0, by1);
+    margin_or_bad(o, e, b)
+}

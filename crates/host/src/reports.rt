@@ -1,0 +1,122 @@
+// The answers as C gets them, by value: the number 0 and the values, or the number and block of the refusal and zeros.
+ghost use mathlib.Core.Path.{_≡_};
+ghost use Rattle.blocks.specs.Outcome.{answerOutcome};
+ghost use Rattle.join.specs.Join.{joinOutcome};
+ghost use Rattle.prune.specs.Prune.{pruneOutcome};
+ghost use Rattle.host.specs.Reports.{joinReport, pruneReport, validateReport, writeReport};
+use blocks::block::Answer;
+use join::call::JoinAnswer;
+use prune::call::PruneAnswer;
+
+#[repr(C)]
+pub struct JoinReport {
+    pub number: u32,
+    pub block: u32,
+    pub used: u32,
+    pub tiles: u32,
+    pub opened: u32,
+    pub pruned: u32,
+}
+
+#[repr(C)]
+pub struct PruneReport {
+    pub number: u32,
+    pub block: u32,
+    pub tiles: u32,
+    pub pruned: u32,
+}
+
+#[repr(C)]
+pub struct ValidateReport {
+    pub number: u32,
+    pub block: u32,
+    pub tiles: usize,
+}
+
+#[repr(C)]
+pub struct WriteReport {
+    pub number: u32,
+    pub block: u32,
+    pub length: usize,
+}
+
+pub fn report_join(answer: JoinAnswer) -> JoinReport
+    ensures { λ r. ⌜ r ≡ joinReport (joinOutcome answer) ⌝ }
+{
+    match answer {
+        JoinAnswer::Joined {
+            used,
+            tiles,
+            opened,
+            pruned,
+        } => JoinReport {
+            number: 0,
+            block: 0,
+            used,
+            tiles,
+            opened,
+            pruned,
+        },
+        JoinAnswer::Refused(r) => JoinReport {
+            number: r.number,
+            block: r.block,
+            used: 0,
+            tiles: 0,
+            opened: 0,
+            pruned: 0,
+        },
+    }
+}
+
+pub fn report_prune(answer: PruneAnswer) -> PruneReport
+    ensures { λ r. ⌜ r ≡ pruneReport (pruneOutcome answer) ⌝ }
+{
+    match answer {
+        PruneAnswer::Pruned { tiles, pruned } => PruneReport {
+            number: 0,
+            block: 0,
+            tiles,
+            pruned,
+        },
+        PruneAnswer::Refused(r) => PruneReport {
+            number: r.number,
+            block: r.block,
+            tiles: 0,
+            pruned: 0,
+        },
+    }
+}
+
+pub fn report_validate(answer: Answer) -> ValidateReport
+    ensures { λ r. ⌜ r ≡ validateReport (answerOutcome answer) ⌝ }
+{
+    match answer {
+        Answer::Accepted(tiles) => ValidateReport {
+            number: 0,
+            block: 0,
+            tiles,
+        },
+        Answer::Refused(r) => ValidateReport {
+            number: r.number,
+            block: r.block,
+            tiles: 0,
+        },
+    }
+}
+
+pub fn report_write(answer: Answer) -> WriteReport
+    ensures { λ r. ⌜ r ≡ writeReport (answerOutcome answer) ⌝ }
+{
+    match answer {
+        Answer::Accepted(length) => WriteReport {
+            number: 0,
+            block: 0,
+            length,
+        },
+        Answer::Refused(r) => WriteReport {
+            number: r.number,
+            block: r.block,
+            length: 0,
+        },
+    }
+}

@@ -1,0 +1,51 @@
+use Prim.Native.Nat.{_-_}
+use mathlib.Core.Path.{_≡_}
+use lib.ListN.{length}
+use borrow.Author.Needs.{needs}
+use Rattle.trials.proofs.town.draw_cues.Statement.{statement}
+use Rattle.trials.proofs.town.draw_cues.Tie as tie
+
+abbrev Inv-loop : tie.InvT-loop
+Inv-loop state₀ numbers cues₀ i₀ state cues i = length cues ≡ length cues₀
+
+abbrev μ-loop : tie.MeasureT-loop
+μ-loop state₀ numbers cues₀ i₀ state cues i = length numbers - i
+
+loop-holds : tie.Need-loop-holds Inv-loop μ-loop
+loop-holds c = search needs
+
+next-requires : tie.Need-next-requires Inv-loop μ-loop
+next-requires c κs = search needs
+
+put32-requires : tie.Need-put32-requires Inv-loop μ-loop
+put32-requires c κs = search needs
+
+add-i : tie.Need-add-i Inv-loop μ-loop
+add-i c = search needs
+
+loop-less : tie.Need-loop-less Inv-loop μ-loop
+loop-less c = search needs
+
+loop-again : tie.Need-loop-again Inv-loop μ-loop
+loop-again c = search needs
+
+same-length : tie.Need-same-length Inv-loop μ-loop
+same-length c = search needs
+
+returns : tie.Need-returns Inv-loop μ-loop
+returns c = search needs
+
+pub draw-cues-spec : {M : Type 1} → statement M
+draw-cues-spec =
+    tie.close
+    (tie.spec
+    Inv-loop
+    μ-loop
+    loop-holds
+    next-requires
+    put32-requires
+    add-i
+    loop-less
+    loop-again
+    same-length
+    returns)

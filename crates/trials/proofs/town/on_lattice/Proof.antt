@@ -1,0 +1,19 @@
+use native.Mathlib.Nat.{mod-le}
+use borrow.Author.Needs.{needs}
+use Rattle.trials.proofs.town.on_lattice.Statement.{statement}
+use Rattle.trials.proofs.town.on_lattice.Tie as tie
+
+returns : tie.Need-returns
+returns c = search needs
+
+rem-result : tie.Need-rem-result
+rem-result c = search needs
+
+sub-result : tie.Need-sub-result
+sub-result c = mod-le _ _
+
+returns-2 : tie.Need-returns-2
+returns-2 c = search needs
+
+pub on-lattice-spec : {M : Type 1} → statement M
+on-lattice-spec = tie.close (tie.spec returns rem-result sub-result returns-2)

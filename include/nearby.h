@@ -1,0 +1,138 @@
+/* Violetjoist for hosts in C: the k nearest sound sites of each stop, from a town's file.
+ *
+ * Link with target/staticlib/libhost.a (`make lib`). Every function here is proved against its definition in
+ * crates/host/specs; this header says the same in words.
+ *
+ * For all functions:
+ * - A slice is a pointer and the number of its elements. The pointer is not NULL, not even for 0 elements, and has that many
+ *   elements behind it. Slices that are written do not overlap any other.
+ * - Whatever the slices and numbers hold, a call returns, reads and writes nothing outside the slices, keeps no pointer and
+ *   allocates nothing. Calls on different slices may run at the same time. A call takes less than 128 KiB of stack.
+ * - A file is the blocks of a town, as nearby_write makes them. A coordinate is a whole number of centimetres from
+ *   -1,000,000 to 1,000,000. Distances are squared.
+ */
+#ifndef NEARBY_H
+#define NEARBY_H
+
+#include <stddef.h>
+#include <stdint.h>
+
+#ifdef __cplusplus
+extern "C" {
+#endif
+
+/* The number of a refusal; 0 is an answer. The block is the position in the file of the block refused, from 0; it is 0 for
+ * NEARBY_LENGTH, for NEARBY_K to NEARBY_SUPPLY, for the box of nearby_prune, and for every refusal by nearby_write. */
+enum {
+    NEARBY_OK = 0,
+    NEARBY_LENGTH = 1,   /* file of 0 bytes, not a multiple of 512, or over 512,000 */
+    NEARBY_SYNC = 2,     /* byte 0 of a block */
+    NEARBY_CHECK = 3,    /* bytes 510-511 of a block */
+    NEARBY_KIND = 4,     /* not the kind of block due at this position */
+    NEARBY_POSITION = 5, /* a block that says another position */
+    NEARBY_TILES = 6,    /* number of tiles 0, over 960, unlike block 0, or not that of the file's blocks */
+    NEARBY_ENTRIES = 7,  /* number of entries not as due */
+    NEARBY_PADDING = 8,  /* a byte due to be zero is not */
+    NEARBY_BOX = 9,      /* coordinate beyond the limits, low above high, or more than 40 sites */
+    NEARBY_STRAY = 10,   /* a site outside its tile's box */
+    NEARBY_K = 11,       /* k is 0 or over 64 */
+    NEARBY_STOPS = 12,   /* no stop, over 256 stops, or unequal x and y slices */
+    NEARBY_SPOT = 13,    /* a stop beyond the limits */
+    NEARBY_SHORT = 14,   /* an output slice is too short */
+    NEARBY_SUPPLY = 15   /* the writer's lists do not fit together */
+};
+
+enum {
+    NEARBY_BLOCK_SIZE = 512,
+    NEARBY_MAX_TILES = 960,
+    NEARBY_MAX_SITES = 40, /* in a tile */
+    NEARBY_MAX_STOPS = 256,
+    NEARBY_MAX_K = 64,
+    NEARBY_MAX_FILE = 512000 /* bytes */
+};
+
+/* What nearby_margin gives for a bad box. No margin is so large. */
+#define NEARBY_BAD_BOX INT64_C(9000000000000000000)
+
+/* Whether the slice is a block with the right first byte and check: NEARBY_OK, or the first that applies of
+ * NEARBY_LENGTH (not 512 bytes), NEARBY_SYNC, NEARBY_CHECK. The kind and the content of the block are not looked at. */
+uint32_t nearby_block_check(const uint8_t *block, size_t block_len);
+
+/* The margin of boxes O, E and B, each low x, high x, low y, high y: the largest D(o,e) - D(o,b) over their whole-number
+ * points o, e, b. Below 0 exactly when, from every point of O, all of E is nearer than all of B.
+ * NEARBY_BAD_BOX if a coordinate is beyond the limits or a low end above its high end. */
+int64_t nearby_margin(int32_t ox0, int32_t ox1, int32_t oy0, int32_t oy1,
+                      int32_t ex0, int32_t ex1, int32_t ey0, int32_t ey1,
+                      int32_t bx0, int32_t bx1, int32_t by0, int32_t by1);
+
+struct nearby_joined {
+    uint32_t number; /* NEARBY_OK, or the refusal; then block says where, and the other numbers are 0 */
+    uint32_t block;
+    uint32_t used;   /* places used for each stop: the smaller of k and the number of all sites */
+    uint32_t tiles;  /* T, the tiles of the file */
+    uint32_t opened; /* tiles whose block was read: as many marks are 2 */
+    uint32_t pruned; /* tiles that the directory alone rules out: as many marks are 1 */
+};
+
+/* The k nearest sites of each stop. Stop i is at (x[i], y[i]); place j of stop i is element i * k + j of dist (squared
+ * distance), site (tile * 40 + slot) and cue, nearest first, then by tile, then by slot. Places past `used` are 0.
+ * marks has a byte for each tile: 2 opened, 1 ruled out, 0 neither.
+ *
+ * Needs n * k elements in dist, site and cue, and T in marks. Elements past these never change.
+ * Refuses, first that applies: NEARBY_LENGTH; of each directory block NEARBY_SYNC to NEARBY_BOX; NEARBY_K, NEARBY_STOPS,
+ * NEARBY_SPOT, NEARBY_SHORT: all four slices are as they were. Then, of a tile that had to be opened, NEARBY_SYNC,
+ * NEARBY_CHECK, NEARBY_KIND, NEARBY_POSITION, NEARBY_ENTRIES, NEARBY_PADDING, NEARBY_STRAY: the first n * k places and T
+ * marks are 0. A tile that is not opened may hold anything: the answer does not depend on it. */
+struct nearby_joined nearby_join(const uint8_t *file, size_t file_len,
+                                 const int32_t *x, size_t x_len, const int32_t *y, size_t y_len, uint32_t k,
+                                 uint64_t *dist, size_t dist_len, uint32_t *site, size_t site_len,
+                                 uint32_t *cue, size_t cue_len, uint8_t *marks, size_t marks_len);
+
+struct nearby_pruned {
+    uint32_t number;
+    uint32_t block;
+    uint32_t tiles;
+    uint32_t pruned;
+};
+
+/* Marks with 1 each tile that cannot hold one of the k nearest sites of any point of the box x0..x1 by y0..y1, from the
+ * directory alone: the tiles nearer than it from the box have k sites or more. The others are marked 0.
+ *
+ * Needs T elements in marks; elements past these never change. Refuses, first that applies: NEARBY_LENGTH; of each directory
+ * block NEARBY_SYNC to NEARBY_BOX; NEARBY_K; NEARBY_BOX for the box (block 0); NEARBY_SHORT. Then marks is as it was. */
+struct nearby_pruned nearby_prune(const uint8_t *file, size_t file_len,
+                                  int32_t x0, int32_t x1, int32_t y0, int32_t y1, uint32_t k,
+                                  uint8_t *marks, size_t marks_len);
+
+struct nearby_validated {
+    uint32_t number;
+    uint32_t block;
+    size_t tiles;
+};
+
+/* The full check: the directory, then every tile in order. Gives T or the first refusal: NEARBY_LENGTH; of each directory
+ * block NEARBY_SYNC to NEARBY_BOX; of each tile as an opening of nearby_join. A file passes exactly when nearby_write makes it
+ * from some town. */
+struct nearby_validated nearby_validate(const uint8_t *file, size_t file_len);
+
+struct nearby_written {
+    uint32_t number;
+    uint32_t block; /* always 0 */
+    size_t length;  /* of the file, in bytes: 512 * (T + T/24 rounded up) */
+};
+
+/* Writes the file of a town to the start of out. T is counts_len; boxes has four numbers for each tile: low x, low y, high x,
+ * high y (in this order); x, y and cues have the sites of all tiles, tile after tile.
+ *
+ * Needs the file's length in out; bytes past it never change. Refuses, first that applies: NEARBY_TILES (T is 0 or over 960),
+ * NEARBY_SUPPLY (not four numbers a tile), NEARBY_BOX, NEARBY_SUPPLY (x, y or cues not as long as the counts add up to),
+ * NEARBY_STRAY, NEARBY_SHORT. Then out is as it was. */
+struct nearby_written nearby_write(const int32_t *boxes, size_t boxes_len, const uint32_t *counts, size_t counts_len,
+                                   const int32_t *x, size_t x_len, const int32_t *y, size_t y_len,
+                                   const uint32_t *cues, size_t cues_len, uint8_t *out, size_t out_len);
+
+#ifdef __cplusplus
+}
+#endif
+
+#endif

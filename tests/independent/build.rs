@@ -1,0 +1,13 @@
+//! Links the static library of the engine.
+
+use std::env;
+use std::path::Path;
+
+fn main() {
+    let here = env::var("CARGO_MANIFEST_DIR").expect("cargo sets CARGO_MANIFEST_DIR");
+    let folder = Path::new(&here).join("../../target/staticlib");
+    println!("cargo:rustc-link-search=native={}", folder.display());
+    println!("cargo:rustc-link-lib=static=host");
+    println!("cargo:rerun-if-changed={}", folder.join("libhost.a").display());
+    println!("cargo:rerun-if-changed=build.rs");
+}

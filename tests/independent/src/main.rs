@@ -1,0 +1,72 @@
+//! Independent tests of the engine: document 01 implemented again, for obviousness, and compared with the static
+//! library and the program on generated inputs.
+//!
+//! `independent PATH_OF_NEARBY_PROGRAM [--seed S]` prints a line for each part and ends with status 0, or prints the
+//! part, the seed and the case of the first failure and ends with status 1.
+
+mod compare;
+mod damage;
+mod host;
+mod paper;
+mod parts;
+mod rng;
+mod tally;
+mod towns;
+
+use compare::Failure;
+use rng::Rng;
+use std::process::ExitCode;
+use tally::Tally;
+
+const SEED: u64 = 20_210_101;
+
+/// Prints the failure; the file of the case is saved for repeating.
+fn report(part: &str, seed: u64, failure: &Failure) {
+    println!("FAILED in part {part}, seed {seed}");
+    println!("{}", failure.text);
+    if let Some(file) = &failure.file {
+        let path = std::env::temp_dir().join(format!("independent-failure-{part}.bin"));
+        match std::fs::write(&path, file) {
+            Ok(()) => println!("the input of {} bytes is in {}", file.len(), path.display()),
+            Err(error) => println!("the input of {} bytes could not be saved: {error}", file.len()),
+        }
+    }
+}
+
+fn main() -> ExitCode {
+    let arguments: Vec<String> = std::env::args().skip(1).collect();
+    let (program, seed) = match arguments.as_slice() {
+        [program] => (program.clone(), Some(SEED)),
+        [program, flag, seed] if flag == "--seed" => (program.clone(), seed.parse().ok()),
+        _ => (String::new(), None),
+    };
+    let Some(seed) = seed else {
+        println!("use: independent PATH_OF_NEARBY_PROGRAM [--seed S]");
+        return ExitCode::from(2);
+    };
+    let mut tally = Tally::default();
+    type Part<'a> = (&'a str, Box<dyn Fn(&mut Rng, &mut Tally) -> Result<String, Failure> + 'a>);
+    let parts: [Part; 9] = [
+        ("margins", Box::new(|rng, _| parts::margins::run(rng))),
+        ("checks", Box::new(parts::checks::run)),
+        ("writing", Box::new(parts::writing::run)),
+        ("damaged", Box::new(parts::damaged::run)),
+        ("joins", Box::new(parts::joins::run)),
+        ("strikes", Box::new(parts::strikes::run)),
+        ("unread", Box::new(parts::unread::run)),
+        ("numbers", Box::new(|_, tally| tally.verdict().map_err(Failure::new))),
+        ("program", Box::new(|rng, _| parts::programs::run(&program, rng))),
+    ];
+    for (at, (name, part)) in parts.iter().enumerate() {
+        // Each part has a generator of its own, so that a change in one leaves the cases of the others.
+        let mut rng = Rng::new(seed.wrapping_add(at as u64 * 1_000_003));
+        match part(&mut rng, &mut tally) {
+            Ok(line) => println!("{name}: {line}"),
+            Err(failure) => {
+                report(name, seed, &failure);
+                return ExitCode::from(1);
+            }
+        }
+    }
+    ExitCode::SUCCESS
+}

@@ -1,0 +1,131 @@
+//! "The writer takes boxes, counts, and x, y, cue lists in tile order, and writes the file; later bytes stay."
+
+use super::blocks::{check, DIRECTORY, SIZE, SYNC, TILE};
+use super::boxes::{good_box, inside};
+use super::directory::{directory_blocks, MOST_SITES, MOST_TILES, PER_BLOCK};
+use super::{refuse, Box2, Refusal, Town};
+
+/// The writer's lists.
+#[derive(Clone, Debug)]
+pub struct Supply {
+    /// "4 numbers for each tile, in the directory's order": low x, low y, high x, high y.
+    pub boxes: Vec<i32>,
+    pub counts: Vec<u32>,
+    pub x: Vec<i32>,
+    pub y: Vec<i32>,
+    pub cues: Vec<u32>,
+}
+
+impl Supply {
+    pub fn of(town: &Town) -> Supply {
+        let all = || town.sites.iter().flatten();
+        Supply {
+            boxes: town
+                .entries
+                .iter()
+                .flat_map(|e| [e.bounds[0][0], e.bounds[1][0], e.bounds[0][1], e.bounds[1][1]])
+                .collect(),
+            counts: town.entries.iter().map(|e| e.count as u32).collect(),
+            x: all().map(|s| s.at[0]).collect(),
+            y: all().map(|s| s.at[1]).collect(),
+            cues: all().map(|s| s.cue).collect(),
+        }
+    }
+
+    fn bounds(&self, tile: usize) -> Box2 {
+        let four = &self.boxes[4 * tile..4 * tile + 4];
+        [[four[0], four[2]], [four[1], four[3]]]
+    }
+}
+
+/// Sets the check of a block.
+pub fn repair(block: &mut [u8]) {
+    let (a, c) = check(block);
+    block[510] = a;
+    block[511] = c;
+}
+
+/// "Byte 0: D6 hex. Byte 1: kind. Bytes 2-3: the block's position in the file. Bytes 4-5: entries. Bytes 6-7: T ...
+/// in a directory block; zero in a tile. Payload at 16-495. Check at 510-511. All else zero".
+fn block(kind: u8, position: usize, entries: usize, tiles: usize, payload: &[u8]) -> Vec<u8> {
+    let mut block = vec![0; SIZE];
+    block[0] = SYNC;
+    block[1] = kind;
+    block[2..4].copy_from_slice(&(position as u16).to_le_bytes());
+    block[4..6].copy_from_slice(&(entries as u16).to_le_bytes());
+    block[6..8].copy_from_slice(&(tiles as u16).to_le_bytes());
+    block[16..16 + payload.len()].copy_from_slice(payload);
+    repair(&mut block);
+    block
+}
+
+/// "Order: 6, 15 (boxes are not 4 numbers for each tile, in the directory's order), 9, 15 (a site list's length is
+/// not the sum of counts), 10, 14; refused, it writes nothing." Gives "the file's length in bytes".
+pub fn write(supply: &Supply, out: &mut [u8]) -> Result<usize, Refusal> {
+    // "T is the number of counts."
+    let tiles = supply.counts.len();
+    if tiles == 0 || tiles > MOST_TILES {
+        return refuse(6, 0);
+    }
+    if supply.boxes.len() != 4 * tiles {
+        return refuse(15, 0);
+    }
+    if (0..tiles).any(|t| !good_box(supply.bounds(t)) || supply.counts[t] > MOST_SITES as u32) {
+        return refuse(9, 0);
+    }
+    let all: usize = supply.counts.iter().map(|c| *c as usize).sum();
+    if supply.x.len() != all || supply.y.len() != all || supply.cues.len() != all {
+        return refuse(15, 0);
+    }
+    let mut tile_of = Vec::new();
+    for tile in 0..tiles {
+        for _ in 0..supply.counts[tile] {
+            tile_of.push(tile);
+        }
+    }
+    if (0..all).any(|s| !inside([supply.x[s], supply.y[s]], supply.bounds(tile_of[s]))) {
+        return refuse(10, 0);
+    }
+    let d = directory_blocks(tiles);
+    let length = SIZE * (d + tiles);
+    if out.len() < length {
+        return refuse(14, 0);
+    }
+
+    let mut file = Vec::new();
+    for position in 0..d {
+        let first = PER_BLOCK * position;
+        let last = tiles.min(first + PER_BLOCK);
+        let mut payload = Vec::new();
+        for tile in first..last {
+            for number in &supply.boxes[4 * tile..4 * tile + 4] {
+                payload.extend(number.to_le_bytes());
+            }
+            payload.extend((supply.counts[tile] as u16).to_le_bytes());
+            payload.extend([0, 0]);
+        }
+        file.extend(block(DIRECTORY, position, last - first, tiles, &payload));
+    }
+    let mut site = 0;
+    for tile in 0..tiles {
+        let mut payload = Vec::new();
+        for _ in 0..supply.counts[tile] {
+            payload.extend(supply.x[site].to_le_bytes());
+            payload.extend(supply.y[site].to_le_bytes());
+            payload.extend(supply.cues[site].to_le_bytes());
+            site += 1;
+        }
+        file.extend(block(TILE, d + tile, supply.counts[tile] as usize, 0, &payload));
+    }
+    out[..length].copy_from_slice(&file);
+    Ok(length)
+}
+
+/// The file of a town.
+pub fn file_of(town: &Town) -> Vec<u8> {
+    let tiles = town.entries.len();
+    let mut out = vec![0; SIZE * (directory_blocks(tiles) + tiles)];
+    let length = write(&Supply::of(town), &mut out).expect("a generated town is good");
+    assert_eq!(length, out.len());
+    out
+}

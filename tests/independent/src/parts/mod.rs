@@ -1,0 +1,23 @@
+//! The parts of the run. Each gives the line that says what it tried, or the case that failed.
+
+pub mod checks;
+pub mod damaged;
+pub mod joins;
+pub mod margins;
+pub mod programs;
+pub mod strikes;
+pub mod unread;
+pub mod writing;
+
+/// A number with commas between thousands.
+pub fn count(n: usize) -> String {
+    let digits = n.to_string();
+    let mut text = String::new();
+    for (i, digit) in digits.chars().enumerate() {
+        if i > 0 && (digits.len() - i) % 3 == 0 {
+            text.push(',');
+        }
+        text.push(digit);
+    }
+    text
+}

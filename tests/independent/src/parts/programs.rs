@@ -1,0 +1,208 @@
+//! The program `nearby`: its whole output for many inputs.
+
+use super::count;
+use super::joins::any_k;
+use crate::compare::Failure;
+use crate::damage;
+use crate::paper::blocks::SIZE;
+use crate::paper::directory::directory_blocks;
+use crate::paper::program::printed;
+use crate::paper::writer::file_of;
+use crate::paper::{Entry, Point, Site, Town, LIMIT};
+use crate::rng::Rng;
+use crate::towns::{self, Sort, SORTS};
+use std::io::{Read, Write};
+use std::process::{Command, Stdio};
+
+/// "k, n (unsigned, 4 bytes), n stops (x, y, signed, 4 bytes each), all little-endian, then a file"
+fn input_of(k: u32, n: u32, stops: &[Point], file: &[u8]) -> Vec<u8> {
+    let mut input = Vec::new();
+    input.extend(k.to_le_bytes());
+    input.extend(n.to_le_bytes());
+    for stop in stops {
+        input.extend(stop[0].to_le_bytes());
+        input.extend(stop[1].to_le_bytes());
+    }
+    input.extend(file);
+    input
+}
+
+struct Program<'a> {
+    path: &'a str,
+    runs: usize,
+    cut: usize,
+    refused: usize,
+}
+
+impl Program<'_> {
+    fn output(&self, input: &[u8]) -> Result<Vec<u8>, String> {
+        let mut child = Command::new(self.path)
+            .stdin(Stdio::piped())
+            .stdout(Stdio::piped())
+            .stderr(Stdio::inherit())
+            .spawn()
+            .map_err(|e| format!("{} does not start: {e}", self.path))?;
+        let mut stdin = child.stdin.take().unwrap();
+        let to_write = input.to_vec();
+        // The program may end before it has read an input that is too long: a broken pipe is no failure.
+        let writer = std::thread::spawn(move || drop(stdin.write_all(&to_write)));
+        let mut output = Vec::new();
+        child.stdout.take().unwrap().read_to_end(&mut output).map_err(|e| format!("reading: {e}"))?;
+        let status = child.wait().map_err(|e| format!("waiting: {e}"))?;
+        writer.join().map_err(|_| "the writing thread failed".to_string())?;
+        match status.code() {
+            Some(_) => Ok(output),
+            None => Err(format!("ended by a signal: {status}")),
+        }
+    }
+
+    fn agrees(&mut self, case: &str, input: &[u8]) -> Result<(), Failure> {
+        let due = printed(input);
+        let got = self.output(input).map_err(|text| Failure::with_file(text, input).case(case))?;
+        if got != due {
+            let text = format!(
+                "nearby with {} bytes on standard input: due\n{}got\n{}",
+                input.len(),
+                String::from_utf8_lossy(&due),
+                String::from_utf8_lossy(&got)
+            );
+            return Err(Failure::with_file(text, input).case(case));
+        }
+        self.runs += 1;
+        self.cut += (due == b"input\n") as usize;
+        self.refused += due.starts_with(b"refused") as usize;
+        Ok(())
+    }
+}
+
+/// "stop (0,0), k = 2, and tiles with y 0..0: tile 0 x 0..10, site (10,0) cue 7; tile 1 x -10..-4, site (-10,0) cue
+/// 8; tile 2 x 10..12, site (11,0) cue 9". Case 12.
+fn town_of_the_paper() -> Town {
+    let tiles = [([0, 10], 10, 7), ([-10, -4], -10, 8), ([10, 12], 11, 9)];
+    Town {
+        entries: tiles.iter().map(|(x, _, _)| Entry { bounds: [*x, [0, 0]], count: 1 }).collect(),
+        sites: tiles.iter().map(|(_, at, cue)| vec![Site { at: [*at, 0], cue: *cue }]).collect(),
+    }
+}
+
+fn worked_example(program: &mut Program) -> Result<(), Failure> {
+    let file = file_of(&town_of_the_paper());
+    let input = input_of(2, 1, &[[0, 0]], &file);
+    assert_eq!(printed(&input), b"tiles 3 opened 2 struck 0\nstop 0: 100 0 7; 100 40 8\n");
+    program.agrees("the worked example", &input)?;
+    // "with k = 3 they are 2, 2, 2"
+    let input = input_of(3, 1, &[[0, 0]], &file);
+    assert!(printed(&input).starts_with(b"tiles 3 opened 3 struck 0\n"));
+    program.agrees("the worked example with k = 3", &input)
+}
+
+/// Towns that fit the input: at most 65,536 bytes in all.
+fn answered(program: &mut Program, rng: &mut Rng) -> Result<(), Failure> {
+    for round in 0..12 {
+        for sort in SORTS {
+            let n = match round {
+                0 => 128,
+                1 => 1,
+                _ => 1 + rng.below(20),
+            };
+            let room = (65_536 - 8 - 8 * n) / SIZE;
+            let most = (1..room).rev().find(|t| t + directory_blocks(*t) <= room).unwrap();
+            let tiles = if round < 3 { most } else { 1 + rng.below(40) };
+            let town = towns::town(sort, tiles, rng);
+            let stops = towns::stops(&town, n, rng);
+            let k = if round == 0 { 64 } else { any_k(rng) };
+            let input = input_of(k, n as u32, &stops, &file_of(&town));
+            program.agrees(&format!("a town of sort {sort:?} with {tiles} tiles"), &input)?;
+        }
+    }
+    // "a stop without places prints `stop 0:` (its own number) alone"
+    let empty = towns::town(Sort::AllEmpty, 3, rng);
+    let input = input_of(4, 3, &[[0, 0], [1, 1], [2, 2]], &file_of(&empty));
+    assert_eq!(printed(&input), b"tiles 3 opened 0 struck 0\nstop 0:\nstop 1:\nstop 2:\n");
+    program.agrees("all tiles empty", &input)
+}
+
+/// "Too long, n over 128 (its own limit), or cut before the stops end: it prints `input`."
+fn cut(program: &mut Program, rng: &mut Rng) -> Result<(), Failure> {
+    let file = file_of(&town_of_the_paper());
+    let stops = [[0, 0], [5, 0], [-3, 0], [1, 1]];
+    let whole = input_of(2, 4, &stops, &file);
+    for length in (0..=45).chain([39, 40, 41, 551, 552, 553, whole.len() - 1, whole.len()]) {
+        program.agrees(&format!("{length} bytes of {}", whole.len()), &whole[..length])?;
+    }
+    for n in [0, 5, 127, 128, 129, 130, 256, 257, 65_536, 1 << 29, (1 << 29) + 4, 1 << 31, u32::MAX] {
+        let case = format!("n says {n}");
+        program.agrees(&case, &input_of(2, n, &stops, &file))?;
+        program.agrees(&case, &input_of(2, n, &[], &[]))?;
+        program.agrees(&case, &input_of(0, n, &[[0, 0]; 300], &file))?;
+    }
+    // Exactly 65,536 bytes, one more, and many more: n = 63 leaves 127 blocks, that is 121 tiles.
+    let town = towns::town(Sort::Dense, 121, rng);
+    let long_file = file_of(&town);
+    let stops = towns::stops(&town, 63, rng);
+    let exact = input_of(9, 63, &stops, &long_file);
+    assert_eq!(exact.len(), 65_536);
+    program.agrees("65,536 bytes", &exact)?;
+    for more in [1, 2, 511, 512, 1_000, 65_536, 500_000] {
+        let mut longer = exact.clone();
+        longer.extend(rng.bytes(more));
+        program.agrees(&format!("65,536 bytes and {more}"), &longer)?;
+    }
+    for length in [65_535, 65_537, 65_536] {
+        let random = rng.bytes(length);
+        program.agrees(&format!("{length} random bytes"), &random)?;
+        let zero = vec![0; length];
+        program.agrees(&format!("{length} zero bytes"), &zero)?;
+    }
+    Ok(())
+}
+
+/// "Refused by the join: `refused N block P`."
+fn refused(program: &mut Program, rng: &mut Rng) -> Result<(), Failure> {
+    for _ in 0..220 {
+        let tiles = rng.pick(&[1, 3, 24, 25, 50]);
+        let town = towns::town(rng.pick(&[Sort::Row, Sort::Overlapping, Sort::Dense, Sort::Ties]), tiles, rng);
+        let mut file = file_of(&town);
+        let n = 1 + rng.below(5);
+        let mut stops = towns::stops(&town, n, rng);
+        let mut k = any_k(rng);
+        let case = match rng.below(7) {
+            0 => damage::some_directory_field(&mut file, &town, rng),
+            1 => damage::wrong_length(&mut file, rng),
+            2 => {
+                k = rng.pick(&[0, 65, 1 << 31, u32::MAX]);
+                format!("k {k}")
+            }
+            3 => {
+                let at = rng.below(n);
+                stops[at][rng.below(2)] = rng.pick(&[LIMIT + 1, -LIMIT - 1, i32::MIN, i32::MAX]);
+                format!("stops {stops:?}")
+            }
+            4 => {
+                stops.clear();
+                "no stops".into()
+            }
+            _ => {
+                damage::every_tile(&mut file, &town, rng);
+                "damage in every tile".into()
+            }
+        };
+        program.agrees(&case, &input_of(k, stops.len() as u32, &stops, &file))?;
+    }
+    Ok(())
+}
+
+pub fn run(path: &str, rng: &mut Rng) -> Result<String, Failure> {
+    let mut program = Program { path, runs: 0, cut: 0, refused: 0 };
+    worked_example(&mut program)?;
+    answered(&mut program, rng)?;
+    cut(&mut program, rng)?;
+    refused(&mut program, rng)?;
+    Ok(format!(
+        "{} inputs, whole output each: {} `input`, {} refused, {} answered with the worked example among them",
+        count(program.runs),
+        count(program.cut),
+        count(program.refused),
+        count(program.runs - program.cut - program.refused)
+    ))
+}

@@ -1,0 +1,145 @@
+//! nearby_write byte for byte, its refusals in their order, and nearby_validate on what it wrote.
+
+use super::count;
+use crate::compare::{self, Failure};
+use crate::paper::blocks::SIZE;
+use crate::paper::directory::directory_blocks;
+use crate::paper::writer::Supply;
+use crate::paper::LIMIT;
+use crate::rng::Rng;
+use crate::tally::Tally;
+use crate::towns::{town, SORTS};
+
+/// Towns of every sort and many sizes: the file, later bytes as they were, and T by the full check.
+fn good_towns(rng: &mut Rng, tally: &mut Tally) -> Result<(usize, usize), Failure> {
+    let (mut towns, mut bytes) = (0, 0);
+    for sort in SORTS {
+        let mut sizes = vec![1, 1, 2, 3, 23, 24, 25, 47, 48, 49, 72, 73, 960];
+        sizes.extend((0..25).map(|_| 1 + rng.below(130)));
+        sizes.push(130 + rng.below(830));
+        for tiles in sizes {
+            let case = format!("a town of sort {sort:?} with {tiles} tiles");
+            let supply = Supply::of(&town(sort, tiles, rng));
+            let length = SIZE * (tiles + directory_blocks(tiles));
+            for later in [0, 1, rng.below(2_000)] {
+                let written = compare::write(&supply, length + later, rng, tally).map_err(|f| f.case(&case))?;
+                let file = written.expect("a good town is written");
+                let checked = compare::validate(&file, tally).map_err(|f| f.case(&case))?;
+                assert_eq!(checked, Ok(tiles));
+                towns += 1;
+                bytes += file.len();
+            }
+            let short = compare::write(&supply, length - 1, rng, tally).map_err(|f| f.case(&case))?;
+            assert_eq!(short.map_err(|r| r.number), Err(14));
+        }
+    }
+    Ok((towns, bytes))
+}
+
+/// One of the six faults, in the order of their tests: 6, 15, 9, 15, 10, 14.
+fn spoil(fault: usize, supply: &mut Supply, out_len: &mut usize, rng: &mut Rng) {
+    let tiles = supply.counts.len();
+    match fault {
+        0 => match rng.below(4) {
+            0 => supply.counts.clear(),
+            1 => {
+                supply.counts.clear();
+                supply.boxes.clear();
+            }
+            2 => supply.counts.resize(961 + rng.below(3), 0),
+            _ => {
+                supply.counts.resize(961, 0);
+                supply.boxes.resize(4 * 961, 0);
+                *out_len = 512 * (961 + 41);
+            }
+        },
+        1 => match rng.below(4) {
+            0 => supply.boxes.push(0),
+            1 => drop(supply.boxes.pop()),
+            2 => supply.boxes.truncate(supply.boxes.len().saturating_sub(4)),
+            _ => supply.boxes.extend([0, 0, 0, 0]),
+        },
+        2 => {
+            let at = rng.below(tiles.max(1));
+            match rng.below(6) {
+                0 | 1 => {
+                    if let Some(number) = supply.boxes.get_mut(4 * at + rng.below(4)) {
+                        *number = rng.pick(&[LIMIT + 1, -LIMIT - 1, i32::MAX, i32::MIN]);
+                    }
+                }
+                2 | 3 => {
+                    let axis = rng.below(2);
+                    if 4 * at + 4 <= supply.boxes.len() {
+                        supply.boxes[4 * at + axis] = supply.boxes[4 * at + axis + 2] + 1;
+                    }
+                }
+                _ => {
+                    if let Some(number) = supply.counts.get_mut(at) {
+                        *number = rng.pick(&[41, 42, 256, 65_536, 65_536 + *number, u32::MAX]);
+                    }
+                }
+            }
+        }
+        3 => match rng.below(6) {
+            0 => supply.x.push(0),
+            1 => supply.y.push(0),
+            2 => supply.cues.push(0),
+            3 => drop(supply.x.pop()),
+            4 => drop(supply.y.pop()),
+            _ => drop(supply.cues.pop()),
+        },
+        4 => {
+            // A site one outside its box, on some side, or far beyond.
+            let all = supply.x.len().min(supply.y.len());
+            let mut first = 0;
+            let tile_of: Vec<usize> = (0..tiles).flat_map(|t| vec![t; supply.counts[t].min(41) as usize]).collect();
+            if all > 0 {
+                first = rng.below(all);
+            }
+            if let (Some(tile), true) = (tile_of.get(first), first < all) {
+                let axis = rng.below(2);
+                let list = if axis == 0 { &mut supply.x } else { &mut supply.y };
+                if 4 * tile + 4 <= supply.boxes.len() {
+                    let (low, high) = (supply.boxes[4 * tile + axis], supply.boxes[4 * tile + axis + 2]);
+                    list[first] =
+                        rng.pick(&[low.wrapping_sub(1), high.wrapping_add(1), i32::MIN, i32::MAX, low.wrapping_sub(1)]);
+                }
+            }
+        }
+        _ => *out_len = rng.pick(&[0, 1, *out_len / 2, out_len.saturating_sub(1), out_len.saturating_sub(512)]),
+    }
+}
+
+/// Every set of the six faults, several times: the first in order is the number, and out is as it was.
+fn refusals(rng: &mut Rng, tally: &mut Tally) -> Result<usize, Failure> {
+    let mut refused = 0;
+    for faults in 0..64usize {
+        for round in 0..60 {
+            let sort = rng.pick(&SORTS);
+            let tiles = if round % 20 == 19 { 960 } else { 1 + rng.below(30) };
+            let mut supply = Supply::of(&town(sort, tiles, rng));
+            let mut out_len = SIZE * (tiles + directory_blocks(tiles));
+            for fault in 0..6 {
+                if faults >> fault & 1 == 1 {
+                    spoil(fault, &mut supply, &mut out_len, rng);
+                }
+            }
+            let case = format!(
+                "faults {faults:06b} (the last digit is the first fault) in a town of sort {sort:?} with {tiles} tiles"
+            );
+            refused += compare::write(&supply, out_len, rng, tally).map_err(|f| f.case(&case))?.is_err() as usize;
+        }
+    }
+    Ok(refused)
+}
+
+pub fn run(rng: &mut Rng, tally: &mut Tally) -> Result<String, Failure> {
+    let (towns, bytes) = good_towns(rng, tally)?;
+    let refused = refusals(rng, tally)?;
+    Ok(format!(
+        "{} towns of 1 to 960 tiles written and checked, {} bytes; {} refusals by one fault or several at once",
+        count(towns),
+        count(bytes),
+        count(refused)
+    ))
+}

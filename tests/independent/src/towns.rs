@@ -1,0 +1,193 @@
+//! Towns and stops of many sorts.
+
+use crate::paper::{Box2, Entry, Point, Site, Town, LIMIT};
+use crate::rng::Rng;
+
+#[derive(Clone, Copy, Debug, PartialEq, Eq)]
+pub enum Sort {
+    /// A grid of tiles that touch, with many sites.
+    Dense,
+    /// Small boxes far apart, with few sites.
+    Sparse,
+    /// Boxes of a few centimetres that overlap: many equal distances.
+    Ties,
+    /// Boxes of one point.
+    Points,
+    /// A grid with few tiles that are not empty.
+    MostlyEmpty,
+    AllEmpty,
+    /// Boxes of any size over each other.
+    Overlapping,
+    /// Boxes far larger than what their sites take up.
+    Wide,
+    /// All tiles with the same box.
+    Alike,
+    /// Boxes with ends at the limits.
+    Extreme,
+    /// Tiles in a row, as along a track, in any order.
+    Row,
+}
+
+pub const SORTS: [Sort; 11] = [
+    Sort::Dense,
+    Sort::Sparse,
+    Sort::Ties,
+    Sort::Points,
+    Sort::MostlyEmpty,
+    Sort::AllEmpty,
+    Sort::Overlapping,
+    Sort::Wide,
+    Sort::Alike,
+    Sort::Extreme,
+    Sort::Row,
+];
+
+/// Any cue, 0 and the largest among them.
+fn cue(rng: &mut Rng) -> u32 {
+    match rng.below(8) {
+        0 => 0,
+        1 => u32::MAX,
+        2 => rng.below(3) as u32,
+        _ => rng.next() as u32,
+    }
+}
+
+/// A range on one axis around a middle, kept inside the limits.
+fn around(middle: i32, reach: i32) -> [i32; 2] {
+    [(middle - reach).max(-LIMIT), (middle + reach).min(LIMIT)]
+}
+
+fn range_among(ends: &[i32], rng: &mut Rng) -> [i32; 2] {
+    let (p, q) = (rng.pick(ends), rng.pick(ends));
+    [p.min(q), p.max(q)]
+}
+
+pub fn point_in(b: Box2, rng: &mut Rng) -> Point {
+    [rng.range(b[0][0], b[0][1]), rng.range(b[1][0], b[1][1])]
+}
+
+/// Sites anywhere in the box, some on its corners.
+pub fn filling(entry: &Entry, rng: &mut Rng) -> Vec<Site> {
+    (0..entry.count)
+        .map(|_| {
+            let mut at = point_in(entry.bounds, rng);
+            for (axis, ends) in entry.bounds.iter().enumerate() {
+                if rng.chance(6) {
+                    at[axis] = ends[rng.below(2)];
+                }
+            }
+            Site { at, cue: cue(rng) }
+        })
+        .collect()
+}
+
+/// Sites close together somewhere in the box.
+fn cluster(entry: &Entry, rng: &mut Rng) -> Vec<Site> {
+    let middle = point_in(entry.bounds, rng);
+    let small = [0, 1].map(|axis| {
+        let [low, high] = entry.bounds[axis];
+        [(middle[axis] - 20).max(low), (middle[axis] + 20).min(high)]
+    });
+    filling(&Entry { bounds: small, count: entry.count }, rng)
+}
+
+fn cell(tile: usize, columns: usize, side: i32, corner: Point) -> Box2 {
+    let low = [corner[0] + (tile % columns) as i32 * side, corner[1] + (tile / columns) as i32 * side];
+    [[low[0], low[0] + side], [low[1], low[1] + side]]
+}
+
+pub fn town(sort: Sort, tiles: usize, rng: &mut Rng) -> Town {
+    let columns = (1..).find(|c| c * c >= tiles).unwrap();
+    let side = rng.pick(&[3, 50, 1_000, 20_000]);
+    let corner = [rng.range(-300_000, 100_000), rng.range(-300_000, 100_000)];
+    let same: Box2 = [around(rng.range(-500, 500), rng.range(0, 300)), around(rng.range(-500, 500), rng.range(0, 300))];
+    let mut row: Vec<usize> = (0..tiles).collect();
+    for i in (1..tiles).rev() {
+        row.swap(i, rng.below(i + 1));
+    }
+    let entries: Vec<Entry> = (0..tiles)
+        .map(|tile| {
+            let (bounds, count) = match sort {
+                Sort::Dense => (cell(tile, columns, side, corner), 25 + rng.below(16)),
+                Sort::Sparse => {
+                    let at = [rng.range(-100_000, 100_000), rng.range(-100_000, 100_000)];
+                    ([around(at[0], rng.range(0, 900)), around(at[1], rng.range(0, 900))], rng.below(4))
+                }
+                Sort::Ties => {
+                    let ends = [-4, -3, -2, -1, 0, 1, 2, 3, 4];
+                    ([range_among(&ends, rng), range_among(&ends, rng)], rng.below(9))
+                }
+                Sort::Points => {
+                    let at = [rng.range(0, 10), rng.range(0, 10)];
+                    ([[at[0], at[0]], [at[1], at[1]]], rng.pick(&[0, 1, 1, 2, 3, 40]))
+                }
+                Sort::MostlyEmpty => {
+                    (cell(tile, columns, side, corner), if rng.chance(5) { 1 + rng.below(40) } else { 0 })
+                }
+                Sort::AllEmpty => (cell(tile, columns, side, corner), 0),
+                Sort::Overlapping => {
+                    let at = [rng.range(-50_000, 50_000), rng.range(-50_000, 50_000)];
+                    ([around(at[0], rng.range(0, 20_000)), around(at[1], rng.range(0, 20_000))], rng.below(41))
+                }
+                Sort::Wide => {
+                    let at = [rng.range(-LIMIT, LIMIT), rng.range(-LIMIT, LIMIT)];
+                    let reach = rng.range(100_000, LIMIT);
+                    ([around(at[0], reach), around(at[1], reach)], rng.below(41))
+                }
+                Sort::Alike => (same, rng.below(41)),
+                Sort::Extreme => {
+                    let ends = [-LIMIT, -LIMIT, -LIMIT + 1, 0, LIMIT - 1, LIMIT, LIMIT];
+                    ([range_among(&ends, rng), range_among(&ends, rng)], rng.pick(&[0, 1, 5, 39, 40]))
+                }
+                Sort::Row => {
+                    let low = row[tile] as i32 * 100 - 5_000;
+                    ([[low, low + 80], [-20, 20]], rng.below(16))
+                }
+            };
+            Entry { bounds, count }
+        })
+        .collect();
+    let sites = entries
+        .iter()
+        .map(|entry| match sort {
+            Sort::Wide => cluster(entry, rng),
+            _ => filling(entry, rng),
+        })
+        .collect();
+    Town { entries, sites }
+}
+
+fn limited(coordinate: i64) -> i32 {
+    coordinate.clamp(-LIMIT as i64, LIMIT as i64) as i32
+}
+
+/// n stops: close together, along a line, anywhere, all the same, at the limits, in boxes, on sites.
+pub fn stops(town: &Town, n: usize, rng: &mut Rng) -> Vec<Point> {
+    let in_some_box = |rng: &mut Rng| point_in(town.entries[rng.below(town.entries.len())].bounds, rng);
+    let (from, to) = (in_some_box(rng), in_some_box(rng));
+    let reach = rng.pick(&[1, 5, 100, 5_000]);
+    let sort = rng.below(8);
+    (0..n)
+        .map(|i| match sort {
+            0 | 1 => [0, 1].map(|axis| limited(from[axis] as i64 + rng.range(-reach, reach) as i64)),
+            2 => [0, 1].map(|axis| {
+                let along = (to[axis] as i64 - from[axis] as i64) * i as i64 / n as i64;
+                limited(from[axis] as i64 + along)
+            }),
+            3 => [0, 1].map(|axis| {
+                let (p, q) = (from[axis].min(to[axis]), from[axis].max(to[axis]));
+                rng.range(p, q)
+            }),
+            4 => from,
+            5 => [rng.pick(&[-LIMIT, 0, LIMIT]), rng.pick(&[-LIMIT, 0, LIMIT])],
+            6 => in_some_box(rng),
+            _ => {
+                let sites = &town.sites[rng.below(town.sites.len())];
+                match sites.is_empty() {
+                    true => in_some_box(rng),
+                    false => sites[rng.below(sites.len())].at,
+                }
+            }
+        })
+        .collect()
+}

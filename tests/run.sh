@@ -1,0 +1,26 @@
+#!/usr/bin/env bash
+# Every test. `rt ci` comes first, since it starts from nothing and leaves what the other parts are linked from; its verdict,
+# the last line it prints, is printed again at the end, once all the other parts have passed.
+set -euo pipefail
+cd "$(dirname "$0")/.."
+log=$(mktemp)
+trap 'rm -f "$log"' EXIT
+
+# Debian packages that the parts below need, where the machine has not got them.
+missing=()
+command -v gcc >/dev/null || missing+=(gcc libc6-dev)
+command -v cargo >/dev/null || missing+=(cargo)
+command -v python3 >/dev/null || missing+=(python3)
+if [ ${#missing[@]} -gt 0 ]; then
+    apt-get update
+    apt-get install -y --no-install-recommends "${missing[@]}"
+fi
+
+rt fmt --check
+rt ci | tee "$log"
+make --no-print-directory lib
+tests/examples.sh
+docs/figures/draw.py --check
+cargo build --quiet --release --offline --manifest-path tests/independent/Cargo.toml
+tests/independent/target/release/independent target/bin/nearby
+tail -n 1 "$log"
