@@ -9,12 +9,19 @@ use lib.Seq.{slice, slice-cons, slice-empty}
 use Rattle.blocks.specs.Checksum.{sumsFrom}
 use Rattle.blocks.specs.Layout.{checkAt}
 
--- one turn of the loop, and its end
+-- a remainder may be taken at once or at the end
+remainder-a : (a w : ℕ) → (a % 255 + w) % 255 ≡ (a + w) % 255
+remainder-a a w = omega arith
+
+remainder-c : (a c w : ℕ) → (c % 255 + (a + w) % 255) % 255 ≡ (c + (a + w)) % 255
+remainder-c a c w = omega arith
+
+-- one turn of the loop, which keeps the sums whole, and its end
 module _ (s : List ℕ) (i a c : ℕ) where
   pub sums-turn : (w : ℕ) → i < checkAt → checkAt ≤ length s → w ≡ getD s i 0 →
-      sumsFrom ((a + w) % 255) ((c + (a + w) % 255) % 255) (slice (i + 1) checkAt s) ≡ sumsFrom a c (slice i checkAt s)
+      sumsFrom ((a + w) % 255) ((c + (a + w)) % 255) (slice (i + 1) checkAt s) ≡ sumsFrom (a % 255) (c % 255) (slice i checkAt s)
   unfolding sumsFrom
-  sums-turn w h l e = rw (slice-cons i checkAt s 0 h l, add-one, e)
+  sums-turn w h l e = rw (slice-cons i checkAt s 0 h l, add-one, ← e, remainder-a a w, remainder-c a c w)
 
   pub sums-end : i ≡ checkAt → sumsFrom a c (slice i checkAt s) ≡ record { a = a; c = c }
   unfolding sumsFrom

@@ -18,6 +18,7 @@ fn wide(x: u8) -> u64
     x as u64
 }
 
+// The sums are kept whole and reduced once: after 509 bytes they are still far below 64 bits.
 pub fn sums_of(s: &[u8]) -> Sums
     requires { ⌜ length (now s) ≡ blockSize ⌝ }
     ensures { λ r. ⌜ r ≡ sums (now (s .entry)) ⌝ }
@@ -26,11 +27,14 @@ pub fn sums_of(s: &[u8]) -> Sums
     let mut c: u64 = 0;
     let mut i: usize = 1;
     while i < CHECK_AT {
-        a = (a + wide(s[i])) % 255;
-        c = (c + a) % 255;
+        a += wide(s[i]);
+        c += a;
         i += 1;
     }
-    Sums { a, c }
+    Sums {
+        a: a % 255,
+        c: c % 255,
+    }
 }
 
 pub fn agrees(s: &[u8]) -> bool

@@ -1,10 +1,14 @@
 -- Numbers at a position of a list of bytes, "little-endian" (document 01, "Blocks").
-use Prim.Native.Nat.{ℕ, _+_, _*_, _-_}
+use Prim.Native.Nat.{ℕ, _+_, _*_, _-_, _<_}
 use mathlib.Core.Bool.{cond}
 use mathlib.Core.List.{List}
 use lib.Dec.{ltb}
 use lib.IntN.{ℤ, pos, negsuc}
 use lib.ListN.{getD}
+
+-- a list of bytes: every element is below 256 (past its end `getD` gives 0)
+abbrev pub Bytes : List ℕ → Type 0
+Bytes s = (i : ℕ) → getD s i 0 < 256
 
 unfoldable pub u16At : List ℕ → ℕ → ℕ
 u16At s at = getD s at 0 + 256 * getD s (at + 1) 0

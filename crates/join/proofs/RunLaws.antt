@@ -9,11 +9,12 @@ use lib.IntN.{ℤ}
 use lib.ListN.{length, getD, take, replicate, length-replicate}
 use lib.Seq.{take-at}
 use Rattle.base.specs.Refusal.{Outcome, accepted, refused, andThen}
+use Rattle.codec.specs.Number.{Bytes}
 use Rattle.codec.specs.Over.{over}
 use Rattle.geometry.specs.Box.{validPoint, inside}
 use Rattle.places.specs.Places.{dists, sites, cues}
 use Rattle.plan.specs.FilePlan.{planOf, openingOf}
-use Rattle.plan.specs.Stops.{stopsOf, around, Bytes, SmallestAround}
+use Rattle.plan.specs.Stops.{stopsOf, around, SmallestAround}
 use Rattle.prune.specs.Prune.{pruneMarks}
 use Rattle.search.specs.Lists.{range, bit, count, member, filter, All}
 use Rattle.search.specs.Plan.{Plan, Lawful}

@@ -12,11 +12,12 @@ use Rattle.base.specs.Refusal.{Outcome, accepted, refused}
 use Rattle.blocks.specs.Block.{blockAt}
 use Rattle.blocks.specs.Directory.{directory}
 use Rattle.blocks.specs.Same.{SameDirectory}
+use Rattle.codec.specs.Number.{Bytes}
 use Rattle.codec.specs.Over.{over}
 use Rattle.geometry.specs.Box.{inside}
 use Rattle.places.specs.Places.{placeAt, dists, sites, cues, Laid}
 use Rattle.plan.specs.FilePlan.{openingOf, townOf}
-use Rattle.plan.specs.Stops.{stopsOf, around, Bytes}
+use Rattle.plan.specs.Stops.{stopsOf, around}
 use Rattle.search.specs.FullSearch.{firstOf, fullSearch}
 use Rattle.search.specs.Lists.{range, All, Distinct}
 use Rattle.search.specs.Plan.{Town}

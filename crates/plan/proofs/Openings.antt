@@ -13,7 +13,7 @@ use Rattle.base.specs.Refusal.{accepted}
 use Rattle.blocks.specs.Block.{blockAt}
 use Rattle.blocks.specs.Directory.{countAt}
 use Rattle.blocks.specs.Layout.{blockSize}
-use Rattle.codec.specs.Number.{u16At, u32At}
+use Rattle.codec.specs.Number.{Bytes, u16At, u32At}
 use Rattle.codec.specs.Tabulate.{tabulate}
 use Rattle.search.specs.Lists.{All}
 use Rattle.search.specs.Plan.{Fills, Agrees}
@@ -25,7 +25,6 @@ use Rattle.base.proofs.Outcomes.{accepted-injective, andThen-accepted}
 use Rattle.base.proofs.Tests.{by-test}
 use Rattle.tiles.proofs.Theorems.{opening-exactly, opened-inside, sites-length}
 use Rattle.plan.specs.FilePlan.{planOf, openingOf, townOf}
-use Rattle.plan.specs.Stops.{Bytes}
 
 -- ---- cues
 

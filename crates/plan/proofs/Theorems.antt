@@ -10,6 +10,7 @@ use Rattle.base.specs.Refusal.{accepted}
 use Rattle.blocks.specs.Block.{blockAt}
 use Rattle.blocks.specs.Directory.{directory, boxAt, countAt}
 use Rattle.blocks.specs.Same.{SameDirectory}
+use Rattle.codec.specs.Number.{Bytes}
 use Rattle.geometry.specs.Box.{validBox, validPoint, inside}
 use Rattle.search.specs.Lists.{All}
 use Rattle.search.specs.Plan.{Lawful, Agrees}
@@ -24,7 +25,7 @@ use Rattle.search.proofs.Lists.{all-both}
 use Rattle.search.proofs.Theorems.{only-tiles, same-run}
 use Rattle.tiles.proofs.Theorems.{sites-depend, opening-depends}
 use Rattle.plan.specs.FilePlan.{planOf, openingOf, townOf}
-use Rattle.plan.specs.Stops.{stopsOf, around, Bytes, SmallestAround}
+use Rattle.plan.specs.Stops.{stopsOf, around, SmallestAround}
 use Rattle.plan.proofs.Around.{around-is}
 use Rattle.plan.proofs.Lawful.{lawful}
 use Rattle.plan.proofs.Openings.{opening-town, openings-checked, all-open, own-town}

@@ -1,10 +1,9 @@
 -- The stops of a run, and "O is the smallest box around the stops" (document 01, "The join").
-use Prim.Native.Nat.{ℕ, _<_}
 use mathlib.Core.Bool.{Bool, true, cond}
 use mathlib.Core.List.{List, [], _∷_}
 use mathlib.Core.Path.{_≡_}
 use lib.IntN.{ℤ, pos}
-use lib.ListN.{length, getD}
+use lib.ListN.{length}
 use lib.Signed.{ltZ}
 use Rattle.geometry.specs.Box.{validBox, inside}
 use Rattle.search.specs.Lists.{All}
@@ -32,10 +31,6 @@ greatest (x ∷ l) = foremost (λ a b. ltZ b a) x l
 -- the box from the least to the greatest coordinate on each axis; the theorems say that no smaller box holds the stops
 unfoldable pub around : List ℤ → List ℤ → List (List ℤ)
 around xs ys = (least xs ∷ greatest xs ∷ []) ∷ (least ys ∷ greatest ys ∷ []) ∷ []
-
--- a file is a list of bytes: every element is below 256 (past its end `getD` gives 0)
-abbrev pub Bytes : List ℕ → Type 0
-Bytes f = (i : ℕ) → getD f i 0 < 256
 
 -- o is "the smallest box around the stops" ps: a valid box that holds them, and lies in every other box that does
 pub record SmallestAround (ps : List (List ℤ)) (o : List (List ℤ)) : Type 0 where

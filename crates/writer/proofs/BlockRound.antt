@@ -15,7 +15,7 @@ use Rattle.blocks.specs.Directory.{directoryBlocks, entriesDue, entryOffset, en
 use Rattle.blocks.specs.Layout.{blockSize, kindAt, tilesAt, reservedAt, payloadAt, checkAt, entrySize, entriesPerBlock}
 use Rattle.blocks.specs.Layout.{siteSize, maxSites, maxTiles, directoryKind, tileKind}
 use Rattle.codec.specs.Every.{zeros}
-use Rattle.codec.specs.Number.{u16At}
+use Rattle.codec.specs.Number.{Bytes, u16At}
 use Rattle.codec.specs.Tabulate.{joined}
 use Rattle.geometry.specs.Box as geometry
 use Rattle.tiles.specs.Accepted.{GoodTileBlock}
@@ -25,7 +25,7 @@ use Rattle.base.proofs.Tests.{and-both, both-and, by-test}
 use Rattle.codec.proofs.Every.{every-at, every-holds, zeros-at, zeros-hold}
 use Rattle.codec.proofs.Holds.{Holds, holds-each, holds-joined}
 use Rattle.writer.specs.Encode.{entryBytes, siteBytes, directoryBytes, tileBytes}
-use Rattle.writer.specs.Made.{Bytes, Signed, Unsigned}
+use Rattle.writer.specs.Made.{Signed, Unsigned}
 use Rattle.writer.specs.Supply.{boxOf, countOf, pointOf}
 use Rattle.writer.proofs.BlockFields.{Fields, fields-read, fields-held, entry-read, entry-held, site-read, site-held}
 use Rattle.writer.proofs.EncodeLaws.{length-entry, length-site, length-entries, length-sites, due-few, due-within}

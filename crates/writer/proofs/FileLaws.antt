@@ -13,6 +13,7 @@ use Rattle.blocks.specs.Accepted.{GoodDirectoryBlock}
 use Rattle.blocks.specs.Block.{blockAt}
 use Rattle.blocks.specs.Directory.{directoryBlocks, boxAt, countAt}
 use Rattle.blocks.specs.Layout.{blockSize, entriesPerBlock, maxSites}
+use Rattle.codec.specs.Number.{Bytes}
 use Rattle.codec.specs.Tabulate.{joined}
 use Rattle.geometry.specs.Box as geometry
 use Rattle.tiles.specs.Accepted.{GoodTileBlock, GoodFile}
@@ -25,7 +26,7 @@ use Rattle.codec.proofs.Holds.{holds-joined}
 use Rattle.codec.proofs.Joined.{length-joined}
 use Rattle.writer.specs.Accepted.{GoodSupply}
 use Rattle.writer.specs.Encode.{directoryBytes, tileBytesOf, fileBytes, fileLength}
-use Rattle.writer.specs.Made.{Bytes, Typed}
+use Rattle.writer.specs.Made.{Typed}
 use Rattle.writer.specs.Supply.{Supply, tilesOf, boxOf, countOf, offset, siteOf}
 use Rattle.writer.proofs.BlockRound.{Entries, directory-read, directory-held, tile-read, tile-held}
 use Rattle.writer.proofs.EncodeLaws.{length-directory-block, length-tile-block, due-few, due-within, blocks-few}

@@ -13,7 +13,7 @@ use lib.Signed.{mag}
 use Rattle.blocks.specs.Block.{blockAt}
 use Rattle.blocks.specs.Directory.{entryOffset, entryBox, entryCount, boxAt, countAt}
 use Rattle.blocks.specs.Layout.{countOffset, entriesPerBlock}
-use Rattle.codec.specs.Number.{u32At, i32At}
+use Rattle.codec.specs.Number.{Bytes, u32At, i32At}
 use Rattle.codec.specs.Tabulate.{tabulate, joined}
 use Rattle.geometry.specs.Box as geometry
 use Rattle.tiles.specs.Accepted.{GoodFile}
@@ -25,7 +25,7 @@ use Rattle.codec.proofs.Joined.{length-joined, getD-joined, length-joined-next,
 use Rattle.codec.proofs.Number.{signed-small}
 use Rattle.codec.proofs.Tabulate.{length-tabulate, getD-tabulate, tabulate-same, tabulate-all, tabulate-part}
 use Rattle.writer.specs.Accepted.{GoodSupply}
-use Rattle.writer.specs.Made.{Bytes, Signed, Typed, boxNumbers, column, supplyOf}
+use Rattle.writer.specs.Made.{Signed, Typed, boxNumbers, column, supplyOf}
 use Rattle.writer.specs.Supply.{Supply, tilesOf, numbersPerBox, boxOf, countOf, offset, total}
 use Rattle.writer.proofs.FileLaws.{Reads, block-bytes}
 use Rattle.writer.proofs.SupplyLaws.{offset-next, offset-within}

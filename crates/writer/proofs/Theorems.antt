@@ -8,6 +8,7 @@ use lib.ListN.{length, take, drop}
 use lib.Seq.{take-at, drop-at}
 use Rattle.base.specs.Refusal.{accepted}
 use Rattle.blocks.specs.Directory.{boxAt, countAt}
+use Rattle.codec.specs.Number.{Bytes}
 use Rattle.codec.specs.Tabulate.{tabulate}
 use Rattle.tiles.specs.Accepted.{GoodFile}
 use Rattle.tiles.specs.Tile.{siteAt, sitesAt}
@@ -19,7 +20,7 @@ use Rattle.codec.proofs.Tabulate.{tabulate-same}
 use Rattle.tiles.proofs.Theorems.{validate-exactly}
 use Rattle.writer.specs.Accepted.{GoodSupply}
 use Rattle.writer.specs.Encode.{fileBytes, fileLength}
-use Rattle.writer.specs.Made.{Bytes, Typed, Made, supplyOf}
+use Rattle.writer.specs.Made.{Typed, Made, supplyOf}
 use Rattle.writer.specs.Supply.{Supply, tilesOf, boxOf, countOf, siteOf}
 use Rattle.writer.specs.Write.{writeTests, writeCall, writeExit}
 use Rattle.writer.proofs.FileLaws.{Reads, length-file, written-reads, written-good, good-holds}

@@ -15,10 +15,7 @@ use Rattle.tiles.specs.declared.tile.Site.{Site}
 use Rattle.writer.specs.Supply.{Supply, tilesOf}
 use Rattle.writer.specs.Write.{writeCall, writeExit}
 
--- lists of bytes, of unsigned and of signed 32-bit numbers, as slices hold them
-abbrev pub Bytes : List ℕ → Type 0
-Bytes l = (i : ℕ) → getD l i 0 < 256
-
+-- lists of unsigned and of signed 32-bit numbers, as slices hold them
 abbrev pub Unsigned : List ℕ → Type 0
 Unsigned l = (i : ℕ) → getD l i 0 < 0x1_0000_0000
 

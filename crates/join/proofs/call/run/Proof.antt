@@ -1,7 +1,7 @@
 use native.Mathlib.Omega.{arith}
 use borrow.Author.Needs.{needs}
-use Rattle.plan.specs.Stops.{Bytes}
 use Rattle.blocks.proofs.DirectoryLaws.{directory-good}
+use Rattle.codec.specs.Number.{Bytes}
 use Rattle.join.proofs.RunLaws.{few-enough, used-few, run-answers, run-refuses}
 use Rattle.join.proofs.call.run.Statement.{statement}
 use Rattle.join.proofs.call.run.Tie as tie
