@@ -1,7 +1,8 @@
 -- A sum over the tiles, turn by turn. Assumes nothing.
-use Prim.Native.Nat.{ℕ, suc, _+_, _-_, _<_, _≤_}
+use Prim.Native.Nat.{ℕ, zero, suc, _+_, _-_, _<_, _≤_}
 use mathlib.Core.Bool.{Bool, true, false, cond}
 use mathlib.Core.Path.{_≡_}
+use native.Mathlib.Nat.{add-zero, zero-add}
 use native.Mathlib.Numerals.{add-one}
 use native.Mathlib.Omega.{arith}
 use Rattle.search.specs.Lists.{range, bit, count, total}
@@ -14,6 +15,22 @@ module _ (p : ℕ → Bool) (w : ℕ → ℕ) where
   pub sum-done : (e n : ℕ) → n ≤ e → total p w (range e (n - e)) ≡ 0
   unfolding total
   sum-done e n h = let d : n - e ≡ 0 = omega arith in rw d
+
+  -- a part of the tiles makes no more than all of them
+  front-most : (s m n : ℕ) → m ≤ n → total p w (range s m) ≤ total p w (range s n)
+  unfolding total
+  front-most s zero n h = omega arith
+  front-most s (suc m) zero h = absurd (omega arith)
+  front-most s (suc m) (suc n) h = omega (arith, front-most (suc s) m n (omega arith))
+
+  part-most : (s a m n : ℕ) → a + m ≤ n → total p w (range (s + a) m) ≤ total p w (range s n)
+  unfolding total
+  part-most s zero m n h = rw (add-zero s) (front-most s m n (omega arith))
+  part-most s (suc a) m zero h = absurd (omega arith)
+  part-most s (suc a) m (suc n) h = let e : s + suc a ≡ suc s + a = omega arith in rw e (omega (arith, part-most (suc s) a m n (omega arith)))
+
+  pub sum-part : (a b n : ℕ) → a ≤ b → b ≤ n → total p w (range a (b - a)) ≤ total p w (range 0 n)
+  sum-part a b n h l = rw (zero-add a) at (part-most 0 a (b - a) n (omega arith))
 
 pub bit-small : (b : Bool) → bit b ≤ 1
 bit-small true = omega arith

@@ -18,6 +18,9 @@ use blocks::directory;
 use geometry::distance::max_dist_within;
 use geometry::distance::min_dist_within;
 
+// How many tiles on either side are tried first.
+const FEW: usize = 16;
+
 // Far from p to each tile.
 pub fn fill_far(f: &[u8], tiles: usize, p: [i32; 2], far: &mut [u64])
     requires { ⌜ (directory (now f) ≡ accepted tiles) × (validPoint p ≡ true) × (tiles ≤ length (now far)) ⌝ }
@@ -64,4 +67,38 @@ pub fn below(fa: &[u64], fb: &[u64], fc: &[u64], fd: &[u64], e: usize, n: Nears)
         both(fa[e] < n.a, fb[e] < n.b),
         both(fc[e] < n.c, fd[e] < n.d),
     )
+}
+
+// A tile that lies about O: of the first `tiles` the one with the least far from two opposite corners. It is only where the sums
+// start: nothing rests on it.
+pub fn middle_tile(fa: &[u64], fd: &[u64], tiles: usize) -> usize
+    requires { ⌜ (tiles ≤ length (now fa)) × (tiles ≤ length (now fd)) ⌝ }
+    ensures { λ r. ⌜ r ≤ tiles ⌝ }
+{
+    let mut middle: usize = 0;
+    let mut least: u64 = 18_446_744_073_709_551_615;
+    let mut t: usize = 0;
+    while t < tiles {
+        let far = fa[t] / 2 + fd[t] / 2;
+        if far < least {
+            middle = t;
+            least = far;
+        }
+        t += 1;
+    }
+    middle
+}
+
+// Some tiles before and after one, as far as there are.
+pub fn few_before(t: usize) -> usize
+    ensures { λ r. ⌜ r ≤ t ⌝ }
+{
+    if t < FEW { 0 } else { t - FEW }
+}
+
+pub fn few_after(t: usize, tiles: usize) -> usize
+    requires { ⌜ t ≤ tiles ⌝ }
+    ensures { λ r. ⌜ (t ≤ r) × (r ≤ tiles) ⌝ }
+{
+    if tiles - t < FEW { tiles } else { t + FEW }
 }

@@ -2,7 +2,7 @@
 ghost use mathlib.Core.Path.{_≡_};
 ghost use mathlib.Core.Bool.{true, cond};
 ghost use mathlib.Core.List.{map};
-ghost use Prim.Native.Nat.{_<_, _≤_};
+ghost use Prim.Native.Nat.{_-_, _<_, _≤_};
 ghost use lib.Dec.{leb};
 ghost use lib.ListN.{length};
 ghost use Rattle.base.specs.Refusal.{accepted};
@@ -42,8 +42,9 @@ fn weight(
     0
 }
 
-// Whether the counts of all tiles closer than box b add up to at least k. It stops as soon as they do.
-fn reaches(
+// Whether the counts of those tiles from `from` to `to` - 1 that are closer than box b add up to at least k. It stops as soon as
+// they do.
+fn reaches_among(
     f: &[u8],
     tiles: usize,
     fa: &[u64],
@@ -52,16 +53,19 @@ fn reaches(
     fd: &[u64],
     o: [[i32; 2]; 2],
     b: [[i32; 2]; 2],
+    n: Nears,
+    from: usize,
+    to: usize,
     k: usize,
 ) -> bool
     requires { ⌜ (directory (now f) ≡ accepted tiles) × ((validBox o ≡ true) × (validBox b ≡ true)) ⌝ }
-    requires { ⌜ FarTables (now f) tiles o (now fa) (now fb) (now fc) (now fd) ⌝ }
-    ensures { λ r. ⌜ r ≡ leb k (total (λ e. closer o (boxAt (now (f .entry)) e) b) (countAt (now (f .entry))) (range 0 tiles)) ⌝ }
+    requires { ⌜ FarTables (now f) tiles o (now fa) (now fb) (now fc) (now fd) × NearOf o b n ⌝ }
+    requires { ⌜ (from ≤ to) × (to ≤ tiles) ⌝ }
+    ensures { λ r. ⌜ r ≡ leb k (total (λ e. closer o (boxAt (now (f .entry)) e) b) (countAt (now (f .entry))) (range from (to - from))) ⌝ }
 {
-    let n = corners::near_from(o, b);
     let mut sum: usize = 0;
-    let mut e: usize = 0;
-    while e < tiles {
+    let mut e: usize = from;
+    while e < to {
         sum += weight(f, tiles, fa, fb, fc, fd, e, o, b, n);
         if k <= sum {
             return true;
@@ -69,6 +73,33 @@ fn reaches(
         e += 1;
     }
     k <= sum
+}
+
+// Whether the counts of all tiles closer than box b add up to at least k. The tiles around `middle`, which lie about O, are tried
+// first: where b is far from O, they mostly do it.
+fn reaches(
+    f: &[u8],
+    tiles: usize,
+    fa: &[u64],
+    fb: &[u64],
+    fc: &[u64],
+    fd: &[u64],
+    middle: usize,
+    o: [[i32; 2]; 2],
+    b: [[i32; 2]; 2],
+    k: usize,
+) -> bool
+    requires { ⌜ (directory (now f) ≡ accepted tiles) × ((validBox o ≡ true) × (validBox b ≡ true)) ⌝ }
+    requires { ⌜ FarTables (now f) tiles o (now fa) (now fb) (now fc) (now fd) × (middle ≤ tiles) ⌝ }
+    ensures { λ r. ⌜ r ≡ leb k (total (λ e. closer o (boxAt (now (f .entry)) e) b) (countAt (now (f .entry))) (range 0 tiles)) ⌝ }
+{
+    let n = corners::near_from(o, b);
+    let from = corners::few_before(middle);
+    let to = corners::few_after(middle, tiles);
+    if reaches_among(f, tiles, fa, fb, fc, fd, o, b, n, from, to, k) {
+        return true;
+    }
+    reaches_among(f, tiles, fa, fb, fc, fd, o, b, n, 0, tiles, k)
 }
 
 // 1 where tile t is pruned, else 0.
@@ -79,16 +110,17 @@ fn prune_tile(
     fb: &[u64],
     fc: &[u64],
     fd: &[u64],
+    middle: usize,
     o: [[i32; 2]; 2],
     k: usize,
     t: usize,
 ) -> u8
     requires { ⌜ (directory (now f) ≡ accepted tiles) × ((t < tiles) × (validBox o ≡ true)) ⌝ }
-    requires { ⌜ FarTables (now f) tiles o (now fa) (now fb) (now fc) (now fd) ⌝ }
+    requires { ⌜ FarTables (now f) tiles o (now fa) (now fb) (now fc) (now fd) × (middle ≤ tiles) ⌝ }
     ensures { λ r. ⌜ r ≡ bit (pruned (planOf (now (f .entry)) tiles o k) t) ⌝ }
 {
     let b = directory::box_at(f, tiles, t);
-    if reaches(f, tiles, fa, fb, fc, fd, o, b, k) {
+    if reaches(f, tiles, fa, fb, fc, fd, middle, o, b, k) {
         return 1;
     }
     0
@@ -111,10 +143,11 @@ fn prune_all(
     ensures { λ r. ⌜ (r ≡ prunedCount (planOf (now (f .entry)) tiles o k)) × (r ≤ tiles) ⌝ }
     ensures { λ r. ⌜ now (marks .exit) ≡ over (now (marks .entry)) 0 (pruneMarks (now (f .entry)) tiles o k) ⌝ }
 {
+    let middle = corners::middle_tile(fa, fd, tiles);
     let mut count: usize = 0;
     let mut t: usize = 0;
     while t < tiles {
-        let x = prune_tile(f, tiles, fa, fb, fc, fd, o, k, t);
+        let x = prune_tile(f, tiles, fa, fb, fc, fd, middle, o, k, t);
         marks[t] = x;
         count += x as usize;
         t += 1;

@@ -1,83 +1,57 @@
-use Prim.Native.Nat.{_≤_, _+_, _-_, _*_}
-use mathlib.Core.Path.{_≡_, ap, sym}
+use Prim.Native.Nat.{_-_}
+use mathlib.Core.Path.{_≡_, sym, _∙_}
 use native.Mathlib.Omega.{arith}
 use lib.Dec.{leb}
 use borrow.Author.Needs.{needs}
-use borrow.Author.Tests.{le-leb}
+use borrow.Author.Tests.{le-leb, leb-true}
 use Rattle.blocks.specs.Directory.{boxAt, countAt}
 use Rattle.geometry.specs.Margin.{closer}
 use Rattle.search.specs.Lists.{range, total}
-use Rattle.blocks.proofs.DirectoryLaws.{directory-good}
-use Rattle.prune.specs.Corners.{NearOf}
-use Rattle.prune.proofs.Summing.{sum-turn, sum-done}
+use Rattle.prune.proofs.Summing.{sum-part}
 use Rattle.prune.proofs.marking.reaches.Statement.{statement}
 use Rattle.prune.proofs.marking.reaches.Tie as tie
 
-abbrev Inv-loop : tie.InvT-loop
-Inv-loop f tiles fa fb fc fd o b k n sum₀ e₀ sum e = (e ≤ tiles) × ((sum ≤ 40 * e) × ((sum + total (λ i. closer o (boxAt f i) b) (countAt f) (range e (tiles - e)) ≡ total (λ i. closer o (boxAt f i) b) (countAt f) (range 0 tiles)) × NearOf o b n))
+near-from-requires : tie.Need-near-from-requires
+near-from-requires c κs = search needs
 
-abbrev μ-loop : tie.MeasureT-loop
-μ-loop f tiles fa fb fc fd o b k n sum₀ e₀ sum e = tiles - e
+few-before-requires : tie.Need-few-before-requires
+few-before-requires c κs = search needs
 
-near-from-requires : tie.Need-near-from-requires Inv-loop μ-loop
-near-from-requires c κs = c .before .before .before .before .before .pre .0 .1
+few-after-requires : tie.Need-few-after-requires
+few-after-requires c κs = c .before .before .before .before .before .before .before .pre .1 .1
 
-loop-holds : tie.Need-loop-holds Inv-loop μ-loop
-loop-holds c =
-    let s = c .before .before .before .before .before .before in
-    let d : s .args .tiles - 0 ≡ s .args .tiles = omega arith in
-    (omega arith, (omega arith, (rw d (omega arith), c .near-from .ensures)))
-
-weight-requires : tie.Need-weight-requires Inv-loop μ-loop
-weight-requires c κs =
+reaches-among-requires : tie.Need-reaches-among-requires
+reaches-among-requires c κs =
     let s = c .before .before .before .before .before .before .before .before in
-    ((s .pre .0 .0, (c .loop-test .taken, s .pre .0 .1)), (s .pre .1, c .before .loop .inv .1 .1 .1))
+    (s .pre .0, ((s .pre .1 .0, c .before .before .near-from .ensures), (omega (arith, c .before .few-before .ensures, c .few-after .ensures .0), c .few-after .ensures .1)))
 
-add-sum : tie.Need-add-sum Inv-loop μ-loop
-add-sum c =
-    let s = c .before .before .before .before .before .before .before .before .before in
-    let g = directory-good (s .args .f .now) (s .pre .0 .0) .tiles .most in
-    omega arith
-
-returns : tie.Need-returns Inv-loop μ-loop
+returns : tie.Need-returns
 returns c =
     let s = c .before .before .before .before .before .before .before .before .before .before in
-    let l = c .before .before .before .loop in
-    let t = sum-turn (λ i. closer (s .args .o) (boxAt (s .args .f .now) i) (s .args .b)) (countAt (s .args .f .now)) (l .e) (s .args .tiles) (c .before .before .loop-test .taken) in
-    sym (le-leb (s .args .k) (total (λ i. closer (s .args .o) (boxAt (s .args .f .now) i) (s .args .b)) (countAt (s .args .f .now)) (range 0 (s .args .tiles))) (omega (arith, l .inv .1 .1 .0, c .before .weight .ensures .0)))
+    let from = c .before .before .before .few-before in
+    let to = c .before .before .few-after in
+    let part = sum-part (λ i. closer (s .args .o) (boxAt (s .args .f .now) i) (s .args .b)) (countAt (s .args .f .now)) (from .result) (to .result) (s .args .tiles) (omega (arith, from .ensures, to .ensures .0)) (to .ensures .1) in
+    let enough = leb-true (s .args .k) (total (λ i. closer (s .args .o) (boxAt (s .args .f .now) i) (s .args .b)) (countAt (s .args .f .now)) (range (from .result) (to .result - from .result))) (sym (c .before .reaches-among .ensures) ∙ c .if1 .taken) in
+    sym (le-leb (s .args .k) (total (λ i. closer (s .args .o) (boxAt (s .args .f .now) i) (s .args .b)) (countAt (s .args .f .now)) (range 0 (s .args .tiles))) (omega (arith, part, enough)))
 
-add-e : tie.Need-add-e Inv-loop μ-loop
-add-e c = search needs
-
-loop-less : tie.Need-loop-less Inv-loop μ-loop
-loop-less c = search needs
-
-loop-again : tie.Need-loop-again Inv-loop μ-loop
-loop-again c =
+reaches-among-requires-2 : tie.Need-reaches-among-requires-2
+reaches-among-requires-2 c κs =
     let s = c .before .before .before .before .before .before .before .before .before .before in
-    let l = c .before .before .before .loop in
-    let t = sum-turn (λ i. closer (s .args .o) (boxAt (s .args .f .now) i) (s .args .b)) (countAt (s .args .f .now)) (l .e) (s .args .tiles) (c .before .before .loop-test .taken) in
-    (omega arith, (omega (arith, c .before .weight .ensures .1), (omega (arith, l .inv .1 .1 .0, c .before .weight .ensures .0), l .inv .1 .1 .1)))
+    (s .pre .0, ((s .pre .1 .0, c .before .before .before .before .near-from .ensures), (omega arith, omega arith)))
 
-returns-2 : tie.Need-returns-2 Inv-loop μ-loop
+returns-2 : tie.Need-returns-2
 returns-2 c =
-    let s = c .before .before .before .before .before .before .before .before in
-    let l = c .before .loop in
-    let t = sum-done (λ i. closer (s .args .o) (boxAt (s .args .f .now) i) (s .args .b)) (countAt (s .args .f .now)) (l .e) (s .args .tiles) (c .loop-test .left) in
-    ap (leb (s .args .k)) (omega (arith, l .inv .1 .1 .0))
+    let all : c .before .before .before .before .before .before .before .before .before .before .before .args .tiles - 0 ≡ c .before .before .before .before .before .before .before .before .before .before .before .args .tiles = omega arith in
+    rw all at (c .reaches-among2 .ensures)
 
 pub reaches-spec : {M : Type 1} → statement M
 reaches-spec =
     tie.close
     (tie.spec
-    Inv-loop
-    μ-loop
     near-from-requires
-    loop-holds
-    weight-requires
-    add-sum
+    few-before-requires
+    few-after-requires
+    reaches-among-requires
     returns
-    add-e
-    loop-less
-    loop-again
+    reaches-among-requires-2
     returns-2)
