@@ -1,6 +1,6 @@
 # make run: the program on a sample town. make lib: the library for hosts in C. make test: everything; its last line is the
-# verdict of `rt ci`.
-.PHONY: run lib test
+# verdict of `rt ci`. make bench: the benchmark, which writes docs/BENCHMARK.md.
+.PHONY: run lib test bench
 
 run:
 	@mkdir -p target
@@ -15,3 +15,6 @@ lib:
 
 test:
 	@tests/run.sh
+
+bench: lib
+	@bench/run.sh

@@ -27,3 +27,17 @@ pub record IsLeast (keys : List ℕ) (m : ℕ) (r : Least) : Type 0 where
   pub capped : r .key ≤ none
   pub here : r .key < none → (r .at < m) × (getD keys (r .at) 0 ≡ r .key)
   pub first : (j : ℕ) → j < r .at → r .key < none → r .key < getD keys j 0
+
+-- the same of the keys from index a on
+pub record LeastFrom (keys : List ℕ) (a m : ℕ) (r : Least) : Type 0 where
+  pub least : (j : ℕ) → a ≤ j → j < m → r .key ≤ getD keys j 0
+  pub capped : r .key ≤ none
+  pub here : r .key < none → (a ≤ r .at) × (r .at < m) × (getD keys (r .at) 0 ≡ r .key)
+  pub first : (j : ℕ) → a ≤ j → j < r .at → r .key < none → r .key < getD keys j 0
+
+-- what is known after a tile with the key `bound` was taken just before index `from`: no key is below it, and those before are above
+pub record Passed (keys : List ℕ) (m from bound : ℕ) : Type 0 where
+  pub inside : from ≤ m
+  pub real : bound < none
+  pub bounded : (j : ℕ) → j < m → bound ≤ getD keys j 0
+  pub behind : (j : ℕ) → j < from → bound < getD keys j 0

@@ -11,7 +11,7 @@ ghost use Rattle.codec.specs.Over.{over};
 ghost use Rattle.geometry.specs.Box.{validPoint};
 ghost use Rattle.geometry.specs.Distance.{minDist};
 ghost use Rattle.search.specs.Lists.{range, filter};
-ghost use Rattle.join.specs.Queue.{waits, IsLeast};
+ghost use Rattle.join.specs.Queue.{waits, IsLeast, LeastFrom, Passed};
 use base::both;
 use blocks::directory;
 use geometry::distance::min_dist_within;
@@ -61,20 +61,42 @@ pub struct Least {
     pub key: u64,
 }
 
-// The least of the first m keys, and the first place where it stands; NONE if all are.
-pub fn least_key(keys: &[u64], m: usize) -> Least
-    requires { ⌜ m ≤ length (now keys) ⌝ }
+// The least of the first m keys, and the first place where it stands, where `found` is that of the keys from `from` on.
+fn earlier_key(keys: &[u64], m: usize, from: usize, found: Least) -> Least
+    requires { ⌜ (m ≤ length (now keys)) × (from ≤ m) × LeastFrom (now keys) from m found ⌝ }
+    ensures { λ r. ⌜ IsLeast (now (keys .entry)) m r ⌝ }
+{
+    let mut at = found.at;
+    let mut key = found.key;
+    let mut j = from;
+    while j > 0 {
+        j -= 1;
+        if keys[j] <= key {
+            at = j;
+            key = keys[j];
+        }
+    }
+    Least { at, key }
+}
+
+// The least of the first m keys, and the first place where it stands; NONE if all are. The key taken last was `bound`, just before
+// index `from`: another one like it comes next, and then the other keys need not be looked at.
+pub fn next_key(keys: &[u64], m: usize, from: usize, bound: u64) -> Least
+    requires { ⌜ (m ≤ length (now keys)) × Passed (now keys) m from bound ⌝ }
     ensures { λ r. ⌜ IsLeast (now (keys .entry)) m r ⌝ }
 {
     let mut at: usize = 0;
     let mut key: u64 = NONE;
-    let mut j: usize = 0;
+    let mut j: usize = from;
     while j < m {
+        if keys[j] == bound {
+            return Least { at: j, key: bound };
+        }
         if keys[j] < key {
             at = j;
             key = keys[j];
         }
         j += 1;
     }
-    Least { at, key }
+    earlier_key(keys, m, from, Least { at, key })
 }

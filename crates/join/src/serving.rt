@@ -60,8 +60,10 @@ fn serve_stop(
 {
     queue::fill_keys(f, tiles, order, m, p, keys);
     let mut used: usize = 0;
+    let mut from: usize = 0;
+    let mut bound: u64 = 0;
     loop {
-        let least = queue::least_key(keys, m);
+        let least = queue::next_key(keys, m, from, bound);
         let j = least.at;
         let key = least.key;
         if key == NONE {
@@ -77,6 +79,8 @@ fn serve_stop(
         };
         used = n;
         keys[j] = NONE;
+        from = j + 1;
+        bound = key;
     }
 }
 

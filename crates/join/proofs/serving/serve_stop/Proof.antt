@@ -15,8 +15,9 @@ use Rattle.blocks.proofs.DirectoryLaws.{directory-good}
 use Rattle.blocks.proofs.OutcomeLaws.{told-accepted, told-refused}
 use Rattle.places.proofs.Laying.{laid-lengths}
 use Rattle.tiles.proofs.Theorems.{opened-count}
-use Rattle.join.specs.Queue.{none}
+use Rattle.join.specs.Queue.{none, Passed}
 use Rattle.join.proofs.Going.{Going, going-start, going-ends, going-none, going-full, going-refused, going-next, going-fewer}
+use Rattle.join.proofs.Scanning.{passed-none, passed-next}
 use Rattle.join.proofs.Taking.{living}
 use Rattle.join.proofs.serving.serve_stop.Statement.{statement}
 use Rattle.join.proofs.serving.serve_stop.Tie as tie
@@ -28,10 +29,10 @@ opened f tiles t n e =
     a .1 ∙ ap accepted (opened-count f tiles t (a .1))
 
 abbrev Inv-loop : tie.InvT-loop
-Inv-loop f tiles order m p k at keys₀ dist₀ site₀ cue₀ marks₀ used₀ keys dist site cue marks used = (length keys ≡ length keys₀) × Going f tiles k p order m at dist₀ site₀ cue₀ marks₀ keys dist site cue marks used
+Inv-loop f tiles order m p k at keys₀ dist₀ site₀ cue₀ marks₀ used₀ from₀ bound₀ keys dist site cue marks used from bound = (length keys ≡ length keys₀) × Going f tiles k p order m at dist₀ site₀ cue₀ marks₀ keys dist site cue marks used × Passed keys m from bound
 
 abbrev μ-loop : tie.MeasureT-loop
-μ-loop f tiles order m p k at keys₀ dist₀ site₀ cue₀ marks₀ used₀ keys dist site cue marks used = length (living order m keys)
+μ-loop f tiles order m p k at keys₀ dist₀ site₀ cue₀ marks₀ used₀ from₀ bound₀ keys dist site cue marks used from bound = length (living order m keys)
 
 fill-keys-requires : tie.Need-fill-keys-requires Inv-loop μ-loop
 fill-keys-requires c κs =
@@ -42,14 +43,14 @@ fill-keys-requires c κs =
 loop-holds : tie.Need-loop-holds Inv-loop μ-loop
 loop-holds c =
     let s = c .before .before .before .before .before .before .before .before .before .before .before in
-    (refl, going-start (s .args .f .now) (s .args .tiles) (s .args .k) (s .args .p) (s .args .order .now) (s .args .m) (s .args .at) (s .args .dist .now) (s .args .site .now) (s .args .cue .now) (s .args .marks .now) (s .args .keys .now) (s .pre .dir) (s .pre .point) (search needs) (s .pre .rising) (s .pre .key-room) (c .before .before .fill-keys .ensures) (s .pre .opens))
+    (refl, going-start (s .args .f .now) (s .args .tiles) (s .args .k) (s .args .p) (s .args .order .now) (s .args .m) (s .args .at) (s .args .dist .now) (s .args .site .now) (s .args .cue .now) (s .args .marks .now) (s .args .keys .now) (s .pre .dir) (s .pre .point) (search needs) (s .pre .rising) (s .pre .key-room) (c .before .before .fill-keys .ensures) (s .pre .opens), passed-none (c .before .before .fill-keys .last .1 .1 .1 .1 .1 .0) (s .args .m))
 
-least-key-requires : tie.Need-least-key-requires Inv-loop μ-loop
-least-key-requires c κs =
+next-key-requires : tie.Need-next-key-requires Inv-loop μ-loop
+next-key-requires c κs =
     let s = c .before .before .before .before .before .before .before .before .before .before .before .before .before in
     let l = c .before .loop in
     let g = l .inv .1 in
-    g .keyed .long
+    (g .keyed .long, l .inv .2)
 
 same-length : tie.Need-same-length Inv-loop μ-loop
 same-length c =
@@ -91,15 +92,15 @@ returns c =
     let s = c .before .before .before .before .before .before .before .before .before .before .before .before .before .before .before in
     let l = c .before .before .before .loop in
     let g = l .inv .1 in
-    going-ends (s .args .f .now) (s .args .tiles) (s .args .k) (s .args .p) (s .args .order .now) (s .args .m) (s .args .at) (s .args .dist .now) (s .args .site .now) (s .args .cue .now) (s .args .marks .now) g (going-none (s .args .f .now) (s .args .tiles) (s .args .k) (s .args .p) (s .args .order .now) (s .args .m) (s .args .at) (s .args .dist .now) (s .args .site .now) (s .args .cue .now) (s .args .marks .now) g _ (c .before .least-key .ensures) (omega (arith, c .if1 .taken)))
+    going-ends (s .args .f .now) (s .args .tiles) (s .args .k) (s .args .p) (s .args .order .now) (s .args .m) (s .args .at) (s .args .dist .now) (s .args .site .now) (s .args .cue .now) (s .args .marks .now) g (going-none (s .args .f .now) (s .args .tiles) (s .args .k) (s .args .p) (s .args .order .now) (s .args .m) (s .args .at) (s .args .dist .now) (s .args .site .now) (s .args .cue .now) (s .args .marks .now) g _ (c .before .next-key .ensures) (omega (arith, c .if1 .taken)))
 
 mul-t : tie.Need-mul-t Inv-loop μ-loop
 mul-t c =
     let s = c .before .before .before .before .before .before .before .before .before .before .before .before .before .before .before in
     let l = c .before .before .before .loop in
     let g = l .inv .1 in
-    let q = c .before .least-key .ensures in
-    let h : c .before .least-key .result .key < none = omega (arith, q .capped, c .if1 .left) in
+    let q = c .before .next-key .ensures in
+    let h : c .before .next-key .result .key < none = omega (arith, q .capped, c .if1 .left) in
     omega (arith, q .here h .0, s .pre .rising .long, s .good .1 .1 .0 .1)
 
 shared-slice-read-t : tie.Need-shared-slice-read-t Inv-loop μ-loop
@@ -107,8 +108,8 @@ shared-slice-read-t c =
     let s = c .before .before .before .before .before .before .before .before .before .before .before .before .before .before .before .before in
     let l = c .before .before .before .before .loop in
     let g = l .inv .1 in
-    let q = c .before .before .least-key .ensures in
-    let h : c .before .before .least-key .result .key < none = omega (arith, q .capped, c .before .if1 .left) in
+    let q = c .before .before .next-key .ensures in
+    let h : c .before .before .next-key .result .key < none = omega (arith, q .capped, c .before .if1 .left) in
     omega (arith, q .here h .0, s .pre .rising .long)
 
 cast-last-ahead : tie.Need-cast-last-ahead Inv-loop μ-loop
@@ -116,8 +117,8 @@ cast-last-ahead c =
     let s = c .before .before .before .before .before .before .before .before .before .before .before .before .before .before .before .before .before .before in
     let l = c .before .before .before .before .before .before .loop in
     let g = l .inv .1 in
-    let r = c .before .before .before .before .least-key .result in
-    let q = c .before .before .before .before .least-key .ensures in
+    let r = c .before .before .before .before .next-key .result in
+    let q = c .before .before .before .before .next-key .ensures in
     let h : r .key < none = omega (arith, q .capped, c .before .before .before .if1 .left) in
     let t = getD (s .args .order .now) (r .at) 0 in
     let below : t < s .args .tiles = s .pre .rising .below (r .at) (q .here h .0) in
@@ -172,8 +173,8 @@ returns-2 c =
     let s = c .before .before .before .before .before .before .before .before .before .before .before .before .before .before .before .before .before .before .before .before in
     let l = c .before .before .before .before .before .before .before .before .loop in
     let g = l .inv .1 in
-    let r = c .before .before .before .before .before .before .least-key .result in
-    let q = c .before .before .before .before .before .before .least-key .ensures in
+    let r = c .before .before .before .before .before .before .next-key .result in
+    let q = c .before .before .before .before .before .before .next-key .ensures in
     let h : r .key < none = omega (arith, q .capped, c .before .before .before .before .before .if1 .left) in
     let t = getD (s .args .order .now) (r .at) 0 in
     let below : t < s .args .tiles = s .pre .rising .below (r .at) (q .here h .0) in
@@ -184,8 +185,8 @@ take-tile-requires c κs =
     let s = c .before .before .before .before .before .before .before .before .before .before .before .before .before .before .before .before .before .before .before .before .before .before .before .before in
     let l = c .before .before .before .before .before .before .before .before .before .before .before .before .loop in
     let g = l .inv .1 in
-    let r = c .before .before .before .before .before .before .before .before .before .before .least-key .result in
-    let q = c .before .before .before .before .before .before .before .before .before .before .least-key .ensures in
+    let r = c .before .before .before .before .before .before .before .before .before .before .next-key .result in
+    let q = c .before .before .before .before .before .before .before .before .before .before .next-key .ensures in
     let h : r .key < none = omega (arith, q .capped, c .before .before .before .before .before .before .before .before .before .if1 .left) in
     let t = getD (s .args .order .now) (r .at) 0 in
     let below : t < s .args .tiles = s .pre .rising .below (r .at) (q .here h .0) in
@@ -246,8 +247,8 @@ returns-3 c =
     let s = c .before .before .before .before .before .before .before .before .before .before .before .before .before .before .before .before .before .before .before .before .before .before .before .before .before .before .before .before .before .before .before .before .before .before .before in
     let l = c .before .before .before .before .before .before .before .before .before .before .before .before .before .before .before .before .before .before .before .before .before .before .before .loop in
     let g = l .inv .1 in
-    let r = c .before .before .before .before .before .before .before .before .before .before .before .before .before .before .before .before .before .before .before .before .before .least-key .result in
-    let q = c .before .before .before .before .before .before .before .before .before .before .before .before .before .before .before .before .before .before .before .before .before .least-key .ensures in
+    let r = c .before .before .before .before .before .before .before .before .before .before .before .before .before .before .before .before .before .before .before .before .before .next-key .result in
+    let q = c .before .before .before .before .before .before .before .before .before .before .before .before .before .before .before .before .before .before .before .before .before .next-key .ensures in
     let h : r .key < none = omega (arith, q .capped, c .before .before .before .before .before .before .before .before .before .before .before .before .before .before .before .before .before .before .before .before .if1 .left) in
     let t = getD (s .args .order .now) (r .at) 0 in
     let below : t < s .args .tiles = s .pre .rising .below (r .at) (q .here h .0) in
@@ -261,8 +262,8 @@ mul-keys c =
     let s = c .before .before .before .before .before .before .before .before .before .before .before .before .before .before .before .before .before .before .before .before .before .before .before .before .before .before .before .before .before .before .before .before .before .before .before .before in
     let l = c .before .before .before .before .before .before .before .before .before .before .before .before .before .before .before .before .before .before .before .before .before .before .before .before .loop in
     let g = l .inv .1 in
-    let r = c .before .before .before .before .before .before .before .before .before .before .before .before .before .before .before .before .before .before .before .before .before .before .least-key .result in
-    let q = c .before .before .before .before .before .before .before .before .before .before .before .before .before .before .before .before .before .before .before .before .before .before .least-key .ensures in
+    let r = c .before .before .before .before .before .before .before .before .before .before .before .before .before .before .before .before .before .before .before .before .before .before .next-key .result in
+    let q = c .before .before .before .before .before .before .before .before .before .before .before .before .before .before .before .before .before .before .before .before .before .before .next-key .ensures in
     let h : r .key < none = omega (arith, q .capped, c .before .before .before .before .before .before .before .before .before .before .before .before .before .before .before .before .before .before .before .before .before .if1 .left) in
     let t = getD (s .args .order .now) (r .at) 0 in
     let below : t < s .args .tiles = s .pre .rising .below (r .at) (q .here h .0) in
@@ -273,20 +274,27 @@ slice-write-keys c =
     let s = c .before .before .before .before .before .before .before .before .before .before .before .before .before .before .before .before .before .before .before .before .before .before .before .before .before .before .before .before .before .before .before .before .before .before .before .before in
     let l = c .before .before .before .before .before .before .before .before .before .before .before .before .before .before .before .before .before .before .before .before .before .before .before .before .loop in
     let g = l .inv .1 in
-    let r = c .before .before .before .before .before .before .before .before .before .before .before .before .before .before .before .before .before .before .before .before .before .before .least-key .result in
-    let q = c .before .before .before .before .before .before .before .before .before .before .before .before .before .before .before .before .before .before .before .before .before .before .least-key .ensures in
+    let r = c .before .before .before .before .before .before .before .before .before .before .before .before .before .before .before .before .before .before .before .before .before .before .next-key .result in
+    let q = c .before .before .before .before .before .before .before .before .before .before .before .before .before .before .before .before .before .before .before .before .before .before .next-key .ensures in
     let h : r .key < none = omega (arith, q .capped, c .before .before .before .before .before .before .before .before .before .before .before .before .before .before .before .before .before .before .before .before .before .if1 .left) in
     let t = getD (s .args .order .now) (r .at) 0 in
     let below : t < s .args .tiles = s .pre .rising .below (r .at) (q .here h .0) in
     omega (arith, q .here h .0, g .keyed .long)
+
+add-from : tie.Need-add-from Inv-loop μ-loop
+add-from c =
+    let s = c .before .before .before .before .before .before .before .before .before .before .before .before .before .before .before .before .before .before .before .before .before .before .before .before .before .before .before .before .before .before .before .before .before .before .before .before in
+    let q = c .before .before .before .before .before .before .before .before .before .before .before .before .before .before .before .before .before .before .before .before .before .before .next-key .ensures in
+    let h : c .before .before .before .before .before .before .before .before .before .before .before .before .before .before .before .before .before .before .before .before .before .before .next-key .result .key < none = omega (arith, q .capped, c .before .before .before .before .before .before .before .before .before .before .before .before .before .before .before .before .before .before .before .before .before .if1 .left) in
+    omega (arith, q .here h .0, s .fits .m .fits)
 
 loop-less : tie.Need-loop-less Inv-loop μ-loop
 loop-less c =
     let s = c .before .before .before .before .before .before .before .before .before .before .before .before .before .before .before .before .before .before .before .before .before .before .before .before .before .before .before .before .before .before .before .before .before .before .before .before in
     let l = c .before .before .before .before .before .before .before .before .before .before .before .before .before .before .before .before .before .before .before .before .before .before .before .before .loop in
     let g = l .inv .1 in
-    let r = c .before .before .before .before .before .before .before .before .before .before .before .before .before .before .before .before .before .before .before .before .before .before .least-key .result in
-    let q = c .before .before .before .before .before .before .before .before .before .before .before .before .before .before .before .before .before .before .before .before .before .before .least-key .ensures in
+    let r = c .before .before .before .before .before .before .before .before .before .before .before .before .before .before .before .before .before .before .before .before .before .before .next-key .result in
+    let q = c .before .before .before .before .before .before .before .before .before .before .before .before .before .before .before .before .before .before .before .before .before .before .next-key .ensures in
     let h : r .key < none = omega (arith, q .capped, c .before .before .before .before .before .before .before .before .before .before .before .before .before .before .before .before .before .before .before .before .before .if1 .left) in
     let t = getD (s .args .order .now) (r .at) 0 in
     let below : t < s .args .tiles = s .pre .rising .below (r .at) (q .here h .0) in
@@ -303,8 +311,8 @@ loop-again c =
     let s = c .before .before .before .before .before .before .before .before .before .before .before .before .before .before .before .before .before .before .before .before .before .before .before .before .before .before .before .before .before .before .before .before .before .before .before .before in
     let l = c .before .before .before .before .before .before .before .before .before .before .before .before .before .before .before .before .before .before .before .before .before .before .before .before .loop in
     let g = l .inv .1 in
-    let r = c .before .before .before .before .before .before .before .before .before .before .before .before .before .before .before .before .before .before .before .before .before .before .least-key .result in
-    let q = c .before .before .before .before .before .before .before .before .before .before .before .before .before .before .before .before .before .before .before .before .before .before .least-key .ensures in
+    let r = c .before .before .before .before .before .before .before .before .before .before .before .before .before .before .before .before .before .before .before .before .before .before .next-key .result in
+    let q = c .before .before .before .before .before .before .before .before .before .before .before .before .before .before .before .before .before .before .before .before .before .before .next-key .ensures in
     let h : r .key < none = omega (arith, q .capped, c .before .before .before .before .before .before .before .before .before .before .before .before .before .before .before .before .before .before .before .before .before .if1 .left) in
     let t = getD (s .args .order .now) (r .at) 0 in
     let below : t < s .args .tiles = s .pre .rising .below (r .at) (q .here h .0) in
@@ -314,7 +322,7 @@ loop-again c =
     let m = s .pre .list in
     let e = laid-lengths (g .laid) in
     let room : Ready (l .dist) (l .site) (l .cue) (s .args .at) (l .used) (s .args .k) = record { some = m .some; few = g .few; d = omega (arith, m .d, e .0); s = omega (arith, m .s, e .1 .0); c = omega (arith, m .c, e .1 .1); sorted = g .sorted } in
-    (length-set (l .keys) (r .at) none ∙ l .inv .0, going-next (s .args .f .now) (s .args .tiles) (s .args .k) (s .args .p) (s .args .order .now) (s .args .m) (s .args .at) (s .args .dist .now) (s .args .site .now) (s .args .cue .now) (s .args .marks .now) g r q h a x _ _ o (ap answerOutcome (c .before .answer .given .1)) room below (omega (arith, s .pre .marks, g .long)) refl)
+    (length-set (l .keys) (r .at) none ∙ l .inv .0, going-next (s .args .f .now) (s .args .tiles) (s .args .k) (s .args .p) (s .args .order .now) (s .args .m) (s .args .at) (s .args .dist .now) (s .args .site .now) (s .args .cue .now) (s .args .marks .now) g r q h a x _ _ o (ap answerOutcome (c .before .answer .given .1)) room below (omega (arith, s .pre .marks, g .long)) refl, passed-next (l .keys) (s .args .m) r q h (g .keyed .long))
 
 pub serve-stop-spec : {M : Type 1} → statement M
 serve-stop-spec =
@@ -324,7 +332,7 @@ serve-stop-spec =
     μ-loop
     fill-keys-requires
     loop-holds
-    least-key-requires
+    next-key-requires
     same-length
     same-length-2
     same-length-3
@@ -352,5 +360,6 @@ serve-stop-spec =
     returns-3
     mul-keys
     slice-write-keys
+    add-from
     loop-less
     loop-again)

@@ -1,0 +1,28 @@
+/* The block check and the margin in C, for comparison with the proved ones. */
+#ifndef CHECKS_H
+#define CHECKS_H
+
+#include <stddef.h>
+#include <stdint.h>
+
+#ifdef __cplusplus
+extern "C" {
+#endif
+
+/* As nearby_block_check: 0, or 1 (not 512 bytes), 2 (first byte), 3 (check). The sums are taken as the paper says them, with a
+ * remainder for each byte. */
+uint32_t c_block_check(const uint8_t *block, size_t block_len);
+
+/* The same answers, but the sums are reduced once at the end: they stay below 2^32. */
+uint32_t c_block_check_late(const uint8_t *block, size_t block_len);
+
+/* As nearby_margin. */
+int64_t c_margin(int32_t ox0, int32_t ox1, int32_t oy0, int32_t oy1,
+                 int32_t ex0, int32_t ex1, int32_t ey0, int32_t ey1,
+                 int32_t bx0, int32_t bx1, int32_t by0, int32_t by1);
+
+#ifdef __cplusplus
+}
+#endif
+
+#endif
