@@ -28,6 +28,11 @@ compare samples/riverside.town text_to_town samples/riverside.txt
 compare samples/riverside.host "$built/host" samples/riverside.town
 compare samples/riverside.answer ask samples/riverside.town 3 1200,3000 2600,3100 4100,3200 5600,3200
 
+# A standard input that cannot be read is no empty input.
+read_folder() { target/bin/nearby </; }
+compare <(echo "nearby: standard input cannot be read") read_folder
+compare <(echo input) target/bin/nearby </dev/null
+
 # Files and texts that are refused.
 head -c 12799 samples/riverside.town >"$built/cut.town"
 # A byte that was 0: to the check 1 is seen, 255 is not, since it counts modulo 255; the test of zeros sees that.
