@@ -1,6 +1,6 @@
 -- One axis: the closest point is closest, the farther end farthest, and the better end of O gives the largest difference.
 -- Assumes nothing.
-use Prim.Native.Nat.{ℕ, _+_, _*_, _<_, _≤_, _^_}
+use Prim.Native.Nat.{ℕ, _+_, _*_, _<_, _≤_}
 use mathlib.Core.Bool.{Bool, true, false, cond, _&&_}
 use mathlib.Core.List.{List}
 use mathlib.Core.Path.{_≡_, ap, _∙_}
@@ -14,9 +14,8 @@ use Rattle.base.proofs.Tests.{and-both, both-and, cond-ind, cond-ap}
 use Rattle.geometry.specs.Box.{lowest, highest, lo, hi, withinLimits, validAxis, onAxis}
 use Rattle.geometry.specs.Distance.{gap, square, closest, farthest}
 use Rattle.geometry.specs.Margin.{gain, bestEnd}
-use Rattle.geometry.specs.Shift.{shift}
 use Rattle.geometry.proofs.Line.{order, rises}
-use Rattle.geometry.proofs.Shift.{Small, Limited, limited, limited-between, shift-fits, less-shift, at-most-shift, at-most-refl, not-less, at-most-trans, gap-shift, square-shift, square-bound, axisBound, less-sub}
+use Rattle.geometry.proofs.Shift.{shift, Limited, limited, limited-between, less-shift, at-most-shift, at-most-refl, not-less, at-most-trans, gap-shift, square-shift, square-bound, axisBound, less-sub}
 
 -- what the test of an axis shows
 pub record Axis (s : List ℤ) : Type 0 where
@@ -30,10 +29,6 @@ axis s t =
     let p = and-both (withinLimits (lo s) && withinLimits (hi s)) (leZ (lo s) (hi s)) t in
     let q = and-both (withinLimits (lo s)) (withinLimits (hi s)) (p .0) in
     record { low = limited (lo s) (q .0); high = limited (hi s) (q .1); ordered = p .1 }
-
--- the distance of two 32-bit numbers has 32 bits
-pub gap-fits : (x y : ℤ) → Small x → Small y → gap x y < 2 ^ 32
-gap-fits x y h k = omega (arith, gap-shift x y h k, shift-fits x h, shift-fits y k)
 
 -- the square to the farther end is that of the larger distance
 pub farthest-square : (s : List ℤ) (x : ℤ) →

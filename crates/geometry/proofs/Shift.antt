@@ -5,23 +5,22 @@ use mathlib.Core.Path.{_≡_, refl, ap}
 use native.Mathlib.Nat.{mul-le-mul}
 use native.Mathlib.Omega.{arith}
 use lib.Dec.{leb, ltb}
-use lib.IntN.{ℤ, pos, negsuc, _+ℤ_, _-ℤ_, natAbs, subℕ}
+use lib.IntN.{ℤ, pos, negsuc, _-ℤ_, natAbs, subℕ}
 use lib.Signed.{mag, leZ, ltZ}
 use borrow.Author.Tests.{le-ltb, lt-ltb, ltb-true, ltb-false, leb-true, le-leb}
 use Rattle.base.proofs.Tests.{and-both, cond-ind, iff-eq, clash}
 use Rattle.geometry.specs.Box.{withinLimits}
 use Rattle.geometry.specs.Distance.{gap, square}
-use Rattle.geometry.specs.Shift.{shift}
 use Rattle.geometry.proofs.Line.{dist}
+
+-- x + 2^31, for a 32-bit x: never negative
+unfoldable pub shift : ℤ → ℕ
+shift (pos n) = 2147483648 + n
+shift (negsuc n) = 2147483647 - n
 
 -- a 32-bit number
 abbrev pub Small : ℤ → Type 0
 Small z = mag z < 2 ^ 31
-
-pub shift-is : (z : ℤ) → Small z → z +ℤ pos 2147483648 ≡ pos (shift z)
-unfolding shift
-shift-is (pos n) h = ap pos (omega arith)
-shift-is (negsuc n) h = rw (le-ltb 2147483648 (suc n) (omega arith)) (ap pos (omega arith))
 
 pub shift-fits : (z : ℤ) → Small z → shift z < 2 ^ 32
 unfolding shift
@@ -75,6 +74,21 @@ small-between a (pos z) (pos b) h k s t = omega (arith, leb-true z b t)
 small-between a (pos z) (negsuc b) h k s t = clash t refl
 small-between (pos a) (negsuc z) b h k s t = clash s refl
 small-between (negsuc a) (negsuc z) b h k s t = omega (arith, leb-true z a s)
+
+-- b - a, for a at most b
+pub sub-shift : (a b : ℤ) → Small a → Small b → shift a ≤ shift b → b -ℤ a ≡ pos (shift b - shift a)
+unfolding shift
+sub-shift (pos zero) (pos b) h k t = ap pos (omega arith)
+sub-shift (pos (suc a)) (pos b) h k t =
+    cond-ind (ltb b (suc a)) (negsuc (suc a - suc b)) (pos (b - suc a)) (λ z. z ≡ pos (2147483648 + b - (2147483648 + suc a)))
+    (λ u. absurd (omega (arith, ltb-true b (suc a) u)))
+    (λ u. ap pos (omega arith))
+sub-shift (negsuc a) (pos b) h k t = ap pos (omega arith)
+sub-shift (pos a) (negsuc b) h k t = absurd (omega arith)
+sub-shift (negsuc a) (negsuc b) h k t =
+    cond-ind (ltb (suc a) (suc b)) (negsuc (suc b - suc (suc a))) (pos (suc a - suc b)) (λ z. z ≡ pos (2147483647 - b - (2147483647 - a)))
+    (λ u. absurd (omega (arith, ltb-true (suc a) (suc b) u)))
+    (λ u. ap pos (omega arith))
 
 -- distance
 abs-sub : (a b : ℕ) → natAbs (subℕ a b) ≡ dist a b

@@ -4,4 +4,3 @@ pub mod Margin
 pub mod Calls
 pub mod Claims
 pub mod Cases
-pub mod Shift

@@ -1,22 +1,18 @@
 // One axis: how far apart, the closest point, the farther end.
 ghost use mathlib.Core.Path.{_≡_};
 ghost use Prim.Native.Nat.{_*_, _<_, _^_};
-ghost use Rattle.geometry.specs.Shift.{shift};
 ghost use Rattle.geometry.specs.Distance.{gap, square, closest, farthest};
-
-// x raised by 2^31, so that it is never negative: differences and comparisons stay the same.
-pub fn shift(x: i32) -> u64
-    ensures { λ r. ⌜ r ≡ shift x ⌝ }
-{
-    ((x as i64) + 2147483648) as u64
-}
 
 pub fn gap(x: i32, y: i32) -> u64
     ensures { λ r. ⌜ (r ≡ gap x y) × (r < 2 ^ 32) ⌝ }
 {
-    let a = shift(x);
-    let b = shift(y);
-    if a < b { b - a } else { a - b }
+    let a = x as i64;
+    let b = y as i64;
+    if a < b {
+        (b - a) as u64
+    } else {
+        (a - b) as u64
+    }
 }
 
 fn squared(g: u64) -> u64
