@@ -1,3 +1,4 @@
+pub mod Theorems
 pub mod TextLaws
 pub mod LineLaws
 pub mod RequestLaws

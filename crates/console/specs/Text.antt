@@ -1,5 +1,5 @@
 -- Words and numbers as bytes, and what a call that writes text leaves.
-use Prim.Native.Nat.{ℕ, zero, suc, _+_, _/_, _%_}
+use Prim.Native.Nat.{ℕ, zero, suc, _+_, _*_, _-_, _/_, _%_}
 use mathlib.Core.Bool.{cond}
 use mathlib.Core.List.{List, [], _∷_, _++_}
 use mathlib.Core.Path.{_≡_}
@@ -23,6 +23,11 @@ digits (suc w) n = digits w (n / 10) ++ (48 + n % 10) ∷ []
 -- "in decimal"
 unfoldable pub decimal : ℕ → List ℕ
 decimal n = digits (width n) n
+
+-- the number that characters stand for, read from the left after the number a
+unfoldable pub valueFrom : ℕ → List ℕ → ℕ
+valueFrom a [] = a
+valueFrom a (c ∷ cs) = valueFrom (10 * a + (c - 48)) cs
 
 -- a word and a number
 unfoldable pub labelled : List ℕ → ℕ → List ℕ
