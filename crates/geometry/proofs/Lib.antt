@@ -1,5 +1,6 @@
 pub mod Line
 pub mod Shift
+mod Subtracting
 pub mod OneAxis
 pub mod AllAxes
 pub mod Two

@@ -3,19 +3,19 @@
 use Prim.Native.Nat.{ℕ, _+_, _*_, _<_, _≤_}
 use mathlib.Core.Bool.{Bool, true, false, cond, _&&_}
 use mathlib.Core.List.{List}
-use mathlib.Core.Path.{_≡_, ap, _∙_}
+use mathlib.Core.Path.{_≡_, refl}
 use native.Mathlib.Nat.{mul-le-mul}
 use native.Mathlib.Omega.{arith}
 use lib.Dec.{ltb}
-use lib.IntN.{ℤ}
+use lib.IntN.{ℤ, _-ℤ_}
 use lib.Signed.{leZ, ltZ}
-use borrow.Author.Tests.{ltb-true, ltb-false}
-use Rattle.base.proofs.Tests.{and-both, both-and, cond-ind, cond-ap}
+use borrow.Author.Tests.{ltb-true, ltb-false, lt-ltb}
+use Rattle.base.proofs.Tests.{and-both, both-and, iff-eq, cond-ind, cond-ap}
 use Rattle.geometry.specs.Box.{lowest, highest, lo, hi, withinLimits, validAxis, onAxis}
 use Rattle.geometry.specs.Distance.{gap, square, closest, farthest}
 use Rattle.geometry.specs.Margin.{gain, bestEnd}
 use Rattle.geometry.proofs.Line.{order, rises}
-use Rattle.geometry.proofs.Shift.{shift, Limited, limited, limited-between, less-shift, at-most-shift, at-most-refl, not-less, at-most-trans, gap-shift, square-shift, square-bound, axisBound, less-sub}
+use Rattle.geometry.proofs.Shift.{shift, Limited, limited, limited-between, less-shift, at-most-shift, same-shift, at-most-refl, not-less, at-most-trans, sub-shift, gap-shift, square-shift, square-bound, axisBound, less-sub}
 
 -- what the test of an axis shows
 pub record Axis (s : List ℤ) : Type 0 where
@@ -30,11 +30,23 @@ axis s t =
     let q = and-both (withinLimits (lo s)) (withinLimits (hi s)) (p .0) in
     record { low = limited (lo s) (q .0); high = limited (hi s) (q .1); ordered = p .1 }
 
--- the square to the farther end is that of the larger distance
-pub farthest-square : (s : List ℤ) (x : ℤ) →
-    square x (farthest s x) ≡ cond (ltb (gap x (lo s)) (gap x (hi s))) (gap x (hi s) * gap x (hi s)) (gap x (lo s) * gap x (lo s))
-unfolding farthest square
-farthest-square s x = cond-ap (square x) (ltb (gap x (lo s)) (gap x (hi s))) (hi s) (lo s)
+-- the test in three comparisons: what lies between the limits is within them
+pub valid-axis-test : (s : List ℤ) → validAxis s ≡ (leZ lowest (lo s) && leZ (lo s) (hi s)) && leZ (hi s) highest
+unfolding validAxis withinLimits
+valid-axis-test s =
+    iff-eq (validAxis s) ((leZ lowest (lo s) && leZ (lo s) (hi s)) && leZ (hi s) highest)
+    (λ t.
+    let p = and-both (withinLimits (lo s) && withinLimits (hi s)) (leZ (lo s) (hi s)) t in
+    let q = and-both (withinLimits (lo s)) (withinLimits (hi s)) (p .0) in
+    let l = and-both (leZ lowest (lo s)) (leZ (lo s) highest) (q .0) in
+    let h = and-both (leZ lowest (hi s)) (leZ (hi s) highest) (q .1) in
+    both-and (both-and (l .0) (p .1)) (h .1))
+    (λ t.
+    let p = and-both (leZ lowest (lo s) && leZ (lo s) (hi s)) (leZ (hi s) highest) t in
+    let q = and-both (leZ lowest (lo s)) (leZ (lo s) (hi s)) (p .0) in
+    let l = both-and (q .0) (at-most-trans (lo s) (hi s) highest (q .1) (p .1)) in
+    let h = both-and (at-most-trans lowest (lo s) (hi s) (q .0) (q .1)) (p .1) in
+    both-and (both-and l h) (q .1))
 
 -- a point of an axis
 pub record On (s : List ℤ) (x : ℤ) : Type 0 where
@@ -82,6 +94,21 @@ farthest-ind s x P f g =
     cond-ind (ltb (gap x (lo s)) (gap x (hi s))) (hi s) (lo s) P
     (λ t. f (ltb-true (gap x (lo s)) (gap x (hi s)) t))
     (λ t. g (ltb-false (gap x (lo s)) (gap x (hi s)) t))
+
+-- the farther end, told by the differences to the two ends, which together are the axis
+pub farthest-test : (s : List ℤ) (x : ℤ) → Axis s → Limited x → farthest s x ≡ cond (ltZ (x -ℤ lo s) (hi s -ℤ x)) (hi s) (lo s)
+farthest-test s x a lx =
+    let l = gap-shift x (lo s) (lx .small) (a .low .small) in
+    let h = gap-shift x (hi s) (lx .small) (a .high .small) in
+    let o = at-most-shift (lo s) (hi s) (a .low .small) (a .high .small) (a .ordered) in
+    rw (sub-shift x (lo s) (lx .small) (a .low .small), sub-shift (hi s) x (a .high .small) (lx .small), less-sub (shift x) (shift (lo s)) (shift (hi s)) (shift x))
+    (farthest-ind s x (λ z. z ≡ cond (ltb (shift x + shift x) (shift (hi s) + shift (lo s))) (hi s) (lo s))
+    (λ t. rw (lt-ltb (shift x + shift x) (shift (hi s) + shift (lo s)) (omega arith)))
+    (λ t. cond-ind (ltb (shift x + shift x) (shift (hi s) + shift (lo s))) (hi s) (lo s) (λ z. lo s ≡ z)
+    (λ u.
+    let v = ltb-true (shift x + shift x) (shift (hi s) + shift (lo s)) u in
+    same-shift (lo s) (hi s) (a .low .small) (a .high .small) (omega arith))
+    (λ u. refl)))
 
 module _ (s : List ℤ) (x : ℤ) (a : Axis s) (lx : Limited x) where
   pub closest-on : On s (closest s x)
@@ -198,11 +225,10 @@ best-far o e b = far e (bestEnd o e b)
 abbrev pub best-near : List ℤ → List ℤ → List ℤ → ℕ
 best-near o e b = near b (bestEnd o e b)
 
-pub best-far-test : (o e b : List ℤ) → best-far o e b ≡ cond (better o e b) (far e (hi o)) (far e (lo o))
-best-far-test o e b = ap (far e) (best-end-test o e b) ∙ cond-ap (far e) (better o e b) (hi o) (lo o)
-
-pub best-near-test : (o e b : List ℤ) → best-near o e b ≡ cond (better o e b) (near b (hi o)) (near b (lo o))
-best-near-test o e b = ap (near b) (best-end-test o e b) ∙ cond-ap (near b) (better o e b) (hi o) (lo o)
+-- the difference from the better end is the larger one
+pub best-gain : (o e b : List ℤ) → gain e b (bestEnd o e b) ≡ cond (ltZ (gain e b (lo o)) (gain e b (hi o))) (gain e b (hi o)) (gain e b (lo o))
+unfolding bestEnd
+best-gain o e b = cond-ap (gain e b) (ltZ (gain e b (lo o)) (gain e b (hi o))) (hi o) (lo o)
 
 -- what the tests of three axes show
 abbrev pub Valid : List ℤ → List ℤ → List ℤ → Type 0

@@ -1,11 +1,11 @@
 -- From the signed numbers to the line from 0, where `omega` reads: shift keeps order and distance. Assumes nothing.
 use Prim.Native.Nat.{ℕ, zero, suc, _+_, _-_, _*_, _<_, _≤_, _^_}
 use mathlib.Core.Bool.{true, false}
-use mathlib.Core.Path.{_≡_, refl, ap}
+use mathlib.Core.Path.{_≡_, refl, sym, ap, _∙_}
 use native.Mathlib.Nat.{mul-le-mul}
 use native.Mathlib.Omega.{arith}
 use lib.Dec.{leb, ltb}
-use lib.IntN.{ℤ, pos, negsuc, _-ℤ_, natAbs, subℕ}
+use lib.IntN.{ℤ, pos, negsuc, _+ℤ_, _-ℤ_, natAbs, subℕ}
 use lib.Signed.{mag, leZ, ltZ}
 use borrow.Author.Tests.{le-ltb, lt-ltb, ltb-true, ltb-false, leb-true, le-leb}
 use Rattle.base.proofs.Tests.{and-both, cond-ind, iff-eq, clash}
@@ -42,6 +42,13 @@ at-most-shift (pos a) (negsuc b) h k t = clash t refl
 at-most-shift (negsuc a) (pos b) h k t = omega arith
 at-most-shift (negsuc a) (negsuc b) h k t = omega (arith, leb-true b a t)
 
+pub same-shift : (a b : ℤ) → Small a → Small b → shift a ≡ shift b → a ≡ b
+unfolding shift
+same-shift (pos a) (pos b) h k e = ap pos (omega arith)
+same-shift (pos a) (negsuc b) h k e = absurd (omega arith)
+same-shift (negsuc a) (pos b) h k e = absurd (omega arith)
+same-shift (negsuc a) (negsuc b) h k e = ap negsuc (omega arith)
+
 -- orders of signed numbers that need no bound
 pub at-most-refl : (a : ℤ) → leZ a a ≡ true
 at-most-refl (pos a) = le-leb a a (omega arith)
@@ -75,36 +82,51 @@ small-between a (pos z) (negsuc b) h k s t = clash t refl
 small-between (pos a) (negsuc z) b h k s t = clash s refl
 small-between (negsuc a) (negsuc z) b h k s t = omega (arith, leb-true z a s)
 
--- b - a, for a at most b
-pub sub-shift : (a b : ℤ) → Small a → Small b → shift a ≤ shift b → b -ℤ a ≡ pos (shift b - shift a)
+-- a difference of two numbers from 0, by its sign
+sub-ind : (a b : ℕ) (R : ℤ → Type 0) → ((x : ℕ) → b + x ≡ a → R (pos x)) → ((x : ℕ) → a + suc x ≡ b → R (negsuc x)) → R (subℕ a b)
+sub-ind a b R f g =
+    cond-ind (ltb a b) (negsuc (b - suc a)) (pos (a - b)) R
+    (λ t. let h = ltb-true a b t in g (b - suc a) (omega arith))
+    (λ t. let h = ltb-false a b t in f (a - b) (omega arith))
+
+sub-pos : (a b x : ℕ) → b + x ≡ a → subℕ a b ≡ pos x
+sub-pos a b x e = sub-ind a b (λ z. z ≡ pos x) (λ y f. ap pos (omega arith)) (λ y f. absurd (omega arith))
+
+sub-neg : (a b x : ℕ) → a + suc x ≡ b → subℕ a b ≡ negsuc x
+sub-neg a b x e = sub-ind a b (λ z. z ≡ negsuc x) (λ y f. absurd (omega arith)) (λ y f. ap negsuc (omega arith))
+
+sub-is : (a b : ℕ) → pos a -ℤ pos b ≡ subℕ a b
+sub-is a zero = sym (sub-pos a 0 (a + 0) (omega arith))
+sub-is a (suc b) = refl
+
+-- two pairs of numbers as far apart, the same way round
+sub-same : (a b c d : ℕ) → a + d ≡ c + b → subℕ a b ≡ subℕ c d
+sub-same a b c d e = sub-ind a b (λ z. z ≡ subℕ c d) (λ x f. sym (sub-pos c d x (omega arith))) (λ x f. sym (sub-neg c d x (omega arith)))
+
+-- the difference of two
+pub sub-shift : (a b : ℤ) → Small a → Small b → a -ℤ b ≡ pos (shift a) -ℤ pos (shift b)
 unfolding shift
-sub-shift (pos zero) (pos b) h k t = ap pos (omega arith)
-sub-shift (pos (suc a)) (pos b) h k t =
-    cond-ind (ltb b (suc a)) (negsuc (suc a - suc b)) (pos (b - suc a)) (λ z. z ≡ pos (2147483648 + b - (2147483648 + suc a)))
-    (λ u. absurd (omega (arith, ltb-true b (suc a) u)))
-    (λ u. ap pos (omega arith))
-sub-shift (negsuc a) (pos b) h k t = ap pos (omega arith)
-sub-shift (pos a) (negsuc b) h k t = absurd (omega arith)
-sub-shift (negsuc a) (negsuc b) h k t =
-    cond-ind (ltb (suc a) (suc b)) (negsuc (suc b - suc (suc a))) (pos (suc a - suc b)) (λ z. z ≡ pos (2147483647 - b - (2147483647 - a)))
-    (λ u. absurd (omega (arith, ltb-true (suc a) (suc b) u)))
-    (λ u. ap pos (omega arith))
+sub-shift a b h k = go a b h k ∙ sym (sub-is (shift a) (shift b))
+  where
+    go : (a b : ℤ) → Small a → Small b → a -ℤ b ≡ subℕ (shift a) (shift b)
+    go (pos a) (pos b) h k = sub-is a b ∙ sub-same a b (shift (pos a)) (shift (pos b)) (omega arith)
+    go (pos a) (negsuc b) h k = sym (sub-pos (shift (pos a)) (shift (negsuc b)) (a + suc b) (omega arith))
+    go (negsuc a) (pos zero) h k = sub-same 0 (suc a) (shift (negsuc a)) (shift (pos zero)) (omega arith)
+    go (negsuc a) (pos (suc b)) h k = sym (sub-neg (shift (negsuc a)) (shift (pos (suc b))) (suc (a + b)) (omega arith))
+    go (negsuc a) (negsuc b) h k = sub-same (suc b) (suc a) (shift (negsuc a)) (shift (negsuc b)) (omega arith)
+
+-- the size of a difference
+pub abs-difference : (a b : ℕ) → natAbs (pos a -ℤ pos b) ≡ dist a b
+abs-difference a b = rw (sub-is a b) (sub-ind a b (λ z. natAbs z ≡ dist a b) (λ x e. omega arith) (λ x e. omega arith))
+
+pub mag-abs : (z : ℤ) → mag z ≤ natAbs z
+mag-abs (pos n) = omega arith
+mag-abs (negsuc n) = omega arith
 
 -- distance
-abs-sub : (a b : ℕ) → natAbs (subℕ a b) ≡ dist a b
-abs-sub a b =
-    cond-ind (ltb a b) (negsuc (b - suc a)) (pos (a - b)) (λ z. natAbs z ≡ dist a b)
-    (λ t. let h = ltb-true a b t in omega arith)
-    (λ t. let h = ltb-false a b t in omega arith)
-
 pub gap-shift : (a b : ℤ) → Small a → Small b → gap a b ≡ dist (shift a) (shift b)
-unfolding gap shift
-gap-shift (pos a) (pos zero) h k = omega arith
-gap-shift (pos a) (pos (suc b)) h k = omega (arith, abs-sub a (suc b))
-gap-shift (pos a) (negsuc b) h k = omega arith
-gap-shift (negsuc a) (pos zero) h k = omega (arith, abs-sub 0 (suc a))
-gap-shift (negsuc a) (pos (suc b)) h k = omega arith
-gap-shift (negsuc a) (negsuc b) h k = omega (arith, abs-sub (suc b) (suc a))
+unfolding gap
+gap-shift a b h k = ap natAbs (sub-shift a b h k) ∙ abs-difference (shift a) (shift b)
 
 pub square-shift : (a b : ℤ) → Small a → Small b → square a b ≡ dist (shift a) (shift b) * dist (shift a) (shift b)
 unfolding square
@@ -134,19 +156,22 @@ limited-between a z b h k s t =
 abbrev pub axisBound : ℕ
 axisBound = 4000000000000
 
+-- the difference of two coordinates, either way
+pub gap-bound : (a b : ℤ) → Limited a → Limited b → gap a b ≤ 2000000
+gap-bound a b h k = omega (arith, gap-shift a b (h .small) (k .small))
+
+pub gap-comm : (a b : ℤ) → Limited a → Limited b → gap a b ≡ gap b a
+gap-comm a b h k = omega (arith, gap-shift a b (h .small) (k .small), gap-shift b a (k .small) (h .small))
+
+pub gap-fits : (a b : ℤ) → Limited a → Limited b → mag (a -ℤ b) < 2 ^ 31
+unfolding gap
+gap-fits a b h k = omega (arith, gap-bound a b h k, mag-abs (a -ℤ b))
+
 pub square-bound : (a b : ℤ) → Limited a → Limited b → square a b ≤ axisBound
 unfolding square
 square-bound a b h k =
-    let g : gap a b ≤ 2000000 = omega (arith, gap-shift a b (h .small) (k .small)) in
+    let g = gap-bound a b h k in
     mul-le-mul g g
-
--- differences of two numbers from 0
-sub-is : (a b : ℕ) → pos a -ℤ pos b ≡ subℕ a b
-sub-is a zero =
-    cond-ind (ltb a zero) (negsuc (zero - suc a)) (pos (a - zero)) (λ z. pos (a + 0) ≡ z)
-    (λ t. absurd (omega (arith, ltb-true a zero t)))
-    (λ t. ap pos (omega arith))
-sub-is a (suc b) = refl
 
 -- by the signs of two differences
 sub-order : (a b c d : ℕ) (R : ℤ → ℤ → Type 0) →
@@ -157,15 +182,9 @@ sub-order : (a b c d : ℕ) (R : ℤ → ℤ → Type 0) →
     R (pos a -ℤ pos b) (pos c -ℤ pos d)
 sub-order a b c d R pp pn np nn =
     rw (sub-is a b, sub-is c d)
-    (cond-ind (ltb a b) (negsuc (b - suc a)) (pos (a - b)) (λ z. R z (subℕ c d))
-    (λ t. let h = ltb-true a b t in
-    cond-ind (ltb c d) (negsuc (d - suc c)) (pos (c - d)) (λ z. R (negsuc (b - suc a)) z)
-    (λ u. let k = ltb-true c d u in nn (b - suc a) (d - suc c) (omega arith) (omega arith))
-    (λ u. let k = ltb-false c d u in np (b - suc a) (c - d) (omega arith) (omega arith)))
-    (λ t. let h = ltb-false a b t in
-    cond-ind (ltb c d) (negsuc (d - suc c)) (pos (c - d)) (λ z. R (pos (a - b)) z)
-    (λ u. let k = ltb-true c d u in pn (a - b) (d - suc c) (omega arith) (omega arith))
-    (λ u. let k = ltb-false c d u in pp (a - b) (c - d) (omega arith) (omega arith))))
+    (sub-ind a b (λ z. R z (subℕ c d))
+    (λ x e. sub-ind c d (R (pos x)) (λ y f. pp x y e f) (λ y f. pn x y e f))
+    (λ x e. sub-ind c d (R (negsuc x)) (λ y f. np x y e f) (λ y f. nn x y e f)))
 
 -- a - b is below c - d exactly when a + d is below c + b
 pub less-sub : (a b c d : ℕ) → ltZ (pos a -ℤ pos b) (pos c -ℤ pos d) ≡ ltb (a + d) (c + b)
@@ -187,13 +206,15 @@ at-most-sub a b c d h = sub-order a b c d (λ x y. leZ x y ≡ true)
     (λ x y p q. refl)
     (λ x y p q. le-leb y x (omega arith))
 
--- the size of a difference
-pub abs-difference : (a b : ℕ) → natAbs (pos a -ℤ pos b) ≡ dist a b
-abs-difference a b = rw (sub-is a b) (abs-sub a b)
-
-mag-abs : (z : ℤ) → mag z ≤ natAbs z
-mag-abs (pos n) = omega arith
-mag-abs (negsuc n) = omega arith
+-- differences add up
+pub add-sub : (a b c d : ℕ) → (pos a -ℤ pos b) +ℤ (pos c -ℤ pos d) ≡ pos (a + c) -ℤ pos (b + d)
+add-sub a b c d =
+    sub-order a b c d (λ x y. x +ℤ y ≡ subℕ (a + c) (b + d))
+    (λ x y p q. sym (sub-pos (a + c) (b + d) (x + y) (omega arith)))
+    (λ x y p q. sub-same x (suc y) (a + c) (b + d) (omega arith))
+    (λ x y p q. sub-same y (suc x) (a + c) (b + d) (omega arith))
+    (λ x y p q. sym (sub-neg (a + c) (b + d) (suc (x + y)) (omega arith)))
+    ∙ sym (sub-is (a + c) (b + d))
 
 pub mag-difference : (a b m : ℕ) → a ≤ m → b ≤ m → mag (pos a -ℤ pos b) ≤ m
 mag-difference a b m h k = omega (arith, abs-difference a b, mag-abs (pos a -ℤ pos b))

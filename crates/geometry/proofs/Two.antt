@@ -5,14 +5,14 @@ use mathlib.Core.List.{List, [], _∷_}
 use mathlib.Core.Path.{_≡_, refl, sym, ap, _∙_}
 use native.Mathlib.Nat.{add-zero}
 use native.Mathlib.Omega.{arith}
-use lib.IntN.{ℤ, pos}
+use lib.IntN.{ℤ, pos, _+ℤ_}
 use lib.ListN.{getD, length}
 use Rattle.base.proofs.Tests.{and-both}
 use Rattle.geometry.specs.Box.{withinLimits, validAxis, validBox, validPoint, onAxis, inside}
 use Rattle.geometry.specs.Distance.{square, D, closest, farthest, closestPoint, farthestPoint, minDist, maxDist}
-use Rattle.geometry.specs.Margin.{bestEnd, bestPoint, Reached, reachedFrom, reached, margin}
+use Rattle.geometry.specs.Margin.{gain, bestEnd, bestPoint, difference, Reached, reachedFrom, reached, margin}
 use Rattle.geometry.proofs.OneAxis.{Axis, axis, Valid, best-far, best-near}
-use Rattle.geometry.proofs.Shift.{Limited, limited}
+use Rattle.geometry.proofs.Shift.{Limited, limited, add-sub}
 
 pub two : {A : Type 0} (l : List A) (d : A) → length l ≡ 2 → l ≡ getD l 0 d ∷ getD l 1 d ∷ []
 two [] d e = absurd (omega arith)
@@ -57,9 +57,12 @@ axes-2 b n v =
     let t = valid-axes-2 b n v in
     (axis (axis-x b) (t .0), axis (axis-y b) (t .1))
 
+pub within-2 : (p : List ℤ) → length p ≡ 2 → validPoint p ≡ true → (withinLimits (at-x p) ≡ true) × (withinLimits (at-y p) ≡ true)
+within-2 p n v = and-both (withinLimits (at-x p)) (withinLimits (at-y p)) (sym (valid-point-2 p n) ∙ v)
+
 pub limits-2 : (p : List ℤ) → length p ≡ 2 → validPoint p ≡ true → Limited (at-x p) × Limited (at-y p)
 limits-2 p n v =
-    let t = and-both (withinLimits (at-x p)) (withinLimits (at-y p)) (sym (valid-point-2 p n) ∙ v) in
+    let t = within-2 p n v in
     (limited (at-x p) (t .0), limited (at-y p) (t .1))
 
 -- the tests of three boxes, axis by axis
@@ -115,6 +118,13 @@ module _ (o e b : List (List ℤ)) (no : length o ≡ 2) (ne : length e ≡ 2) (
   best-near-2 =
       ap (minDist b) best-point-2
       ∙ min-dist-2 b (bestEnd (axis-x o) (axis-x e) (axis-x b) ∷ bestEnd (axis-y o) (axis-y e) (axis-y b) ∷ []) nb refl
+
+  -- the margin: one difference an axis
+  pub margin-2 : margin o e b ≡ gain (axis-x e) (axis-x b) (bestEnd (axis-x o) (axis-x e) (axis-x b)) +ℤ gain (axis-y e) (axis-y b) (bestEnd (axis-y o) (axis-y e) (axis-y b))
+  unfolding margin reached reachedFrom difference gain maxDist minDist
+  margin-2 =
+      rw (best-far-2, best-near-2)
+      (sym (add-sub (best-far (axis-x o) (axis-x e) (axis-x b)) (best-near (axis-x o) (axis-x e) (axis-x b)) (best-far (axis-y o) (axis-y e) (axis-y b)) (best-near (axis-y o) (axis-y e) (axis-y b))))
 
 -- the margin with its three points, coordinate by coordinate
 unfoldable pub reached-at : ℤ → ℤ → ℤ → ℤ → ℤ → ℤ → ℤ → Reached

@@ -13,12 +13,13 @@ pub fn within_limits(x: i32) -> bool
     both(LOWEST <= x, x <= HIGHEST)
 }
 
+// Three comparisons: with the ends in order, each is within one limit because the other end is.
 pub fn valid_axis(s: [i32; 2]) -> bool
     ensures { λ r. ⌜ r ≡ validAxis s ⌝ }
 {
     let l = s[0];
     let h = s[1];
-    both(both(within_limits(l), within_limits(h)), l <= h)
+    both(both(LOWEST <= l, l <= h), h <= HIGHEST)
 }
 
 pub fn valid_box(b: [[i32; 2]; 2]) -> bool

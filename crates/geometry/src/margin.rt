@@ -1,86 +1,63 @@
 // The margin of three boxes, with three points that reach it, and whether E is closer than B from O.
 ghost use mathlib.Core.Path.{_≡_};
-ghost use mathlib.Core.Bool.{true, cond, _&&_};
-ghost use Prim.Native.Nat.{_+_, _<_, _≤_, _^_};
-ghost use lib.Dec.{ltb};
-ghost use Rattle.geometry.specs.Box.{validAxis, validBox};
-ghost use Rattle.geometry.specs.Distance.{square, closest, farthest, minDist, maxDist};
-ghost use Rattle.geometry.specs.Margin.{bestEnd, bestPoint, reached, margin, closer};
+ghost use mathlib.Core.Bool.{true, _&&_};
+ghost use Prim.Native.Nat.{_≤_};
+ghost use lib.IntN.{pos, _-ℤ_};
+ghost use Rattle.geometry.specs.Box.{lo, hi, validAxis, validBox};
+ghost use Rattle.geometry.specs.Distance.{closest, farthest};
+ghost use Rattle.geometry.specs.Margin.{gain, bestEnd, reached, margin, closer};
 ghost use Rattle.geometry.specs.Calls.{marginOutcome, marginCall, reachedOf};
 use crate::axis;
 use crate::limits;
 use base::Refusal;
 use base::both;
 
-// From a coordinate or a point of O: the square to E, at the end farther away, and the square to B, at its closest point.
-pub struct Squares {
-    pub far: u64,
-    pub near: u64,
-}
-
-fn squares_from(e: [i32; 2], b: [i32; 2], x: i32) -> Squares
-    ensures { λ r. ⌜ (r .far ≡ square x (farthest e x)) × (r .near ≡ square x (closest b x)) ⌝ }
+// A square to E less a square to B, on one axis.
+fn difference(far: u64, near: u64) -> i64
+    requires { ⌜ (far ≤ 4000000000000) × (near ≤ 4000000000000) ⌝ }
+    ensures { λ r. ⌜ r ≡ (pos far -ℤ pos near) ⌝ }
 {
-    let far = axis::max_square(e, x);
-    let near = axis::min_square(b, x);
-    Squares { far, near }
+    (far as i64) - (near as i64)
 }
 
-// Whether the high end of O has the larger difference far - near. As sums: nothing is negative.
-pub fn high_is_better(low: Squares, high: Squares) -> bool
-    requires { ⌜ (low .far + high .near < 2 ^ 64) × (high .far + low .near < 2 ^ 64) ⌝ }
-    ensures { λ r. ⌜ r ≡ ltb (low .far + high .near) (high .far + low .near) ⌝ }
-{
-    low.far + high.near < high.far + low.near
+// On one axis, from each end of O: the square to the farther end of E less the square to the closest point of B.
+struct Gains {
+    low: i64,
+    high: i64,
 }
 
-fn pick(first: bool, a: u64, b: u64) -> u64
-    ensures { λ r. ⌜ r ≡ cond first a b ⌝ }
-{
-    if first { a } else { b }
-}
-
-// On one axis, the squares from the end of O with the larger difference: four squares, one comparison, no other branch.
-fn best_squares(o: [i32; 2], e: [i32; 2], b: [i32; 2]) -> Squares
+fn gains_at_ends(o: [i32; 2], e: [i32; 2], b: [i32; 2]) -> Gains
     requires { ⌜ (validAxis o ≡ true) × ((validAxis e ≡ true) × (validAxis b ≡ true)) ⌝ }
-    ensures far { λ r. ⌜ r .far ≡ square (bestEnd o e b) (farthest e (bestEnd o e b)) ⌝ }
-    ensures near { λ r. ⌜ r .near ≡ square (bestEnd o e b) (closest b (bestEnd o e b)) ⌝ }
+    ensures { λ r. ⌜ (r .low ≡ gain e b (lo o)) × (r .high ≡ gain e b (hi o)) ⌝ }
 {
-    let low = squares_from(e, b, o[0]);
-    let high = squares_from(e, b, o[1]);
-    let better = high_is_better(low, high);
-    let far = pick(better, high.far, low.far);
-    let near = pick(better, high.near, low.near);
-    Squares { far, near }
+    let l = o[0];
+    let h = o[1];
+    let low = difference(axis::max_square(e, l), axis::min_square(b, l));
+    let high = difference(axis::max_square(e, h), axis::min_square(b, h));
+    Gains { low, high }
 }
 
-// Over both axes: far to E and near to B, from the point of O that the margin is taken at.
-fn decisive_squares(o: [[i32; 2]; 2], e: [[i32; 2]; 2], b: [[i32; 2]; 2]) -> Squares
-    requires { ⌜ (validBox o ≡ true) × ((validBox e ≡ true) × (validBox b ≡ true)) ⌝ }
-    ensures far { λ r. ⌜ (r .far ≡ maxDist e (bestPoint o e b)) × (r .far ≤ 8000000000000) ⌝ }
-    ensures near { λ r. ⌜ (r .near ≡ minDist b (bestPoint o e b)) × (r .near ≤ 8000000000000) ⌝ }
+// The larger of the two.
+fn best_gain(o: [i32; 2], e: [i32; 2], b: [i32; 2]) -> i64
+    requires { ⌜ (validAxis o ≡ true) × ((validAxis e ≡ true) × (validAxis b ≡ true)) ⌝ }
+    ensures { λ r. ⌜ r ≡ gain e b (bestEnd o e b) ⌝ }
 {
-    let x = best_squares(o[0], e[0], b[0]);
-    let y = best_squares(o[1], e[1], b[1]);
-    let far = x.far + y.far;
-    let near = x.near + y.near;
-    Squares { far, near }
+    let g = gains_at_ends(o, e, b);
+    if g.low < g.high { g.high } else { g.low }
 }
 
 pub fn margin_within(o: [[i32; 2]; 2], e: [[i32; 2]; 2], b: [[i32; 2]; 2]) -> i64
     requires { ⌜ (validBox o ≡ true) × ((validBox e ≡ true) × (validBox b ≡ true)) ⌝ }
     ensures { λ r. ⌜ r ≡ margin o e b ⌝ }
 {
-    let s = decisive_squares(o, e, b);
-    (s.far as i64) - (s.near as i64)
+    best_gain(o[0], e[0], b[0]) + best_gain(o[1], e[1], b[1])
 }
 
 pub fn closer_within(o: [[i32; 2]; 2], e: [[i32; 2]; 2], b: [[i32; 2]; 2]) -> bool
     requires { ⌜ (validBox o ≡ true) × ((validBox e ≡ true) × (validBox b ≡ true)) ⌝ }
     ensures { λ r. ⌜ r ≡ closer o e b ⌝ }
 {
-    let s = decisive_squares(o, e, b);
-    s.far < s.near
+    margin_within(o, e, b) < 0
 }
 
 // The coordinates on one axis of the three points that reach the margin.
@@ -94,11 +71,8 @@ fn best_end(o: [i32; 2], e: [i32; 2], b: [i32; 2]) -> i32
     requires { ⌜ (validAxis o ≡ true) × ((validAxis e ≡ true) × (validAxis b ≡ true)) ⌝ }
     ensures { λ r. ⌜ r ≡ bestEnd o e b ⌝ }
 {
-    let l = o[0];
-    let h = o[1];
-    let low = squares_from(e, b, l);
-    let high = squares_from(e, b, h);
-    if high_is_better(low, high) { h } else { l }
+    let g = gains_at_ends(o, e, b);
+    if g.low < g.high { o[1] } else { o[0] }
 }
 
 fn best_ends(o: [i32; 2], e: [i32; 2], b: [i32; 2]) -> Ends

@@ -1,12 +1,15 @@
-use mathlib.Core.Path.{_≡_, _∙_}
-use native.Mathlib.Omega.{arith}
+use mathlib.Core.Bool.{true, false}
+use mathlib.Core.Path.{_≡_, sym, _∙_}
+use lib.IntN.{_-ℤ_}
+use lib.Signed.{ltZ}
 use mir.Facts.{toZ-ofZ}
 use mir.Syntax.{w32}
-use mir.Val.{SFits}
-use borrow.Author.Needs.{sfits-of, needs}
-use borrow.Author.Tests.{lt-ltb, le-ltb}
+use mir.Val.{toZ, ofZ}
+use borrow.Author.Needs.{needs}
 use Rattle.geometry.specs.Box.{lo, hi}
-use Rattle.geometry.specs.Distance.{gap, farthest}
+use Rattle.geometry.proofs.OneAxis.{Axis, axis, farthest-test}
+use Rattle.geometry.proofs.Shift.{Limited, limited}
+use Rattle.geometry.proofs.Subtracting.{limited-fits, subtract-fits, subtract-is}
 use Rattle.geometry.proofs.axis.farthest.Statement.{statement}
 use Rattle.geometry.proofs.axis.farthest.Tie as tie
 
@@ -16,42 +19,30 @@ array-copy-out-l c = search needs
 array-copy-out-h : tie.Need-array-copy-out-h
 array-copy-out-h c = search needs
 
-gap-requires : tie.Need-gap-requires
-gap-requires c κs = search needs
+on-axis : (s : tie.Start) → Axis (s .args .t1)
+on-axis s = axis (s .args .t1) (s .pre .0)
 
-gap-requires-2 : tie.Need-gap-requires-2
-gap-requires-2 c κs = search needs
+at : (s : tie.Start) → Limited (s .args .x)
+at s = limited (s .args .x) (s .pre .1)
 
--- the ends fit, and the two distances
-low : (c : tie.After-l) → SFits w32 (lo (c .before .args .t1))
-low c = sfits-of (c .l .given)
+sub-if1 : tie.Need-sub-if1
+sub-if1 c = let s = c .before .before in subtract-fits (at s) (on-axis s .low)
 
-high : (c : tie.After-h) → SFits w32 (hi (c .before .before .args .t1))
-high c = sfits-of (c .h .given)
-
-gap-low : (c : tie.After-gap) → c .gap .result ≡ gap (c .before .before .before .args .x) (lo (c .before .before .before .args .t1))
-gap-low c = simp (toZ-ofZ (c .before .before .before .fits .x), toZ-ofZ (low (c .before .before))) at (c .gap .ensures .0)
-
-gap-high : (c : tie.After-gap2) → c .gap2 .result ≡ gap (c .before .before .before .before .args .x) (hi (c .before .before .before .before .args .t1))
-gap-high c = simp (toZ-ofZ (c .before .before .before .before .fits .x), toZ-ofZ (high (c .before .before))) at (c .gap2 .ensures .0)
+sub-if1-2 : tie.Need-sub-if1-2
+sub-if1-2 c = let s = c .before .before in subtract-fits (on-axis s .high) (at s)
 
 returns : tie.Need-returns
-unfolding farthest
 returns c =
-    let s = c .before .before .before .before .before in
-    let a = gap-low (c .before .before) in
-    let b = gap-high (c .before) in
-    toZ-ofZ (high (c .before .before .before)) ∙ rw (lt-ltb (gap (s .args .x) (lo (s .args .t1))) (gap (s .args .x) (hi (s .args .t1))) (omega arith))
+    let s = c .before .before .before in
+    let t : ltZ (s .args .x -ℤ lo (s .args .t1)) (hi (s .args .t1) -ℤ s .args .x) ≡ true = simp (subtract-is (at s) (on-axis s .low), subtract-is (on-axis s .high) (at s)) at (c .if1 .taken) in
+    toZ-ofZ (limited-fits (on-axis s .high)) ∙ sym (farthest-test (s .args .t1) (s .args .x) (on-axis s) (at s) ∙ rw t)
 
 returns-2 : tie.Need-returns-2
-unfolding farthest
 returns-2 c =
-    let s = c .before .before .before .before .before in
-    let a = gap-low (c .before .before) in
-    let b = gap-high (c .before) in
-    toZ-ofZ (low (c .before .before .before .before)) ∙ rw (le-ltb (gap (s .args .x) (lo (s .args .t1))) (gap (s .args .x) (hi (s .args .t1))) (omega arith))
+    let s = c .before .before .before in
+    let t : ltZ (s .args .x -ℤ lo (s .args .t1)) (hi (s .args .t1) -ℤ s .args .x) ≡ false = simp (subtract-is (at s) (on-axis s .low), subtract-is (on-axis s .high) (at s)) at (c .if1 .left) in
+    toZ-ofZ (limited-fits (on-axis s .low)) ∙ sym (farthest-test (s .args .t1) (s .args .x) (on-axis s) (at s) ∙ rw t)
 
 pub farthest-spec : {M : Type 1} → statement M
 farthest-spec =
-    tie.close
-    (tie.spec array-copy-out-l array-copy-out-h gap-requires gap-requires-2 returns returns-2)
+    tie.close (tie.spec array-copy-out-l array-copy-out-h sub-if1 sub-if1-2 returns returns-2)

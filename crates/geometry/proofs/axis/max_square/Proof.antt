@@ -1,69 +1,62 @@
+use mathlib.Core.Bool.{true, false}
 use mathlib.Core.Path.{_≡_, sym, _∙_}
-use native.Mathlib.Omega.{arith}
-use mir.Facts.{toZ-ofZ}
-use mir.Syntax.{w32}
-use mir.Val.{SFits}
-use borrow.Author.Needs.{sfits-of, needs}
-use borrow.Author.Tests.{lt-ltb, le-ltb}
+use lib.IntN.{_-ℤ_}
+use lib.Signed.{ltZ}
+use borrow.Author.Needs.{needs}
 use Rattle.geometry.specs.Box.{lo, hi}
-use Rattle.geometry.specs.Distance.{gap}
-use Rattle.geometry.proofs.OneAxis.{farthest-square}
+use Rattle.geometry.specs.Distance.{gap, square}
+use Rattle.geometry.proofs.OneAxis.{Axis, axis, farthest-test}
+use Rattle.geometry.proofs.Shift.{Limited, limited, gap-comm}
+use Rattle.geometry.proofs.Subtracting.{subtract-fits, subtract-is}
 use Rattle.geometry.proofs.axis.max_square.Statement.{statement}
 use Rattle.geometry.proofs.axis.max_square.Tie as tie
 
-array-copy-out-gap : tie.Need-array-copy-out-gap
-array-copy-out-gap c = search needs
+array-copy-out-a : tie.Need-array-copy-out-a
+array-copy-out-a c = search needs
 
-gap-requires : tie.Need-gap-requires
-gap-requires c κs = search needs
+on-axis : (s : tie.Start) → Axis (s .args .t1)
+on-axis s = axis (s .args .t1) (s .pre .0)
 
-array-copy-out-gap-2 : tie.Need-array-copy-out-gap-2
-array-copy-out-gap-2 c = search needs
+at : (s : tie.Start) → Limited (s .args .x)
+at s = limited (s .args .x) (s .pre .1)
 
-gap-requires-2 : tie.Need-gap-requires-2
-gap-requires-2 c κs = search needs
+sub-a : tie.Need-sub-a
+sub-a c = let s = c .before in subtract-fits (at s) (on-axis s .low)
 
--- the two distances
-gap-low : (c : tie.After-gap) → c .gap .result ≡ gap (c .before .before .args .x) (lo (c .before .before .args .t1))
-gap-low c =
-    let fits : SFits w32 (lo (c .before .before .args .t1)) = sfits-of (c .before .gap-arg .given) in
-    simp (toZ-ofZ (c .before .before .fits .x), toZ-ofZ fits) at (c .gap .ensures .0)
+array-copy-out-b : tie.Need-array-copy-out-b
+array-copy-out-b c = search needs
 
-gap-high : (c : tie.After-gap2) → c .gap2 .result ≡ gap (c .before .before .before .before .args .x) (hi (c .before .before .before .before .args .t1))
-gap-high c =
-    let fits : SFits w32 (hi (c .before .before .before .before .args .t1)) = sfits-of (c .before .gap-arg2 .given) in
-    simp (toZ-ofZ (c .before .before .before .before .fits .x), toZ-ofZ fits) at (c .gap2 .ensures .0)
+sub-b : tie.Need-sub-b
+sub-b c = let s = c .before .before in subtract-fits (on-axis s .high) (at s)
 
 squared-requires : tie.Need-squared-requires
-squared-requires c κs = c .before .gap2 .ensures .1
+squared-requires c κs = search needs
 
 squared-requires-2 : tie.Need-squared-requires-2
-squared-requires-2 c κs = c .before .before .before .gap .ensures .1
+squared-requires-2 c κs = search needs
 
 returns : tie.Need-returns
+unfolding square gap
 returns c =
-    let s = c .before .before .before .before .before .before in
-    let a = gap-low (c .before .before .before .before) in
-    let b = gap-high (c .before .before) in
-    let t = lt-ltb (gap (s .args .x) (lo (s .args .t1))) (gap (s .args .x) (hi (s .args .t1))) (omega arith) in
-    c .squared .ensures ∙ rw b (sym (farthest-square (s .args .t1) (s .args .x) ∙ rw t))
+    let s = c .before .before .before .before in
+    let t : ltZ (s .args .x -ℤ lo (s .args .t1)) (hi (s .args .t1) -ℤ s .args .x) ≡ true = simp (subtract-is (at s) (on-axis s .low), subtract-is (on-axis s .high) (at s)) at (c .before .if1 .taken) in
+    c .squared .ensures ∙ rw (subtract-is (on-axis s .high) (at s), farthest-test (s .args .t1) (s .args .x) (on-axis s) (at s), t, gap-comm (hi (s .args .t1)) (s .args .x) (on-axis s .high) (at s))
 
 returns-2 : tie.Need-returns-2
+unfolding square gap
 returns-2 c =
-    let s = c .before .before .before .before .before .before in
-    let a = gap-low (c .before .before .before .before) in
-    let b = gap-high (c .before .before) in
-    let t = le-ltb (gap (s .args .x) (lo (s .args .t1))) (gap (s .args .x) (hi (s .args .t1))) (omega arith) in
-    c .squared2 .ensures ∙ rw a (sym (farthest-square (s .args .t1) (s .args .x) ∙ rw t))
+    let s = c .before .before .before .before in
+    let t : ltZ (s .args .x -ℤ lo (s .args .t1)) (hi (s .args .t1) -ℤ s .args .x) ≡ false = simp (subtract-is (at s) (on-axis s .low), subtract-is (on-axis s .high) (at s)) at (c .before .if1 .left) in
+    c .squared2 .ensures ∙ rw (subtract-is (at s) (on-axis s .low), farthest-test (s .args .t1) (s .args .x) (on-axis s) (at s), t)
 
 pub max-square-spec : {M : Type 1} → statement M
 max-square-spec =
     tie.close
     (tie.spec
-    array-copy-out-gap
-    gap-requires
-    array-copy-out-gap-2
-    gap-requires-2
+    array-copy-out-a
+    sub-a
+    array-copy-out-b
+    sub-b
     squared-requires
     squared-requires-2
     returns

@@ -6,7 +6,7 @@ use mir.Val.{SFits}
 use borrow.Author.Needs.{sfits-of, needs}
 use Rattle.geometry.specs.Distance.{square, farthest}
 use Rattle.geometry.proofs.OneAxis.{farthest-bound}
-use Rattle.geometry.proofs.Two.{axis-x, axis-y, at-x, at-y, axes-2, limits-2, max-dist-2}
+use Rattle.geometry.proofs.Two.{axis-x, axis-y, at-x, at-y, valid-axes-2, axes-2, within-2, limits-2, max-dist-2}
 use Rattle.geometry.proofs.distance.max_dist_within.Statement.{statement}
 use Rattle.geometry.proofs.distance.max_dist_within.Tie as tie
 
@@ -17,7 +17,10 @@ array-copy-out-max-square-2 : tie.Need-array-copy-out-max-square-2
 array-copy-out-max-square-2 c = search needs
 
 max-square-requires : tie.Need-max-square-requires
-max-square-requires c κs = search needs
+max-square-requires c κs =
+    let s = c .before .before in
+    let fits : SFits w32 (at-x (s .args .t2)) = sfits-of (c .max-square-arg2 .given) in
+    (valid-axes-2 (s .args .t1) (search needs) (s .pre .0) .0, rw (toZ-ofZ fits) (within-2 (s .args .t2) (search needs) (s .pre .1) .0))
 
 array-copy-out-max-square-3 : tie.Need-array-copy-out-max-square-3
 array-copy-out-max-square-3 c = search needs
@@ -26,7 +29,10 @@ array-copy-out-max-square-4 : tie.Need-array-copy-out-max-square-4
 array-copy-out-max-square-4 c = search needs
 
 max-square-requires-2 : tie.Need-max-square-requires-2
-max-square-requires-2 c κs = search needs
+max-square-requires-2 c κs =
+    let s = c .before .before .before .before .before in
+    let fits : SFits w32 (at-y (s .args .t2)) = sfits-of (c .max-square-arg4 .given) in
+    (valid-axes-2 (s .args .t1) (search needs) (s .pre .0) .1, rw (toZ-ofZ fits) (within-2 (s .args .t2) (search needs) (s .pre .1) .1))
 
 -- one square an axis
 square-x : (c : tie.After-max-square) → c .max-square .result ≡ square (at-x (c .before .before .before .args .t2)) (farthest (axis-x (c .before .before .before .args .t1)) (at-x (c .before .before .before .args .t2)))

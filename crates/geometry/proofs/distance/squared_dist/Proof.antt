@@ -6,7 +6,7 @@ use mir.Val.{SFits}
 use borrow.Author.Needs.{sfits-of, needs}
 use Rattle.geometry.specs.Distance.{square}
 use Rattle.geometry.proofs.Shift.{square-bound}
-use Rattle.geometry.proofs.Two.{at-x, at-y, limits-2, dist-2}
+use Rattle.geometry.proofs.Two.{at-x, at-y, within-2, limits-2, dist-2}
 use Rattle.geometry.proofs.distance.squared_dist.Statement.{statement}
 use Rattle.geometry.proofs.distance.squared_dist.Tie as tie
 
@@ -30,7 +30,11 @@ array-copy-out-square-2 : tie.Need-array-copy-out-square-2
 array-copy-out-square-2 c = search needs
 
 square-requires : tie.Need-square-requires
-square-requires c κs = search needs
+square-requires c κs =
+    let s = c .before .before in
+    let p : SFits w32 (at-x (s .args .t1)) = sfits-of (c .before .square-arg .given) in
+    let q : SFits w32 (at-x (s .args .t2)) = sfits-of (c .square-arg2 .given) in
+    rw (toZ-ofZ p, toZ-ofZ q) (within-2 (s .args .t1) (search needs) (s .pre .0) .0, within-2 (s .args .t2) (search needs) (s .pre .1) .0)
 
 array-copy-out-square-3 : tie.Need-array-copy-out-square-3
 array-copy-out-square-3 c = search needs
@@ -39,7 +43,11 @@ array-copy-out-square-4 : tie.Need-array-copy-out-square-4
 array-copy-out-square-4 c = search needs
 
 square-requires-2 : tie.Need-square-requires-2
-square-requires-2 c κs = search needs
+square-requires-2 c κs =
+    let s = c .before .before .before .before .before in
+    let p : SFits w32 (at-y (s .args .t1)) = sfits-of (c .before .square-arg3 .given) in
+    let q : SFits w32 (at-y (s .args .t2)) = sfits-of (c .square-arg4 .given) in
+    rw (toZ-ofZ p, toZ-ofZ q) (within-2 (s .args .t1) (search needs) (s .pre .0) .1, within-2 (s .args .t2) (search needs) (s .pre .1) .1)
 
 add-result : tie.Need-add-result
 add-result c =

@@ -4,6 +4,7 @@ use mir.Syntax.{w32}
 use mir.Val.{SFits}
 use borrow.Author.Needs.{sfits-of, needs}
 use Rattle.geometry.specs.Margin.{bestEnd}
+use Rattle.geometry.proofs.OneAxis.{axis, valid-on, best-end-on}
 use Rattle.geometry.proofs.margin.best_ends.Statement.{statement}
 use Rattle.geometry.proofs.margin.best_ends.Tie as tie
 
@@ -11,7 +12,11 @@ best-end-requires : tie.Need-best-end-requires
 best-end-requires c κs = search needs
 
 farthest-requires : tie.Need-farthest-requires
-farthest-requires c κs = search needs
+farthest-requires c κs =
+    let s = c .before in
+    let k : SFits w32 (c .best-end .result) = sfits-of (c .best-end .ok) in
+    let x : c .best-end .result ≡ bestEnd (s .args .o) (s .args .e) (s .args .b) = c .best-end .ensures in
+    (s .pre .1 .0, rw (toZ-ofZ k, x) (valid-on (s .pre .0) (best-end-on (s .args .o) (s .args .e) (s .args .b) (axis (s .args .o) (s .pre .0)))))
 
 closest-requires : tie.Need-closest-requires
 closest-requires c κs = search needs

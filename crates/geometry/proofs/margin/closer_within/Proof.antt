@@ -1,17 +1,20 @@
-use mathlib.Core.Path.{sym}
-use borrow.Author.Needs.{needs}
-use Rattle.geometry.proofs.Theorems.{closer-test}
+use mathlib.Core.Path.{_≡_}
+use mir.Facts.{toZ-ofZ}
+use mir.Syntax.{w64}
+use mir.Val.{SFits}
+use borrow.Author.Needs.{sfits-of, needs}
+use Rattle.geometry.specs.Margin.{closer}
 use Rattle.geometry.proofs.margin.closer_within.Statement.{statement}
 use Rattle.geometry.proofs.margin.closer_within.Tie as tie
 
-decisive-squares-requires : tie.Need-decisive-squares-requires
-decisive-squares-requires c κs = search needs
+margin-within-requires : tie.Need-margin-within-requires
+margin-within-requires c κs = search needs
 
 returns : tie.Need-returns
+unfolding closer
 returns c =
-    let s = c .before .before in
-    let q = c .before .decisive-squares .ensures in
-    rw (q .0 .0, q .1 .0) (sym (closer-test (s .args .o) (s .args .e) (s .args .b)))
+    let m : SFits w64 (c .margin-within .result) = sfits-of (c .margin-within .ok) in
+    rw (toZ-ofZ m, c .margin-within .ensures)
 
 pub closer-within-spec : {M : Type 1} → statement M
-closer-within-spec = tie.close (tie.spec decisive-squares-requires returns)
+closer-within-spec = tie.close (tie.spec margin-within-requires returns)

@@ -1,45 +1,82 @@
-use Prim.Native.Nat.{ℕ, _≤_}
-use mathlib.Core.Path.{_≡_, _∙_}
+use mathlib.Core.Path.{_≡_, sym, _∙_}
 use native.Mathlib.Omega.{arith}
-use lib.IntN.{pos, _-ℤ_}
-use mir.Facts.{toZ-pos, toZ-ofZ}
+use lib.IntN.{_+ℤ_}
+use lib.ListN.{length}
+use mir.Facts.{toZ-ofZ}
 use mir.Syntax.{w64}
-use mir.Val.{SFits, toZ}
-use borrow.Author.Needs.{needs}
-use Rattle.geometry.specs.Distance.{minDist, maxDist}
-use Rattle.geometry.specs.Margin.{reached, reachedFrom, margin, difference}
-use Rattle.geometry.proofs.Shift.{mag-difference}
+use mir.Val.{SFits, toZ, ofZ}
+use borrow.Author.Needs.{sfits-of, needs}
+use Rattle.geometry.specs.Margin.{margin}
+use Rattle.geometry.proofs.OneAxis.{Valid}
+use Rattle.geometry.proofs.Shift.{mag-abs}
+use Rattle.geometry.proofs.Theorems.{margin-bound}
+use Rattle.geometry.proofs.Two.{axis-x, axis-y, three-2, margin-2}
 use Rattle.geometry.proofs.margin.margin_within.Statement.{statement}
 use Rattle.geometry.proofs.margin.margin_within.Tie as tie
 
-diff : (f n : ℕ) → f ≤ 8000000000000 → n ≤ 8000000000000 → toZ w64 f -ℤ toZ w64 n ≡ pos f -ℤ pos n
-diff f n h k = rw (toZ-pos w64 {n = f} (omega arith), toZ-pos w64 {n = n} (omega arith))
+array-copy-out-best-gain : tie.Need-array-copy-out-best-gain
+array-copy-out-best-gain c = search needs
 
-fits : (f n : ℕ) → f ≤ 8000000000000 → n ≤ 8000000000000 → SFits w64 (toZ w64 f -ℤ toZ w64 n)
-fits f n h k = rw (diff f n h k) (record { sfits = omega (arith, mag-difference f n 8000000000000 h k) })
+array-copy-out-best-gain-2 : tie.Need-array-copy-out-best-gain-2
+array-copy-out-best-gain-2 c = search needs
 
-decisive-squares-requires : tie.Need-decisive-squares-requires
-decisive-squares-requires c κs = search needs
+array-copy-out-best-gain-3 : tie.Need-array-copy-out-best-gain-3
+array-copy-out-best-gain-3 c = search needs
 
-cast-result : tie.Need-cast-result
-cast-result c = search needs
+-- the tests passed on each axis
+axes : (s : tie.Start) → Valid (axis-x (s .args .t1)) (axis-x (s .args .t2)) (axis-x (s .args .t3)) × Valid (axis-y (s .args .t1)) (axis-y (s .args .t2)) (axis-y (s .args .t3))
+axes s = three-2 (s .args .t1) (s .args .t2) (s .args .t3) (search needs) (search needs) (search needs) (s .pre)
 
-cast-result-2 : tie.Need-cast-result-2
-cast-result-2 c = search needs
+best-gain-requires : tie.Need-best-gain-requires
+best-gain-requires c κs = axes (c .before .before .before) .0
 
-sub-result : tie.Need-sub-result
-sub-result c =
-    let q = c .before .before .decisive-squares .ensures in
-    fits (c .before .before .decisive-squares .result .far) (c .before .before .decisive-squares .result .near) (q .0 .1) (q .1 .1)
+array-copy-out-best-gain-4 : tie.Need-array-copy-out-best-gain-4
+array-copy-out-best-gain-4 c = search needs
+
+array-copy-out-best-gain-5 : tie.Need-array-copy-out-best-gain-5
+array-copy-out-best-gain-5 c = search needs
+
+array-copy-out-best-gain-6 : tie.Need-array-copy-out-best-gain-6
+array-copy-out-best-gain-6 c = search needs
+
+best-gain-requires-2 : tie.Need-best-gain-requires-2
+best-gain-requires-2 c κs = axes (c .before .before .before .before .before .before .before) .1
+
+-- the sum of the two differences is the margin, and small
+sum : (c : tie.After-best-gain2) →
+    toZ w64 (ofZ w64 (c .before .before .before .before .best-gain .result)) +ℤ toZ w64 (ofZ w64 (c .best-gain2 .result))
+    ≡ margin (c .before .before .before .before .before .before .before .before .args .t1) (c .before .before .before .before .before .before .before .before .args .t2) (c .before .before .before .before .before .before .before .before .args .t3)
+sum c =
+    let g = c .before .before .before .before in
+    let s = g .before .before .before .before in
+    let x : SFits w64 (g .best-gain .result) = sfits-of (g .best-gain .ok) in
+    let y : SFits w64 (c .best-gain2 .result) = sfits-of (c .best-gain2 .ok) in
+    rw (toZ-ofZ x, toZ-ofZ y, g .best-gain .ensures, c .best-gain2 .ensures)
+    (sym (margin-2 (s .args .t1) (s .args .t2) (s .args .t3) (search needs) (search needs) (search needs)))
+
+add-result : tie.Need-add-result
+add-result c =
+    let s = c .before .before .before .before .before .before .before .before in
+    let o : length (s .args .t1) ≡ 2 = search needs in
+    let e : length (s .args .t2) ≡ 2 = search needs in
+    let b : length (s .args .t3) ≡ 2 = search needs in
+    let small = margin-bound (s .args .t1) (s .args .t2) (s .args .t3) (s .pre .0) (s .pre .1 .0) (s .pre .1 .1) (e ∙ sym o) (b ∙ sym o) in
+    rw (sum c) (record { sfits = omega (arith, mag-abs (margin (s .args .t1) (s .args .t2) (s .args .t3))) })
 
 returns : tie.Need-returns
-unfolding margin reached reachedFrom difference maxDist minDist
-returns c =
-    let s = c .before .before .before in
-    let r = c .before .before .decisive-squares .result in
-    let q = c .before .before .decisive-squares .ensures in
-    toZ-ofZ (fits (r .far) (r .near) (q .0 .1) (q .1 .1)) ∙ diff (r .far) (r .near) (q .0 .1) (q .1 .1) ∙ rw (q .0 .0, q .1 .0)
+returns c = toZ-ofZ (add-result c) ∙ sum c
 
 pub margin-within-spec : {M : Type 1} → statement M
 margin-within-spec =
-    tie.close (tie.spec decisive-squares-requires cast-result cast-result-2 sub-result returns)
+    tie.close
+    (tie.spec
+    array-copy-out-best-gain
+    array-copy-out-best-gain-2
+    array-copy-out-best-gain-3
+    best-gain-requires
+    array-copy-out-best-gain-4
+    array-copy-out-best-gain-5
+    array-copy-out-best-gain-6
+    best-gain-requires-2
+    add-result
+    returns)
