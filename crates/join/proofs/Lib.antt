@@ -1,13 +1,5 @@
 pub mod ArgumentLaws
 pub mod StopLaws
-pub mod Gathering
-pub mod Scanning
-pub mod Taking
-pub mod Marking
-pub mod Small
-pub mod Going
-pub mod Turning
-pub mod Rises
 pub mod Linking
 pub mod RunLaws
 pub mod CallLaws

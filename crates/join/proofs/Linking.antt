@@ -20,6 +20,8 @@ use Rattle.search.specs.Pruning.{pruned}
 use Rattle.search.specs.Run as run
 use Rattle.search.specs.Run.{rank, candidate, queue}
 use Rattle.search.specs.declared.Place.{Place}
+use Rattle.serve.specs.Queue.{sooner, waits}
+use Rattle.serve.specs.Serving.{entered, walkStop, byKey, follows, walkStops}
 use Rattle.tiles.specs.Tile.{openTile}
 use Rattle.base.proofs.Tests.{by-test}
 use Rattle.places.proofs.Theorems.{own-places-are}
@@ -27,8 +29,6 @@ use Rattle.prune.proofs.Filling.{filled-at}
 use Rattle.search.proofs.Cut.{full, cutWalk, cutWalks, inserts}
 use Rattle.search.proofs.Lists.{all-map, filter-same, range-below}
 use Rattle.search.proofs.Walk.{by-outcome, enter, both}
-use Rattle.join.specs.Queue.{sooner, waits}
-use Rattle.join.specs.Serving.{entered, walkStop, byKey, follows, walkStops}
 
 eq-bit : (b : Bool) → eqb (bit b) 1 ≡ b
 eq-bit true = refl

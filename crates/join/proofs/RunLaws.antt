@@ -21,6 +21,10 @@ use Rattle.search.specs.Plan.{Plan, Lawful}
 use Rattle.search.specs.Pruning.{pruned, prunedCount}
 use Rattle.search.specs.Run.{noPlace, join, padded, queue, slices, placesUsed, marks, openedCount, mark}
 use Rattle.search.specs.declared.Place.{Place}
+use Rattle.serve.specs.Marks.{markAll}
+use Rattle.serve.specs.Queue.{waits}
+use Rattle.serve.specs.Serving.{walkStops, StopsReady, StopsServed, lastLength, plainPlan}
+use Rattle.serve.specs.Stops.{validStop}
 use Rattle.base.proofs.Outcomes.{andThen-accepted, accepted-injective, accepted-refused}
 use Rattle.codec.proofs.Over.{over-under, over-eq, length-over}
 use Rattle.places.proofs.Laying.{laid-next}
@@ -34,15 +38,11 @@ use Rattle.search.proofs.Lists.{all-mem, mem-all, member-mem, mem-member}
 use Rattle.search.proofs.Marks.{slices-length}
 use Rattle.search.proofs.Theorems.{places-used, opened-count, only-tiles}
 use Rattle.search.proofs.Walk.{both, by-outcome}
+use Rattle.serve.proofs.Marking.{marks-end}
 use Rattle.join.specs.Join.{runFor, filled, cleared, ended, runEnd, lent}
-use Rattle.join.specs.Marks.{markAll}
-use Rattle.join.specs.Queue.{waits}
 use Rattle.join.specs.Running.{RunReady, walksFor, Attempted}
-use Rattle.join.specs.Serving.{walkStops, StopsReady, StopsServed, lastLength, plainPlan}
-use Rattle.join.specs.Stops.{validStop}
 use Rattle.join.proofs.ArgumentLaws.{few-places}
 use Rattle.join.proofs.Linking.{walks-link, waits-link}
-use Rattle.join.proofs.Marking.{marks-end}
 
 -- ---- the stops
 

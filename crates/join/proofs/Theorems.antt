@@ -39,7 +39,7 @@ use Rattle.search.proofs.Walk.{by-outcome}
 use Rattle.tiles.proofs.Theorems.{validate-exactly}
 use Rattle.join.specs.Arguments.{arguments}
 use Rattle.join.specs.Claims.{Demand3, Agreeing, plan, opened, left}
-use Rattle.join.specs.Join.{Result, Slices, planFor, runFor, tests, filled, ended, runEnd, joinFrom, joinEnd, lent}
+use Rattle.join.specs.Join.{Result, Slices, planFor, runFor, tests, filled, ended, runEnd, joinFrom, joinEnd}
 use Rattle.join.specs.Running.{RunReady}
 use Rattle.join.proofs.CallLaws.{run-ready}
 use Rattle.join.proofs.RunLaws.{smallest, take-over, stops-length}

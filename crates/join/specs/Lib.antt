@@ -1,9 +1,5 @@
 pub mod Join
-pub mod Stops
 pub mod Arguments
-pub mod Queue
-pub mod Marks
-pub mod Serving
 pub mod Running
 pub mod Claims
 pub mod Cases

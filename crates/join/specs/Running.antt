@@ -15,11 +15,11 @@ use Rattle.prune.specs.Prune.{pruneMarks}
 use Rattle.search.specs.Pruning.{prunedCount}
 use Rattle.search.specs.Run.{slices}
 use Rattle.search.specs.declared.Place.{Place}
+use Rattle.serve.specs.Marks.{markAll}
+use Rattle.serve.specs.Serving.{lastLength, plainPlan}
+use Rattle.serve.specs.Stops.{validStop}
 use Rattle.search.proofs.Cut.{cutWalks}
 use Rattle.search.proofs.Walk.{Trace}
-use Rattle.join.specs.Marks.{markAll}
-use Rattle.join.specs.Serving.{lastLength, plainPlan}
-use Rattle.join.specs.Stops.{validStop}
 
 -- tests 1 to 14 passed
 pub record RunReady (f : List ℕ) (tiles : ℕ) (xs ys : List ℤ) (k : ℕ) (ds ss cs ms : List ℕ) : Type 0 where

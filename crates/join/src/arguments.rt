@@ -1,6 +1,5 @@
 // Tests 11 to 14 of the join.
 ghost use mathlib.Core.Path.{_≡_};
-ghost use Prim.Native.Nat.{_≤_};
 ghost use Rattle.blocks.specs.Outcome.{numberOutcome};
 ghost use Rattle.join.specs.Arguments.{stopsDue, room, arguments};
 use crate::stops::valid_stops;

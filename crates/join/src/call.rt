@@ -11,7 +11,6 @@ ghost use Rattle.search.specs.Lists.{count};
 ghost use Rattle.join.specs.Join.{joinOutcome, noResult, joinEnd, runEnd, lent};
 ghost use Rattle.join.specs.Running.{RunReady, Attempted};
 use crate::arguments::failed_argument;
-use crate::serving::serve_all;
 use crate::stops::around;
 use base::Refusal;
 use blocks::block::Answer;
@@ -20,6 +19,7 @@ use places::clear::clear8;
 use places::clear::clear32;
 use places::clear::clear64;
 use prune::marking::mark_pruned;
+use serve::serving::serve_all;
 
 pub enum JoinAnswer {
     Joined {

@@ -1,7 +1,4 @@
 // The join (document 01, "The join"). The call is call::join.
 pub mod arguments;
 pub mod call;
-pub mod opening;
-pub mod queue;
-pub mod serving;
 pub mod stops;

@@ -1,21 +1,14 @@
-// The stops of a run: their points, the test of their coordinates, and the smallest box around them.
+// The stops of a run: the test of their coordinates, and the smallest box around them.
 ghost use mathlib.Core.Path.{_≡_};
-ghost use mathlib.Core.Bool.{Bool, cond};
-ghost use mathlib.Core.List.{[], _∷_};
+ghost use mathlib.Core.Bool.{cond};
 ghost use Prim.Native.Nat.{_<_};
-ghost use lib.ListN.{getD, length};
+ghost use lib.ListN.{length};
 ghost use lib.Signed.{ltZ};
 ghost use Rattle.codec.specs.Every.{every};
 ghost use Rattle.plan.specs.Stops.{least, greatest, around};
-ghost use Rattle.join.specs.Stops.{stopAt, validStop};
+ghost use Rattle.serve.specs.Stops.{validStop};
 use geometry::limits::valid_point;
-
-pub fn stop_at(xs: &[i32], ys: &[i32], i: usize) -> [i32; 2]
-    requires { ⌜ (i < length (now xs)) × (i < length (now ys)) ⌝ }
-    ensures { λ r. ⌜ r ≡ stopAt (now (xs .entry)) (now (ys .entry)) i ⌝ }
-{
-    [xs[i], ys[i]]
-}
+use serve::stop::stop_at;
 
 // Test 13.
 pub fn valid_stops(xs: &[i32], ys: &[i32]) -> bool

@@ -1,4 +1,3 @@
-use Prim.Native.Nat.{_-_}
 use mathlib.Core.Bool.{true}
 use mathlib.Core.Path.{_≡_, sym, _∙_}
 use native.Mathlib.Omega.{arith}
@@ -7,8 +6,8 @@ use borrow.Author.Needs.{needs}
 use borrow.Author.Tests.{not-true, not-false}
 use Rattle.codec.specs.Every.{every}
 use Rattle.prune.specs.Prune.{validK}
+use Rattle.serve.specs.Stops.{validStop}
 use Rattle.join.specs.Arguments.{stopsDue, arguments}
-use Rattle.join.specs.Stops.{validStop}
 use Rattle.join.proofs.ArgumentLaws.{good-k, good-stops, few-places}
 use Rattle.join.proofs.arguments.failed_argument.Statement.{statement}
 use Rattle.join.proofs.arguments.failed_argument.Tie as tie

@@ -1,4 +1,3 @@
-use Prim.Native.Nat.{_-_}
 use borrow.Author.Needs.{needs}
 use Rattle.join.specs.Arguments.{stopsDue}
 use Rattle.join.proofs.arguments.stops_due.Statement.{statement}

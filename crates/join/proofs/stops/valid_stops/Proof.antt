@@ -7,8 +7,8 @@ use borrow.Author.Count.{below-more}
 use borrow.Author.Needs.{needs}
 use borrow.Author.Tests.{not-true, not-false}
 use Rattle.geometry.specs.Box.{validPoint}
+use Rattle.serve.specs.Stops.{validStop}
 use Rattle.codec.proofs.Every.{every-holds, every-fails}
-use Rattle.join.specs.Stops.{validStop}
 use Rattle.join.proofs.stops.valid_stops.Statement.{statement}
 use Rattle.join.proofs.stops.valid_stops.Tie as tie
 

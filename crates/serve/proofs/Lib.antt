@@ -1,0 +1,8 @@
+pub mod Gathering
+pub mod Scanning
+pub mod Taking
+pub mod Marking
+pub mod Small
+pub mod Going
+pub mod Turning
+pub mod Rises

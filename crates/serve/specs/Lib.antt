@@ -1,0 +1,4 @@
+pub mod Stops
+pub mod Queue
+pub mod Marks
+pub mod Serving
