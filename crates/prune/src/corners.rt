@@ -18,8 +18,8 @@ use blocks::directory;
 use geometry::distance::max_dist_within;
 use geometry::distance::min_dist_within;
 
-// How many tiles on either side are tried first.
-const FEW: usize = 16;
+// How many tiles are tried first.
+const FEW: usize = 32;
 
 // Far from p to each tile.
 pub fn fill_far(f: &[u8], tiles: usize, p: [i32; 2], far: &mut [u64])
@@ -89,13 +89,7 @@ pub fn middle_tile(fa: &[u64], fd: &[u64], tiles: usize) -> usize
     middle
 }
 
-// Some tiles before and after one, as far as there are.
-pub fn few_before(t: usize) -> usize
-    ensures { λ r. ⌜ r ≤ t ⌝ }
-{
-    if t < FEW { 0 } else { t - FEW }
-}
-
+// Where the few tiles from t on end.
 pub fn few_after(t: usize, tiles: usize) -> usize
     requires { ⌜ t ≤ tiles ⌝ }
     ensures { λ r. ⌜ (t ≤ r) × (r ≤ tiles) ⌝ }

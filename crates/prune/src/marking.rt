@@ -75,8 +75,8 @@ fn reaches_among(
     k <= sum
 }
 
-// Whether the counts of all tiles closer than box b add up to at least k. The tiles around `middle`, which lie about O, are tried
-// first: where b is far from O, they mostly do it.
+// Whether the counts of all tiles closer than box b add up to at least k. A few tiles from `middle` on, which lie about O, are
+// tried first: where b is far from O, they mostly do it.
 fn reaches(
     f: &[u8],
     tiles: usize,
@@ -94,9 +94,8 @@ fn reaches(
     ensures { λ r. ⌜ r ≡ leb k (total (λ e. closer o (boxAt (now (f .entry)) e) b) (countAt (now (f .entry))) (range 0 tiles)) ⌝ }
 {
     let n = corners::near_from(o, b);
-    let from = corners::few_before(middle);
     let to = corners::few_after(middle, tiles);
-    if reaches_among(f, tiles, fa, fb, fc, fd, o, b, n, from, to, k) {
+    if reaches_among(f, tiles, fa, fb, fc, fd, o, b, n, middle, to, k) {
         return true;
     }
     reaches_among(f, tiles, fa, fb, fc, fd, o, b, n, 0, tiles, k)
