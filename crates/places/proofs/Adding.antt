@@ -1,28 +1,34 @@
 -- A list to which places are added, one after another. Assumes nothing.
-use Prim.Native.Nat.{ℕ, suc, _+_, _*_, _-_, _<_, _≤_}
+use Prim.Native.Nat.{ℕ, zero, suc, _+_, _*_, _-_, _<_, _≤_}
 use mathlib.Core.List.{List, [], _∷_}
 use mathlib.Core.Path.{_≡_, refl, sym, ap, _∙_}
 use native.Mathlib.Nat.{add-zero}
 use native.Mathlib.Omega.{arith}
+use lib.Dec.{ltb}
 use lib.IntN.{ℤ}
-use lib.ListN.{length}
+use lib.ListN.{length, getD}
+use borrow.Author.Tests.{ltb-true, ltb-false}
 use Rattle.base.specs.Refusal.{accepted}
 use Rattle.blocks.specs.Block.{blockAt}
 use Rattle.blocks.specs.Directory.{directoryBlocks, directory, boxAt, countAt}
 use Rattle.codec.specs.Tabulate.{tabulate}
+use Rattle.geometry.specs.Distance.{D}
 use Rattle.plan.specs.FilePlan.{planOf, townOf}
 use Rattle.search.specs.Plan.{slots, ranks}
 use Rattle.search.specs.Run.{tilePlaces, rank, listing}
 use Rattle.search.specs.declared.Place.{Place}
-use Rattle.tiles.specs.Tile.{siteIn, tilePosition, openTile, siteAt, sitesAt}
+use Rattle.tiles.specs.Tile.{sitePoint, siteIn, tilePosition, openTile, siteAt, sitesAt}
 use Rattle.tiles.specs.declared.tile.Site.{Site}
 use Rattle.blocks.proofs.BlockLaws.{length-block}
 use Rattle.blocks.proofs.DirectoryLaws.{directory-good, block-fits, box-valid, count-small}
 use Rattle.geometry.proofs.AllAxes.{in-box, in-valid}
 use Rattle.search.proofs.Cut.{inserts}
+use Rattle.base.proofs.Tests.{by-test}
+use Rattle.search.proofs.Pairs.{lex-less}
 use Rattle.search.proofs.Places.{rank-order}
 use Rattle.tiles.proofs.Theorems.{opened-inside}
-use Rattle.places.specs.Places.{places, Laid, Adds, Ready, sitePlace, sitePlaces, ownPlaces, Sited}
+use Rattle.places.specs.Places.{placeAt, places, Laid, Adds, Ready, sitePlace, sitePlaces, ownPlaces, Sited, Farther, Skipped}
+use Rattle.places.proofs.Full.{put-none}
 use Rattle.places.proofs.Insertion.{inserts-few, inserts-grow, inserts-sorted}
 use Rattle.places.proofs.Laying.{places-length, laid-self, laid-lengths, laid-places, laid-next}
 
@@ -112,6 +118,41 @@ module _ {g : ℕ → Site} {n first : ℕ} {p : List ℤ} {ds₀ ss₀ cs₀ : 
   adding-done h =
       let e = sym (sites-done p k g first slot n (places ds ss cs at m) h) ∙ a .rest in
       record { number = sym (places-length ds ss cs at m) ∙ ap length e; laid = rw e at (a .laid) }
+
+-- one site more that is farther than the bound
+pub farther-next : (s : List ℕ) (p : List ℤ) (bound from i : ℕ) → Farther s p bound from i → bound < D p (sitePoint (siteIn s i))
+    → Farther s p bound from (i + 1)
+farther-next s p bound from i far here slot l u =
+    by-test (ltb slot i)
+    (λ t. far slot l (ltb-true slot i t))
+    (λ t.
+    let e : slot ≡ i = omega (arith, ltb-false slot i t) in
+    rw e here)
+
+-- sites farther away than the last place of a full list leave it as it is
+module _ (s : List ℕ) {n first : ℕ} {p : List ℤ} {ds₀ ss₀ cs₀ : List ℕ} {at used k : ℕ} {ds ss cs : List ℕ} {m slot : ℕ}
+    (a : Adding (siteIn s) n first p ds₀ ss₀ cs₀ at used k ds ss cs m slot) where
+  adding-past : k ≤ m → (j : ℕ) → slot + j ≤ n → Farther s p (getD ds (at + (k - 1)) 0) slot (slot + j)
+      → Adding (siteIn s) n first p ds₀ ss₀ cs₀ at used k ds ss cs m (slot + j)
+  unfolding rank
+  adding-past full zero h far = rw (add-zero slot) a
+  adding-past full (suc j) h far =
+      let e : slot + suc j ≡ slot + j + 1 = omega arith in
+      let b = adding-past full j (omega arith) (λ i l u. far i l (omega arith)) in
+      let x = sitePlace p (first + (slot + j)) (siteIn s (slot + j)) in
+      let y = placeAt ds ss cs (at + (k - 1)) in
+      rw e (adding-turn b (omega arith) x refl (put-none (b .ready) x full y refl (lex-less (y .site) (x .site) (far (slot + j) (omega arith) (omega arith)))))
+
+  pub adding-skip : {r : ℕ} → Skipped s n slot p ds at m k r → Adding (siteIn s) n first p ds₀ ss₀ cs₀ at used k ds ss cs m r
+  adding-skip {r} skipped =
+      let e : slot + (r - slot) ≡ r = omega (arith, skipped .onward) in
+      by-test (ltb slot r)
+      (λ t.
+      let far = skipped .farther (ltb-true slot r t) in
+      rw e at (adding-past (far .0) (r - slot) (omega (arith, skipped .inside)) (λ i l u. far .1 i l (omega arith))))
+      (λ t.
+      let same : r ≡ slot = omega (arith, skipped .onward, ltb-false slot r t) in
+      rw same a)
 
 -- ---- the search's own places
 pub site-places : (f : List ℕ) (tiles : ℕ) (o : List (List ℤ)) (k : ℕ) (p : List ℤ) (a : ℕ) (l : List Site)

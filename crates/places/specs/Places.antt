@@ -90,3 +90,12 @@ pub record Sited (s : List ℕ) (n : ℕ) : Type 0 where
   pub whole : length s ≡ blockSize
   pub few : n ≤ maxSites
   pub valid : (slot : ℕ) → slot < n → validPoint (sitePoint (siteIn s slot)) ≡ true
+
+-- the sites of slots from to r - 1 are farther from p than a bound; and than the last place of a full list, so that none gets in
+abbrev pub Farther : (s : List ℕ) (p : List ℤ) (bound from r : ℕ) → Type 0
+Farther s p bound from r = (slot : ℕ) → from ≤ slot → slot < r → bound < D p (sitePoint (siteIn s slot))
+
+pub record Skipped (s : List ℕ) (n from : ℕ) (p : List ℤ) (ds : List ℕ) (at used k r : ℕ) : Type 0 where
+  pub onward : from ≤ r
+  pub inside : r ≤ n
+  pub farther : from < r → (k ≤ used) × Farther s p (getD ds (at + (k - 1)) 0) from r

@@ -1,7 +1,7 @@
 // The sites of an opened tile put into the list of a stop.
 ghost use mathlib.Core.Bool.{true};
 ghost use mathlib.Core.Path.{_≡_};
-ghost use Prim.Native.Nat.{_+_, _<_, _^_};
+ghost use Prim.Native.Nat.{_+_, _<_, _≤_, _^_};
 ghost use lib.ListN.{length};
 ghost use Rattle.base.specs.Refusal.{accepted};
 ghost use Rattle.blocks.specs.Directory.{directory, countAt};
@@ -9,7 +9,7 @@ ghost use Rattle.blocks.specs.Layout.{blockSize, maxSites};
 ghost use Rattle.codec.specs.Tabulate.{tabulate};
 ghost use Rattle.geometry.specs.Box.{validPoint};
 ghost use Rattle.tiles.specs.Tile.{sitePoint, siteIn, openTile};
-ghost use Rattle.places.specs.Places.{Ready, Adds, sitePlace, sitePlaces, ownPlaces, Sited};
+ghost use Rattle.places.specs.Places.{Ready, Adds, sitePlace, sitePlaces, ownPlaces, Sited, Farther, Skipped};
 use crate::list::insert_place;
 use blocks::block;
 use blocks::directory;
@@ -34,6 +34,42 @@ fn place_in(s: &[u8], slot: usize, number: u32, p: [i32; 2]) -> Place
     }
 }
 
+// From a slot on, the first one whose site is no farther from p than the bound; n if there is none.
+fn next_within(s: &[u8], n: usize, from: usize, p: [i32; 2], bound: u64) -> usize
+    requires { ⌜ Sited (now s) n × (from ≤ n) × (validPoint p ≡ true) ⌝ }
+    ensures { λ r. ⌜ (from ≤ r) × (r ≤ n) × Farther (now (s .entry)) p bound from r ⌝ }
+{
+    let mut i = from;
+    while i < n {
+        let x = place_in(s, i, 0, p);
+        if x.dist <= bound {
+            return i;
+        }
+        i += 1;
+    }
+    i
+}
+
+// From a slot on, the first one whose site can get into the list: of a full list, no farther than its last place.
+fn next_slot(
+    s: &[u8],
+    n: usize,
+    from: usize,
+    p: [i32; 2],
+    dist: &[u64],
+    at: usize,
+    used: usize,
+    k: usize,
+) -> usize
+    requires { ⌜ Sited (now s) n × (from ≤ n) × (validPoint p ≡ true) × (0 < k) × (at + k ≤ length (now dist)) ⌝ }
+    ensures { λ r. ⌜ Skipped (now (s .entry)) n from p (now (dist .entry)) at used k r ⌝ }
+{
+    if used < k {
+        return from;
+    }
+    next_within(s, n, from, p, dist[at + (k - 1)])
+}
+
 // The n sites of a tile's block, in slot order, numbered from first on, put into the list.
 fn add_sites(
     s: &[u8],
@@ -54,12 +90,12 @@ fn add_sites(
         (now (dist .exit)) (now (site .exit)) (now (cue .exit)) ⌝ }
 {
     let mut m = used;
-    let mut slot = 0;
+    let mut slot = next_slot(s, n, 0, p, dist, at, m, k);
     while slot < n {
         let number = first + (slot as u32);
         let x = place_in(s, slot, number, p);
         m = insert_place(dist, site, cue, at, m, k, x);
-        slot += 1;
+        slot = next_slot(s, n, slot + 1, p, dist, at, m, k);
     }
     m
 }
