@@ -58,15 +58,15 @@ pub fn near_from(o: [[i32; 2]; 2], b: [[i32; 2]; 2]) -> Nears
     }
 }
 
-// Whether tile e is far below near, from each corner.
+// Whether tile e is far below near, from each corner. Most tiles that are not fail at the first.
 pub fn below(fa: &[u64], fb: &[u64], fc: &[u64], fd: &[u64], e: usize, n: Nears) -> bool
     requires { ⌜ (e < length (now fa)) × ((e < length (now fb)) × ((e < length (now fc)) × (e < length (now fd)))) ⌝ }
     ensures { λ r. ⌜ r ≡ ((ltb (getD (now (fa .entry)) e 0) (n .a) && ltb (getD (now (fb .entry)) e 0) (n .b)) && (ltb (getD (now (fc .entry)) e 0) (n .c) && ltb (getD (now (fd .entry)) e 0) (n .d))) ⌝ }
 {
-    both(
-        both(fa[e] < n.a, fb[e] < n.b),
-        both(fc[e] < n.c, fd[e] < n.d),
-    )
+    if n.a <= fa[e] {
+        return false;
+    }
+    both(fb[e] < n.b, both(fc[e] < n.c, fd[e] < n.d))
 }
 
 // A tile that lies about O: of the first `tiles` the one with the least far from two opposite corners. It is only where the sums

@@ -1,6 +1,6 @@
 -- Pairs of numbers in order: what the test `lex` says, and that it is an order.
 use Prim.Native.Nat.{ℕ, _/_, _≤_, _<_}
-use mathlib.Core.Bool.{true, false, not}
+use mathlib.Core.Bool.{true, false}
 use mathlib.Core.Logic.{_⊎_, inl, inr, _≢_}
 use mathlib.Core.Path.{_≡_, refl}
 use native.Mathlib.Omega.{arith}
@@ -10,14 +10,10 @@ use Rattle.base.proofs.Tests.{clash, by-test}
 use Rattle.search.specs.Order.{lex}
 use Rattle.search.specs.Plan.{slots}
 
--- by whether the first parts are equal
+-- with equal first parts
 pub lex-tie : (a b c d : ℕ) → a ≡ c → ltb b d ≡ lex a b c d
 unfolding lex
 lex-tie a b c d e = rw (eq-eqb a c e, le-ltb a c (omega arith))
-
-pub lex-apart : (a b c d : ℕ) → (a ≡ c → ⊥) → ltb a c ≡ lex a b c d
-unfolding lex
-lex-apart a b c d h = by-test (ltb a c) (λ f. rw f) (λ f. rw (f, ne-eqb a c h))
 
 -- what it says where it holds, and where it does not
 abbrev pub Ahead : ℕ → ℕ → ℕ → ℕ → Type 0
@@ -29,6 +25,10 @@ Behind a b c d = (c < a) ⊎ ((a ≡ c) × (d ≤ b))
 pub lex-less : {a c : ℕ} (b d : ℕ) → a < c → lex a b c d ≡ true
 unfolding lex
 lex-less {a} {c} b d h = rw (lt-ltb a c h)
+
+pub lex-more : {a c : ℕ} (b d : ℕ) → c < a → lex a b c d ≡ false
+unfolding lex
+lex-more {a} {c} b d h = rw (le-ltb a c (omega arith), ne-eqb a c (λ e. omega arith))
 
 pub lex-same : {a c b d : ℕ} → a ≡ c → b < d → lex a b c d ≡ true
 unfolding lex

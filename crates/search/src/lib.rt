@@ -17,7 +17,13 @@ pub struct Place {
 pub fn lex(a: u64, b: u32, c: u64, d: u32) -> bool
     ensures { λ r. ⌜ r ≡ lex a b c d ⌝ }
 {
-    if a == c { b < d } else { a < c }
+    if a < c {
+        return true;
+    }
+    if c < a {
+        return false;
+    }
+    b < d
 }
 
 // Place x ranks before place y.
