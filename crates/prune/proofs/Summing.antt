@@ -16,6 +16,20 @@ module _ (p : ℕ → Bool) (w : ℕ → ℕ) where
   unfolding total
   sum-done e n h = let d : n - e ≡ 0 = omega arith in rw d
 
+  -- tiles that do not count
+  sum-past : (e j n : ℕ) → e + j ≤ n → ((i : ℕ) → e ≤ i → i < e + j → p i ≡ false) → total p w (range (e + j) (n - (e + j))) ≡ total p w (range e (n - e))
+  sum-past e zero n h none = rw (add-zero e)
+  sum-past e (suc j) n h none =
+      let a : e + suc j ≡ e + j + 1 = omega arith in
+      let before = sum-past e j n (omega arith) (λ i l u. none i l (omega arith)) in
+      let here : cond (p (e + j)) (w (e + j)) 0 ≡ 0 = rw (none (e + j) (omega arith) (omega arith)) in
+      rw a (omega (arith, sum-turn (e + j) n (omega arith)))
+
+  pub sum-skip : (e r n : ℕ) → e ≤ r → r ≤ n → ((i : ℕ) → e ≤ i → i < r → p i ≡ false) → total p w (range r (n - r)) ≡ total p w (range e (n - e))
+  sum-skip e r n h k none =
+      let a : e + (r - e) ≡ r = omega arith in
+      rw a at (sum-past e (r - e) n (omega arith) (λ i l u. none i l (omega arith)))
+
   -- a part of the tiles makes no more than all of them
   front-most : (s m n : ℕ) → m ≤ n → total p w (range s m) ≤ total p w (range s n)
   unfolding total

@@ -39,3 +39,7 @@ pub record NearOf (o bounds : List (List ℤ)) (n : Nears) : Type 0 where
   pub b : n .b ≡ minDist bounds (cornerB o)
   pub c : n .c ≡ minDist bounds (cornerC o)
   pub d : n .d ≡ minDist bounds (cornerD o)
+
+-- from one tile to before another, none is far below near, from one corner
+abbrev pub NotBelow : (far : List ℕ) (near from to : ℕ) → Type 0
+NotBelow far near from to = (e : ℕ) → from ≤ e → e < to → near ≤ getD far e 0

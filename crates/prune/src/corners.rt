@@ -1,18 +1,18 @@
 // Tiles measured from the four corners of O. E is closer than B from O exactly when from each corner far to E is below near to
 // B (geometry's `closer-corners`), so each tile is measured once from each corner, and a pair of tiles takes four comparisons.
 ghost use mathlib.Core.Path.{_≡_};
-ghost use mathlib.Core.Bool.{true, cond, _&&_};
-ghost use mathlib.Core.List.{[], _∷_, map};
+ghost use mathlib.Core.Bool.{true, _&&_};
+ghost use mathlib.Core.List.{map};
 ghost use Prim.Native.Nat.{_<_, _≤_};
 ghost use lib.Dec.{ltb};
 ghost use lib.ListN.{getD, length};
 ghost use Rattle.base.specs.Refusal.{accepted};
-ghost use Rattle.blocks.specs.Directory.{directory, boxAt, countAt};
+ghost use Rattle.blocks.specs.Directory.{directory, boxAt};
 ghost use Rattle.codec.specs.Over.{over};
 ghost use Rattle.geometry.specs.Box.{validBox, validPoint};
 ghost use Rattle.geometry.specs.Distance.{minDist, maxDist};
 ghost use Rattle.search.specs.Lists.{range};
-ghost use Rattle.prune.specs.Corners.{cornerA, cornerB, cornerC, cornerD, FarTables, NearOf};
+ghost use Rattle.prune.specs.Corners.{NearOf, NotBelow};
 use base::both;
 use blocks::directory;
 use geometry::distance::max_dist_within;
@@ -58,15 +58,30 @@ pub fn near_from(o: [[i32; 2]; 2], b: [[i32; 2]; 2]) -> Nears
     }
 }
 
-// Whether tile e is far below near, from each corner. Most tiles that are not fail at the first.
+// From one tile on, the first before `to` that is far below near, from one corner; `to` if there is none.
+pub fn next_below(far: &[u64], from: usize, to: usize, near: u64) -> usize
+    requires { ⌜ (from ≤ to) × (to ≤ length (now far)) ⌝ }
+    ensures { λ r. ⌜ (from ≤ r) × (r ≤ to) × NotBelow (now (far .entry)) near from r ⌝ }
+{
+    let mut e = from;
+    while e < to {
+        if far[e] < near {
+            return e;
+        }
+        e += 1;
+    }
+    e
+}
+
+// Whether tile e is far below near, from each corner.
 pub fn below(fa: &[u64], fb: &[u64], fc: &[u64], fd: &[u64], e: usize, n: Nears) -> bool
     requires { ⌜ (e < length (now fa)) × ((e < length (now fb)) × ((e < length (now fc)) × (e < length (now fd)))) ⌝ }
     ensures { λ r. ⌜ r ≡ ((ltb (getD (now (fa .entry)) e 0) (n .a) && ltb (getD (now (fb .entry)) e 0) (n .b)) && (ltb (getD (now (fc .entry)) e 0) (n .c) && ltb (getD (now (fd .entry)) e 0) (n .d))) ⌝ }
 {
-    if n.a <= fa[e] {
-        return false;
-    }
-    both(fb[e] < n.b, both(fc[e] < n.c, fd[e] < n.d))
+    both(
+        both(fa[e] < n.a, fb[e] < n.b),
+        both(fc[e] < n.c, fd[e] < n.d),
+    )
 }
 
 // A tile that lies about O: of the first `tiles` the one with the least far from two opposite corners. It is only where the sums

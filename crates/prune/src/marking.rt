@@ -43,7 +43,7 @@ fn weight(
 }
 
 // Whether the counts of those tiles from `from` to `to` - 1 that are closer than box b add up to at least k. It stops as soon as
-// they do.
+// they do, and looks only at tiles that pass the test of the first corner.
 fn reaches_among(
     f: &[u8],
     tiles: usize,
@@ -64,13 +64,13 @@ fn reaches_among(
     ensures { λ r. ⌜ r ≡ leb k (total (λ e. closer o (boxAt (now (f .entry)) e) b) (countAt (now (f .entry))) (range from (to - from))) ⌝ }
 {
     let mut sum: usize = 0;
-    let mut e: usize = from;
+    let mut e = corners::next_below(fa, from, to, n.a);
     while e < to {
         sum += weight(f, tiles, fa, fb, fc, fd, e, o, b, n);
         if k <= sum {
             return true;
         }
-        e += 1;
+        e = corners::next_below(fa, e + 1, to, n.a);
     }
     k <= sum
 }
