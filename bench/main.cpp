@@ -34,12 +34,12 @@ struct Engine {
     }
 };
 
-// One input with everything that answers it: (a) to (e), each with lists of its own.
+// One input with everything that answers it: (a) to (f), each with lists of its own.
 class Cell {
 public:
     Cell(const Town &town, const std::string &stops, size_t n, uint32_t k, BlockCheck check = c_block_check)
         : town_(town), kind_(stops), stops_(stops == "track" ? track(town, n) : spread(town, n)), query_{town.file, stops_.x, stops_.y, k},
-          check_(check), lists_(5, Lists(n * k))
+          check_(check), lists_(6, Lists(n * k))
     {
     }
 
@@ -50,7 +50,8 @@ public:
         r.push_back({"search", [this] { full_search(town_.file, check_, Use::ONCE)->ask(query_, lists_[1]); }});
         r.push_back({"nanoflann", [this] { nanoflann_tree(town_.file, check_, Use::ONCE)->ask(query_, lists_[2]); }});
         r.push_back({"rtree", [this] { boost_rtree(town_.file, check_, Use::ONCE)->ask(query_, lists_[3]); }});
-        r.push_back({"paper", [this] { counts_ = paper(query_, check_, lists_[4]); }});
+        r.push_back({"paper", [this] { counts_[0] = paper(query_, check_, lists_[4]); }});
+        r.push_back({"tuned", [this] { counts_[1] = tuned_paper(query_, check_, lists_[5]); }});
         return r;
     }
 
@@ -67,17 +68,18 @@ public:
         return r;
     }
 
-    // All lists that were made are the same, and the counts of (e) are those of the engine.
+    // All lists that were made are the same, and the counts of (e) and (f) are those of the engine.
     void compare() const
     {
         std::string where = town_.name + ", " + kind_ + ", n " + std::to_string(query_.stops()) + ", k " + std::to_string(query_.k);
         if (engine_.joined.number != NEARBY_OK)
             fail("the engine refused " + where);
-        for (size_t i = 1; i < 5; i++)
+        for (size_t i = 1; i < 6; i++)
             if (!(lists_[i] == lists_[0]))
                 fail("lists differ: " + where + ", peer " + std::to_string(i));
-        if (counts_.opened != engine_.joined.opened || counts_.struck != engine_.joined.pruned)
-            fail("counts differ: " + where);
+        for (const PaperCounts &c : counts_)
+            if (c.opened != engine_.joined.opened || c.struck != engine_.joined.pruned)
+                fail("counts differ: " + where);
     }
 
     void write(const std::string &group, const std::vector<Runner> &runners) const
@@ -113,15 +115,15 @@ private:
     Query query_;
     BlockCheck check_;
     Engine engine_;
-    PaperCounts counts_{};
+    PaperCounts counts_[2] = {};
     std::vector<std::unique_ptr<Index>> ready_;
     std::vector<Lists> lists_;
 };
 
 void header(const char *title)
 {
-    std::printf("\n%s: microseconds, then ratios to the engine, then tiles opened/struck\n%-14s %-6s %4s %3s %10s %10s %10s %10s %10s\n", title,
-                "town", "stops", "n", "k", "engine", "search", "nanoflann", "rtree", "paper");
+    std::printf("\n%s: microseconds, then ratios to the engine, then tiles opened/struck\n%-14s %-6s %4s %3s %10s %10s %10s %10s %10s %10s\n", title,
+                "town", "stops", "n", "k", "engine", "search", "nanoflann", "rtree", "paper", "tuned");
 }
 
 void measure_cell(const char *group, const Town &town, const std::string &stops, size_t n, uint32_t k, BlockCheck check = c_block_check)

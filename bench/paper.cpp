@@ -1,10 +1,11 @@
-// (e) The paper's own algorithm, as one would write it down.
-// It does: check and decode the directory; for each tile and each end of the box O the far and near square, once; for each
-// tile B the counts of the nearer tiles, left as soon as they reach k; the tiles neither struck nor empty, gathered once; for
-// each stop a heap of them by key; each tile opened once a run, with all tests; sites read from the block's bytes; the k best
-// in a sorted vector.
-// It does not: sort or group tiles in space, keep anything from one stop for the next, use vector instructions by hand, or
-// threads.
+// (e) The paper's own algorithm, as one would write it down, and (f) the same made quicker by keeping what does not change.
+// Both: check and decode the directory; for each tile B the counts of the nearer tiles, left as soon as they reach k; for each
+// stop a heap of the tiles neither struck nor empty by key; each tile opened once a run, with all tests; sites read from the
+// block's bytes; the k best in a sorted vector.
+// (e) takes the margin of each pair of tiles from their boxes, and looks through all tiles for each stop.
+// (f) takes for each tile and each end of the box O the far and near square once, and gathers the tiles that wait once.
+// Neither sorts or groups tiles in space, keeps anything of one stop's walk for the next, or uses vector instructions by hand
+// or threads.
 #include "peers.hpp"
 #include <functional>
 
@@ -14,28 +15,52 @@ int64_t square(int64_t a) { return a * a; }
 int64_t near_square(int64_t p, int64_t low, int64_t high) { return p < low ? square(low - p) : p > high ? square(p - high) : 0; }
 int64_t far_square(int64_t p, int64_t low, int64_t high) { return std::max(square(p - low), square(high - p)); }
 
-// Squares from the four ends of O to a tile.
+int64_t axis_margin(int64_t o0, int64_t o1, int64_t e0, int64_t e1, int64_t b0, int64_t b1)
+{
+    return std::max(far_square(o0, e0, e1) - near_square(o0, b0, b1), far_square(o1, e0, e1) - near_square(o1, b0, b1));
+}
+
+// The margin of each pair, from the boxes.
+struct PairMargins {
+    const Directory &dir;
+    Box o;
+    int64_t operator()(size_t e, size_t b) const
+    {
+        const Box &p = dir.box[e], &q = dir.box[b];
+        return axis_margin(o.x0, o.x1, p.x0, p.x1, q.x0, q.x1) + axis_margin(o.y0, o.y1, p.y0, p.y1, q.y0, q.y1);
+    }
+};
+
+// The margin of each pair, from squares taken once for each tile from the four ends of O.
 struct Ends {
     int64_t x0, x1, y0, y1;
 };
 
-std::vector<uint8_t> strike(const Directory &dir, const Box &o, uint32_t k, PaperCounts &counts)
+struct TableMargins {
+    std::vector<Ends> far, near;
+    TableMargins(const Directory &dir, const Box &o) : far(dir.tiles()), near(dir.tiles())
+    {
+        for (size_t t = 0; t < dir.tiles(); t++) {
+            const Box &b = dir.box[t];
+            far[t] = {far_square(o.x0, b.x0, b.x1), far_square(o.x1, b.x0, b.x1), far_square(o.y0, b.y0, b.y1), far_square(o.y1, b.y0, b.y1)};
+            near[t] = {near_square(o.x0, b.x0, b.x1), near_square(o.x1, b.x0, b.x1), near_square(o.y0, b.y0, b.y1), near_square(o.y1, b.y0, b.y1)};
+        }
+    }
+    int64_t operator()(size_t e, size_t b) const
+    {
+        return std::max(far[e].x0 - near[b].x0, far[e].x1 - near[b].x1) + std::max(far[e].y0 - near[b].y0, far[e].y1 - near[b].y1);
+    }
+};
+
+template <class Margins> std::vector<uint8_t> strike(const Directory &dir, const Margins &margin, uint32_t k, PaperCounts &counts)
 {
     size_t tiles = dir.tiles();
-    std::vector<Ends> far(tiles), near(tiles);
-    for (size_t t = 0; t < tiles; t++) {
-        const Box &b = dir.box[t];
-        far[t] = {far_square(o.x0, b.x0, b.x1), far_square(o.x1, b.x0, b.x1), far_square(o.y0, b.y0, b.y1), far_square(o.y1, b.y0, b.y1)};
-        near[t] = {near_square(o.x0, b.x0, b.x1), near_square(o.x1, b.x0, b.x1), near_square(o.y0, b.y0, b.y1), near_square(o.y1, b.y0, b.y1)};
-    }
     std::vector<uint8_t> marks(tiles);
     for (size_t b = 0; b < tiles; b++) {
         uint32_t sum = 0;
-        for (size_t e = 0; e < tiles && sum < k; e++) {
-            int64_t margin = std::max(far[e].x0 - near[b].x0, far[e].x1 - near[b].x1) + std::max(far[e].y0 - near[b].y0, far[e].y1 - near[b].y1);
-            if (margin < 0)
+        for (size_t e = 0; e < tiles && sum < k; e++)
+            if (margin(e, b) < 0)
                 sum += dir.count[e];
-        }
         if (sum >= k) {
             marks[b] = 1;
             counts.struck++;
@@ -50,29 +75,19 @@ struct Key {
     bool operator>(const Key &o) const { return near != o.near ? near > o.near : tile > o.tile; }
 };
 
-} // namespace
-
-PaperCounts paper(const Query &q, BlockCheck check, Lists &out)
+// Serves the stops; `each_waiting` calls its argument with each tile neither struck nor empty.
+template <class Waiting> void serve(const Query &q, BlockCheck check, const Directory &dir, std::vector<uint8_t> &marks, const Waiting &each_waiting, PaperCounts &counts, Lists &out)
 {
-    Directory dir = read_directory(q.file, check);
-    auto [x0, x1] = std::minmax_element(q.x.begin(), q.x.end());
-    auto [y0, y1] = std::minmax_element(q.y.begin(), q.y.end());
-    PaperCounts counts{0, 0};
-    std::vector<uint8_t> marks = strike(dir, {*x0, *x1, *y0, *y1}, q.k, counts);
-    std::vector<uint32_t> waiting;
-    for (uint32_t t = 0; t < dir.tiles(); t++)
-        if (marks[t] != 1 && dir.count[t] != 0)
-            waiting.push_back(t);
     std::vector<Key> keys;
-    keys.reserve(waiting.size());
+    keys.reserve(dir.tiles());
     Best best(q.k);
     for (size_t i = 0; i < q.stops(); i++) {
         int64_t px = q.x[i], py = q.y[i];
         keys.clear();
-        for (uint32_t t : waiting) {
+        each_waiting([&](uint32_t t) {
             const Box &b = dir.box[t];
             keys.push_back({uint64_t(near_square(px, b.x0, b.x1) + near_square(py, b.y0, b.y1)), t});
-        }
+        });
         std::make_heap(keys.begin(), keys.end(), std::greater<>());
         best.clear();
         while (!keys.empty()) {
@@ -92,5 +107,44 @@ PaperCounts paper(const Query &q, BlockCheck check, Lists &out)
         }
         best.put(out, i);
     }
+}
+
+Box around(const Query &q)
+{
+    auto [x0, x1] = std::minmax_element(q.x.begin(), q.x.end());
+    auto [y0, y1] = std::minmax_element(q.y.begin(), q.y.end());
+    return {*x0, *x1, *y0, *y1};
+}
+
+} // namespace
+
+PaperCounts paper(const Query &q, BlockCheck check, Lists &out)
+{
+    Directory dir = read_directory(q.file, check);
+    PaperCounts counts{0, 0};
+    std::vector<uint8_t> marks = strike(dir, PairMargins{dir, around(q)}, q.k, counts);
+    auto all = [&](auto take) {
+        for (uint32_t t = 0; t < dir.tiles(); t++)
+            if (marks[t] != 1 && dir.count[t] != 0)
+                take(t);
+    };
+    serve(q, check, dir, marks, all, counts, out);
+    return counts;
+}
+
+PaperCounts tuned_paper(const Query &q, BlockCheck check, Lists &out)
+{
+    Directory dir = read_directory(q.file, check);
+    PaperCounts counts{0, 0};
+    std::vector<uint8_t> marks = strike(dir, TableMargins(dir, around(q)), q.k, counts);
+    std::vector<uint32_t> waiting;
+    for (uint32_t t = 0; t < dir.tiles(); t++)
+        if (marks[t] != 1 && dir.count[t] != 0)
+            waiting.push_back(t);
+    auto gathered = [&](auto take) {
+        for (uint32_t t : waiting)
+            take(t);
+    };
+    serve(q, check, dir, marks, gathered, counts, out);
     return counts;
 }

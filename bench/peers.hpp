@@ -76,5 +76,6 @@ struct PaperCounts {
     uint32_t opened, struck;
 };
 
-// The paper's own algorithm: no index, and only the tiles that it opens are read.
+// The paper's own algorithm: no index, and only the tiles that it opens are read. Written down plainly, and tuned.
 PaperCounts paper(const Query &q, BlockCheck check, Lists &out);
+PaperCounts tuned_paper(const Query &q, BlockCheck check, Lists &out);

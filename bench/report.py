@@ -7,9 +7,9 @@ from collections import defaultdict
 
 FOLDER, FLAGS = sys.argv[1], sys.argv[2]
 PLOTS = 'docs/benchmark'
-NAMES = {'engine': 'engine (a)', 'search': 'full search (b)', 'nanoflann': 'nanoflann (c)', 'rtree': 'R-tree (d)', 'paper': "paper in C++ (e)"}
-COLOURS = {'engine': '#6a3d9a', 'search': '#888888', 'nanoflann': '#1f78b4', 'rtree': '#33a02c', 'paper': '#e66100'}
-PEERS = ['search', 'nanoflann', 'rtree', 'paper']
+NAMES = {'engine': 'engine (a)', 'search': 'full search (b)', 'nanoflann': 'nanoflann (c)', 'rtree': 'R-tree (d)', 'paper': "paper in C++ (e)", 'tuned': 'paper, tuned (f)'}
+COLOURS = {'engine': '#6a3d9a', 'search': '#888888', 'nanoflann': '#1f78b4', 'rtree': '#33a02c', 'paper': '#e66100', 'tuned': '#b15928'}
+PEERS = ['search', 'nanoflann', 'rtree', 'paper', 'tuned']
 TARGET = ('grid 960 x 40', 'track', 256, 8)
 STACK_LIMIT = 512 * 1024
 
@@ -151,7 +151,7 @@ def growth_plot(name, title, unit, xs, series):
 
 def bar_plot(name, title, cells):
     left, right, top, thick = 175, 640, 40, 11
-    height = top + len(cells) * (5 * thick + 14) + 34
+    height = top + len(cells) * (len(NAMES) * thick + 14) + 34
     svg = Svg(700, height, title)
     marks = decades(min(min(v.values()) for _, v in cells), max(max(v.values()) for _, v in cells))
     at = lambda v: left + (right - left) * math.log(v / marks[0]) / math.log(marks[-1] / marks[0])
@@ -160,7 +160,7 @@ def bar_plot(name, title, cells):
         svg.text(at(m), height - 14, f'{m:,.0f}', 'middle')
     y = top
     for words, values in cells:
-        svg.text(left - 8, y + 2.5 * thick + 4, words, 'end')
+        svg.text(left - 8, y + len(NAMES) / 2 * thick + 4, words, 'end')
         for runner in NAMES:
             svg.bar(left, y, at(values[runner]) - left, thick - 2, COLOURS[runner])
             svg.text(at(values[runner]) + 4, y + thick - 3, f'{NAMES[runner][-2]} {three(values[runner])}', size=10)
@@ -194,7 +194,7 @@ def main_table(run):
     for cell, v in run.times['main'].items():
         opened, struck = run.counts[cell][1:]
         rows.append([*cell, *(three(v[r]) for r in NAMES), *ratios(v), opened, struck])
-    return table(['town', 'stops', 'n', 'k', 'a', 'b', 'c', 'd', 'e', 'b/a', 'c/a', 'd/a', 'e/a', 'opened', 'struck'], rows)
+    return table(['town', 'stops', 'n', 'k', 'a', 'b', 'c', 'd', 'e', 'f', 'b/a', 'c/a', 'd/a', 'e/a', 'f/a', 'opened', 'struck'], rows)
 
 
 def ask_table(run):
@@ -207,7 +207,7 @@ def ask_table(run):
 
 def late_table(run):
     rows = [[*c, *(three(v[r]) for r in NAMES), *ratios(v)] for c, v in run.times['late'].items()]
-    return table(['town', 'stops', 'n', 'k', 'a', 'b', 'c', 'd', 'e', 'b/a', 'c/a', 'd/a', 'e/a'], rows)
+    return table(['town', 'stops', 'n', 'k', 'a', 'b', 'c', 'd', 'e', 'f', 'b/a', 'c/a', 'd/a', 'e/a', 'f/a'], rows)
 
 
 def ns_table(run):
@@ -225,6 +225,7 @@ def reach_table(run):
     times = {p: v[p] / v['engine'] for p in PEERS}
     rows = [['not slower than (e)', f"{ratio(times['paper'])} times as fast", word(times['paper'] >= 1)],
             ['aim: 4 times faster than (e)', f"{ratio(times['paper'])} times", word(times['paper'] >= 4)],
+            ['not slower than (f)', f"{ratio(times['tuned'])} times as fast", word(times['tuned'] >= 1)],
             ['5 times faster than (c)', f"{ratio(times['nanoflann'])} times", word(times['nanoflann'] >= 5)],
             ['5 times faster than (d)', f"{ratio(times['rtree'])} times", word(times['rtree'] >= 5)]]
     for what, n in run.ns.items():
@@ -291,15 +292,17 @@ turns; on one thread.
 ## What is measured
 
 The clock runs from the file's bytes in memory to the lists of all stops: squared distance, site and cue. The output slices are made before. All
-lists are compared, and the run fails if any differ; so are the opened and struck tiles of (a) and (e).
+lists are compared, and the run fails if any differ; so are the opened and struck tiles of (a), (e) and (f).
 
 - a: the engine, `nearby_join` of the static library
 - b: full search: every block checked and decoded, then all sites for each stop
 - c: nanoflann: every block checked and decoded, the k-d tree built, then asked for each stop
 - d: Boost.Geometry's R-tree, likewise
-- e: the paper's own algorithm in straightforward C++ (`bench/paper.cpp` says what it does and does not do)
+- e: the paper's own algorithm in straightforward C++ (`bench/paper.cpp` says what it does and does not do): a margin for each pair of tiles, all
+  tiles looked through for each stop
+- f: the same, tuned: squares taken once for each tile, the tiles that wait gathered once
 
-All make the same tests of each block that they read. b to e sum up a block as the paper says it, with a remainder for each byte; further down
+All make the same tests of each block that they read. b to f sum up a block as the paper says it, with a remainder for each byte; further down
 they do it with one remainder at the end.
 
 Towns:
