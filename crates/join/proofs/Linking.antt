@@ -14,13 +14,13 @@ use Rattle.geometry.specs.Distance.{minDist}
 use Rattle.places.specs.Places.{lastAhead, ownPlaces}
 use Rattle.plan.specs.FilePlan.{planOf, openingOf}
 use Rattle.prune.specs.Prune.{pruneMarks}
+use Rattle.queue.specs.Queue.{sooner, waits}
 use Rattle.search.specs.Lists.{range, filter, bit}
 use Rattle.search.specs.Plan.{Plan, ranked}
 use Rattle.search.specs.Pruning.{pruned}
 use Rattle.search.specs.Run as run
 use Rattle.search.specs.Run.{rank, candidate, queue}
 use Rattle.search.specs.declared.Place.{Place}
-use Rattle.serve.specs.Queue.{sooner, waits}
 use Rattle.serve.specs.Serving.{entered, walkStop, byKey, follows, walkStops}
 use Rattle.tiles.specs.Tile.{openTile}
 use Rattle.base.proofs.Tests.{by-test}

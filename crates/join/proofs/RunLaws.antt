@@ -16,13 +16,13 @@ use Rattle.places.specs.Places.{dists, sites, cues}
 use Rattle.plan.specs.FilePlan.{planOf, openingOf}
 use Rattle.plan.specs.Stops.{stopsOf, around, SmallestAround}
 use Rattle.prune.specs.Prune.{pruneMarks}
+use Rattle.queue.specs.Queue.{waits}
 use Rattle.search.specs.Lists.{range, bit, count, member, filter, All}
 use Rattle.search.specs.Plan.{Plan, Lawful}
 use Rattle.search.specs.Pruning.{pruned, prunedCount}
 use Rattle.search.specs.Run.{noPlace, join, padded, queue, slices, placesUsed, marks, openedCount, mark}
 use Rattle.search.specs.declared.Place.{Place}
 use Rattle.serve.specs.Marks.{markAll}
-use Rattle.serve.specs.Queue.{waits}
 use Rattle.serve.specs.Serving.{walkStops, StopsReady, StopsServed, lastLength, plainPlan}
 use Rattle.serve.specs.Stops.{validStop}
 use Rattle.base.proofs.Outcomes.{andThen-accepted, accepted-injective, accepted-refused}

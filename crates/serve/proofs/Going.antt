@@ -16,6 +16,8 @@ use Rattle.codec.specs.Tabulate.{tabulate}
 use Rattle.geometry.specs.Box.{validPoint}
 use Rattle.geometry.specs.Distance.{minDist}
 use Rattle.places.specs.Places.{places, Laid, Ready, lastAhead, ownPlaces}
+use Rattle.queue.specs.Queue.{none, IsLeast}
+use Rattle.queue.specs.declared.keys.Least.{Least}
 use Rattle.search.specs.Lists.{range}
 use Rattle.search.specs.Order.{sort}
 use Rattle.search.specs.Run.{rank}
@@ -30,9 +32,7 @@ use Rattle.prune.proofs.Filling.{filled-at}
 use Rattle.search.proofs.Places.{rank-order}
 use Rattle.search.proofs.Sort.{Sorted}
 use Rattle.serve.specs.Marks.{markAll}
-use Rattle.serve.specs.Queue.{none, IsLeast}
 use Rattle.serve.specs.Serving.{Walk, entered, walkStop, byKey, Opens, Rising, withTile, TileTaken, StopServed}
-use Rattle.serve.specs.declared.queue.Least.{Least}
 use Rattle.serve.proofs.Small.{near-small}
 use Rattle.serve.proofs.Taking.{Keyed, living, living-all, living-none, living-next, keyed-next, fewer}
 

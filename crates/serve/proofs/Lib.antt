@@ -1,5 +1,3 @@
-pub mod Gathering
-pub mod Scanning
 pub mod Taking
 pub mod Marking
 pub mod Small

@@ -10,10 +10,10 @@ use Rattle.base.specs.Refusal.{accepted}
 use Rattle.blocks.specs.Directory.{directory, boxAt, entryBox}
 use Rattle.geometry.specs.Box.{validPoint}
 use Rattle.geometry.specs.Distance.{minDist}
+use Rattle.queue.specs.Queue.{none}
 use Rattle.blocks.proofs.Theorems.{entry-of-accepted}
 use Rattle.geometry.proofs.OneAxis.{closest-bound}
 use Rattle.geometry.proofs.Two.{axis-x, axis-y, at-x, at-y, axes-2, limits-2, min-dist-2}
-use Rattle.serve.specs.Queue.{none}
 
 pub near-small : (f : List ℕ) (tiles : ℕ) (p : List ℤ) → directory f ≡ accepted tiles → validPoint p ≡ true → length p ≡ 2 →
     (t : ℕ) → t < tiles → minDist (boxAt f t) p < none

@@ -11,6 +11,8 @@ use lib.Dec.{ltb, eqb}
 use lib.ListN.{length, getD, set, take, length-take, length-set}
 use lib.Seq.{getD-set-same, getD-set-other, getD-take, ext-getD}
 use borrow.Author.Tests.{lt-ltb, le-ltb, ltb-true, eqb-true, eqb-false}
+use Rattle.queue.specs.Queue.{none, sooner, IsLeast}
+use Rattle.queue.specs.declared.keys.Least.{Least}
 use Rattle.search.specs.Lists.{range, filter, All}
 use Rattle.search.specs.Order.{lex, insert, sort}
 use Rattle.base.proofs.Tests.{by-test, clash}
@@ -18,8 +20,6 @@ use Rattle.prune.proofs.Filling.{range-length, range-at}
 use Rattle.search.proofs.Lists.{all-any, all-perm, all-map, filter-all, filter-passes, filter-id, range-below, all-both}
 use Rattle.search.proofs.Pairs.{lex-less, lex-asym, lex-negtrans, lex-tight, lex-not-less}
 use Rattle.search.proofs.Sort.{Order, Tight, sort-perm, sort-is-perm, sort-length, stop}
-use Rattle.serve.specs.Queue.{none, sooner, IsLeast}
-use Rattle.serve.specs.declared.queue.Least.{Least}
 
 sooner-order : (dist : ℕ → ℕ) → Order (sooner dist)
 unfolding sooner

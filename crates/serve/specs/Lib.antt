@@ -1,4 +1,3 @@
 pub mod Stops
-pub mod Queue
 pub mod Marks
 pub mod Serving

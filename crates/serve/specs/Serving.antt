@@ -12,6 +12,7 @@ use Rattle.geometry.specs.Box.{validPoint}
 use Rattle.geometry.specs.Distance.{minDist}
 use Rattle.places.specs.Places.{placeAt, places, Laid, Ready, lastAhead, ownPlaces}
 use Rattle.plan.specs.FilePlan.{planOf}
+use Rattle.queue.specs.Queue.{sooner}
 use Rattle.search.specs.Order.{sort}
 use Rattle.search.specs.Plan.{Plan}
 use Rattle.search.specs.Run.{rank, noPlace, slices}
@@ -20,7 +21,6 @@ use Rattle.tiles.specs.Tile.{openTile}
 use Rattle.search.proofs.Cut.{inserts}
 use Rattle.search.proofs.Walk.{Trace}
 use Rattle.serve.specs.Marks.{markFrom, markAll}
-use Rattle.serve.specs.Queue.{sooner}
 use Rattle.serve.specs.Stops.{validStop}
 
 -- the tiles asked for, in turn, and what it comes to

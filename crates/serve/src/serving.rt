@@ -4,16 +4,18 @@ ghost use Prim.Native.Nat.{_*_, _≤_};
 ghost use lib.ListN.{length, take};
 ghost use Rattle.blocks.specs.Outcome.{answerOutcome};
 ghost use Rattle.plan.specs.Stops.{stopsOf};
+ghost use Rattle.queue.specs.Queue.{waits};
 ghost use Rattle.search.specs.Lists.{range, filter};
-ghost use Rattle.serve.specs.Queue.{waits};
 ghost use Rattle.serve.specs.Serving.{walkStop, byKey, walkStops, Rising, TileReady, TileTaken, StopReady, StopServed, StopsReady, StopsServed};
 use crate::opening::open_once;
-use crate::queue;
-use crate::queue::NONE;
 use crate::stop::stop_at;
 use blocks::block::Answer;
 use places::list::last_ahead;
 use places::tile::add_tile;
+use queue::gather::gather;
+use queue::keys::NONE;
+use queue::keys::fill_keys;
+use queue::keys::next_key;
 
 // Takes tile t for the stop p: opens it, once a run, and puts its sites into the list. The number of places used then.
 fn take_tile(
@@ -57,12 +59,12 @@ fn serve_stop(
     requires { ⌜ StopReady (now f) tiles (now order) m p k at (now keys) (now dist) (now site) (now cue) (now marks) ⌝ }
     ensures { λ r. ⌜ StopServed (now (f .entry)) tiles k at (walkStop (now (f .entry)) tiles k p (byKey (now (f .entry)) tiles k p (take m (now (order .entry)))) []) (now (dist .entry)) (now (site .entry)) (now (cue .entry)) (now (marks .entry)) (answerOutcome r) (now (dist .exit)) (now (site .exit)) (now (cue .exit)) (now (marks .exit)) ⌝ }
 {
-    queue::fill_keys(f, tiles, order, m, p, keys);
+    fill_keys(f, tiles, order, m, p, keys);
     let mut used: usize = 0;
     let mut from: usize = 0;
     let mut bound: u64 = 0;
     loop {
-        let least = queue::next_key(keys, m, from, bound);
+        let least = next_key(keys, m, from, bound);
         let j = least.at;
         let key = least.key;
         if key == NONE {
@@ -134,7 +136,7 @@ pub fn serve_all(
 {
     let mut order = [0usize; 960];
     let mut keys = [0u64; 960];
-    let m = queue::gather(f, tiles, marks, &mut order);
+    let m = gather(f, tiles, marks, &mut order);
     serve_each(
         f,
         tiles,

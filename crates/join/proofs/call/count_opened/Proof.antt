@@ -9,8 +9,8 @@ use lib.Seq.{take-suc}
 use borrow.Author.Needs.{needs}
 use Rattle.search.specs.Lists.{count}
 use Rattle.prune.proofs.Summing.{bit-small}
+use Rattle.queue.proofs.Gathering.{bit-byte}
 use Rattle.search.proofs.Lists.{count-append}
-use Rattle.serve.proofs.Gathering.{bit-byte}
 use Rattle.join.proofs.call.count_opened.Statement.{statement}
 use Rattle.join.proofs.call.count_opened.Tie as tie
 

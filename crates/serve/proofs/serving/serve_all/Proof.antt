@@ -1,7 +1,7 @@
 use native.Mathlib.Omega.{arith}
 use borrow.Author.Needs.{needs}
+use Rattle.queue.specs.Queue.{waits}
 use Rattle.blocks.proofs.DirectoryLaws.{directory-good}
-use Rattle.serve.specs.Queue.{waits}
 use Rattle.serve.proofs.Rises.{rising}
 use Rattle.serve.proofs.serving.serve_all.Statement.{statement}
 use Rattle.serve.proofs.serving.serve_all.Tie as tie

@@ -10,8 +10,8 @@ use Rattle.geometry.specs.Distance.{minDist}
 use Rattle.search.specs.Lists.{range}
 use Rattle.blocks.proofs.Theorems.{entry-of-accepted}
 use Rattle.prune.proofs.Filling.{fill-turn, fill-done}
-use Rattle.serve.proofs.queue.fill_keys.Statement.{statement}
-use Rattle.serve.proofs.queue.fill_keys.Tie as tie
+use Rattle.queue.proofs.keys.fill_keys.Statement.{statement}
+use Rattle.queue.proofs.keys.fill_keys.Tie as tie
 
 abbrev Inv-loop : tie.InvT-loop
 Inv-loop f tiles order m p keys₀ j₀ keys j = (j ≤ m) × ((length keys ≡ length keys₀) × (over keys j (map (λ i. minDist (boxAt f (getD order i 0)) p) (range j (m - j))) ≡ over keys₀ 0 (map (λ i. minDist (boxAt f (getD order i 0)) p) (range 0 m))))

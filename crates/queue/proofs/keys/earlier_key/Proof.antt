@@ -2,10 +2,10 @@ use Prim.Native.Nat.{_+_, _-_, _≤_}
 use mathlib.Core.Path.{_≡_}
 use native.Mathlib.Omega.{arith}
 use borrow.Author.Needs.{needs}
-use Rattle.serve.specs.Queue.{LeastFrom}
-use Rattle.serve.proofs.Scanning.{earlier-new, earlier-same, least-all}
-use Rattle.serve.proofs.queue.earlier_key.Statement.{statement}
-use Rattle.serve.proofs.queue.earlier_key.Tie as tie
+use Rattle.queue.specs.Queue.{LeastFrom}
+use Rattle.queue.proofs.Scanning.{earlier-new, earlier-same, least-all}
+use Rattle.queue.proofs.keys.earlier_key.Statement.{statement}
+use Rattle.queue.proofs.keys.earlier_key.Tie as tie
 
 abbrev Inv-loop : tie.InvT-loop
 Inv-loop keys m from at₀ key₀ j₀ at key j = (j ≤ from) × LeastFrom keys j m (record { at = at; key = key })

@@ -7,10 +7,10 @@ use mir.Val.{boolByte}
 use borrow.Author.Needs.{needs}
 use Rattle.search.specs.Lists.{range, filter, bit}
 use Rattle.prune.proofs.Summing.{bit-small}
-use Rattle.serve.specs.Queue.{waits}
-use Rattle.serve.proofs.Gathering.{bit-byte, gather-turn, gather-done}
-use Rattle.serve.proofs.queue.gather.Statement.{statement}
-use Rattle.serve.proofs.queue.gather.Tie as tie
+use Rattle.queue.specs.Queue.{waits}
+use Rattle.queue.proofs.Gathering.{bit-byte, gather-turn, gather-done}
+use Rattle.queue.proofs.gather.gather.Statement.{statement}
+use Rattle.queue.proofs.gather.gather.Tie as tie
 
 abbrev Inv-loop : tie.InvT-loop
 Inv-loop f tiles marks order₀ m₀ t₀ order m t = (t ≤ tiles) × ((m ≤ t) × ((length order ≡ length order₀) × (take m order ++ filter (waits f marks) (range t (tiles - t)) ≡ filter (waits f marks) (range 0 tiles))))

@@ -9,8 +9,8 @@ use lib.ListN.{length, getD, set}
 use lib.Seq.{getD-set-same, getD-set-other}
 use borrow.Author.Tests.{eqb-true, eqb-false}
 use Rattle.base.proofs.Tests.{by-test}
-use Rattle.serve.specs.Queue.{none, IsLeast, LeastFrom, Passed}
-use Rattle.serve.specs.declared.queue.Least.{Least}
+use Rattle.queue.specs.Queue.{none, IsLeast, LeastFrom, Passed}
+use Rattle.queue.specs.declared.keys.Least.{Least}
 
 -- below j, or j itself
 below-next : (P : ℕ → Type 0) (j i : ℕ) → i < j + 1 → (i < j → P i) → P j → P i

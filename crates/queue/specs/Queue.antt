@@ -7,7 +7,7 @@ use lib.Dec.{eqb, ltb}
 use lib.ListN.{getD}
 use Rattle.blocks.specs.Directory.{countAt}
 use Rattle.search.specs.Order.{lex}
-use Rattle.serve.specs.declared.queue.Least.{Least}
+use Rattle.queue.specs.declared.keys.Least.{Least}
 
 -- the key of a taken tile, above every distance
 abbrev pub none : ℕ

@@ -1,8 +1,8 @@
 use native.Mathlib.Omega.{arith}
 use borrow.Author.Needs.{needs}
-use Rattle.serve.specs.Queue.{waits}
-use Rattle.serve.proofs.queue.waits.Statement.{statement}
-use Rattle.serve.proofs.queue.waits.Tie as tie
+use Rattle.queue.specs.Queue.{waits}
+use Rattle.queue.proofs.gather.waits.Statement.{statement}
+use Rattle.queue.proofs.gather.waits.Tie as tie
 
 shared-slice-read-both : tie.Need-shared-slice-read-both
 shared-slice-read-both c = let s = c .before .before .before in omega (arith, s .pre .1 .0, s .pre .1 .1)

@@ -1,45 +1,20 @@
-// The tiles that wait for a stop: those neither pruned nor empty, gathered once a run, with their keys for the stop. A taken tile
-// has the key NONE, above every distance.
+// The keys of the waiting tiles for a stop, and the next of them. A taken tile has the key NONE, above every distance.
 ghost use mathlib.Core.Path.{_≡_};
 ghost use mathlib.Core.Bool.{true};
 ghost use mathlib.Core.List.{map};
 ghost use Prim.Native.Nat.{ℕ, _<_, _≤_};
-ghost use lib.ListN.{getD, length, take};
+ghost use lib.ListN.{getD, length};
 ghost use Rattle.base.specs.Refusal.{accepted};
 ghost use Rattle.blocks.specs.Directory.{directory, boxAt};
 ghost use Rattle.codec.specs.Over.{over};
 ghost use Rattle.geometry.specs.Box.{validPoint};
 ghost use Rattle.geometry.specs.Distance.{minDist};
-ghost use Rattle.search.specs.Lists.{range, filter};
-ghost use Rattle.serve.specs.Queue.{waits, IsLeast, LeastFrom, Passed};
-use base::both;
+ghost use Rattle.search.specs.Lists.{range};
+ghost use Rattle.queue.specs.Queue.{IsLeast, LeastFrom, Passed};
 use blocks::directory;
 use geometry::distance::min_dist_within;
 
 pub const NONE: u64 = 18_446_744_073_709_551_615;
-
-// Whether tile t is neither pruned nor empty.
-fn waits(f: &[u8], tiles: usize, marks: &[u8], t: usize) -> bool
-    requires { ⌜ (directory (now f) ≡ accepted tiles) × ((t < tiles) × (tiles ≤ length (now marks))) ⌝ }
-    ensures { λ r. ⌜ r ≡ waits (now (f .entry)) (now (marks .entry)) t ⌝ }
-{
-    both(marks[t] != 1, 0 < directory::count_at(f, tiles, t))
-}
-
-// The waiting tiles in their order, at the front of `order`; gives their number.
-pub fn gather(f: &[u8], tiles: usize, marks: &[u8], order: &mut [usize]) -> usize
-    requires { ⌜ (directory (now f) ≡ accepted tiles) × ((tiles ≤ length (now marks)) × (tiles ≤ length (now order))) ⌝ }
-    ensures { λ r. ⌜ (r ≤ tiles) × (take r (now (order .exit)) ≡ filter (waits (now (f .entry)) (now (marks .entry))) (range 0 tiles)) ⌝ }
-{
-    let mut m: usize = 0;
-    let mut t: usize = 0;
-    while t < tiles {
-        order[m] = t;
-        m += waits(f, tiles, marks, t) as usize;
-        t += 1;
-    }
-    m
-}
 
 // The key distance of each of the m waiting tiles, for the stop p.
 pub fn fill_keys(f: &[u8], tiles: usize, order: &[usize], m: usize, p: [i32; 2], keys: &mut [u64])

@@ -4,10 +4,10 @@ use mathlib.Core.Path.{_≡_}
 use native.Mathlib.Omega.{arith}
 use lib.ListN.{getD}
 use borrow.Author.Needs.{needs}
-use Rattle.serve.specs.Queue.{LeastFrom}
-use Rattle.serve.proofs.Scanning.{least-start, least-new, least-same, like-last}
-use Rattle.serve.proofs.queue.next_key.Statement.{statement}
-use Rattle.serve.proofs.queue.next_key.Tie as tie
+use Rattle.queue.specs.Queue.{LeastFrom}
+use Rattle.queue.proofs.Scanning.{least-start, least-new, least-same, like-last}
+use Rattle.queue.proofs.keys.next_key.Statement.{statement}
+use Rattle.queue.proofs.keys.next_key.Tie as tie
 
 abbrev Inv-loop : tie.InvT-loop
 Inv-loop keys m from bound at₀ key₀ j₀ at key j = (from ≤ j) × (j ≤ m) × (bound < key) × LeastFrom keys from j (record { at = at; key = key })
