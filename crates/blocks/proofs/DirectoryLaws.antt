@@ -7,7 +7,6 @@ use native.Mathlib.Omega.{arith}
 use lib.ListN.{length}
 use borrow.Author.Tests.{leb-true, le-leb, eqb-true, eq-eqb}
 use Rattle.base.specs.Refusal.{accepted, andThen, #length}
-use Rattle.codec.specs.Every.{every}
 use Rattle.geometry.specs.Box.{validBox}
 use Rattle.base.proofs.Outcomes.{accepted-injective, require-accepted, andThen-accepted}
 use Rattle.base.proofs.Tests.{and-both}

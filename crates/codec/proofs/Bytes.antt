@@ -7,7 +7,7 @@ use native.Mathlib.Omega.{arith}
 use lib.IntN.{ℤ}
 use lib.ListN.{getD}
 use lib.Signed.{mag}
-use Rattle.codec.specs.Bytes.{bytes, bytes16, bytes32, bits, bytesSigned}
+use Rattle.codec.specs.Bytes.{bytes, bytes16, bytes32, bytesSigned}
 use Rattle.codec.specs.Number.{u16At, u32At, signed, i32At}
 use Rattle.codec.proofs.Holds.{Holds, holds-run, holds-cons, holds-head, holds-tail}
 use Rattle.codec.proofs.Number.{bits-small, bits-signed, signed-bits}

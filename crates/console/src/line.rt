@@ -1,5 +1,4 @@
 // The lines of the program's output. A number takes at most 20 bytes: a place at most 44, a stop 27 and its places.
-ghost use mathlib.Core.Path.{_≡_};
 ghost use Prim.Native.Nat.{_+_, _*_, _≤_};
 ghost use lib.ListN.{length};
 ghost use Rattle.codec.specs.Tabulate.{joined};

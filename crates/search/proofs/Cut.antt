@@ -1,6 +1,6 @@
 -- A list cut at k as code keeps it: sites are put in one after another, and its last place tells whether k are ahead of a key.
 -- For the code of the join: its list and its end test are those of the walk.
-use Prim.Native.Nat.{ℕ, zero, suc, _+_, _-_, _≤_, _<_}
+use Prim.Native.Nat.{ℕ, zero, suc, _-_, _≤_, _<_}
 use mathlib.Core.Bool.{Bool, true, false, cond, _&&_}
 use mathlib.Core.List.{List, [], _∷_, _++_, append-nil, Permᴰ·middle}
 use mathlib.Core.Path.{_≡_, refl, sym, ap, _∙_, subst}

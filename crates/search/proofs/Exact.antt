@@ -1,7 +1,7 @@
 -- A tile that a stop's walk asks for has another filling that changes the full search for that stop: fewer than k sites of the
 -- town are ahead of its key, so a site at its least distance, with another cue, gets a place.
 use Prim.Native.Nat.{ℕ, suc, _+_, _*_, _/_, _%_, _≤_, _<_}
-use mathlib.Core.Bool.{true, false, not}
+use mathlib.Core.Bool.{true, false}
 use mathlib.Core.List.{List, [], _∷_, _++_, append-assoc, append-nil, append-cancel-left, head-eq-of-cons-eq, List·Memᴰ, List·Memᴰ·head, List·Memᴰ·tail, Memᴰ·append-right, Permᴰ·symm}
 use mathlib.Core.Logic.{inl, inr, _≢_}
 use mathlib.Core.Option.{some}
@@ -9,7 +9,7 @@ use mathlib.Core.Path.{_≡_, refl, sym, ap, _∙_, subst}
 use native.Mathlib.Nat.{add-zero}
 use native.Mathlib.Omega.{arith}
 use lib.Dec.{eqb}
-use lib.ListN.{length, take, getElem?, length-append}
+use lib.ListN.{length, getElem?, length-append}
 use borrow.Author.Tests.{leb-false, eqb-true, eqb-false}
 use Rattle.base.specs.Refusal.{accepted}
 use Rattle.base.proofs.Tests.{by-test}

@@ -1,5 +1,5 @@
 -- In a town that agrees with the directory, the tiles that a stop's walk takes decide the first k sites of the town.
-use Prim.Native.Nat.{ℕ, _+_, _≤_, _<_}
+use Prim.Native.Nat.{ℕ, _≤_, _<_}
 use mathlib.Core.Bool.{Bool, true, false, not}
 use mathlib.Core.List.{List, [], _∷_, _++_, List·Permᴰ, List·Permᴰ·trans, Permᴰ·refl, Permᴰ·symm, Permᴰ·append-left, List·Permᴰ·append-comm}
 use mathlib.Core.Path.{_≡_, refl, sym, _∙_}

@@ -1,5 +1,5 @@
 -- Document 01, "The join": the ranking, the run over the stops, and what it gives out.
-use Prim.Native.Nat.{ℕ, suc, _+_, _*_, _/_, _<_, min}
+use Prim.Native.Nat.{ℕ, suc, _*_, _/_, _<_, min}
 use mathlib.Core.Bool.{Bool, true, cond, not, _&&_}
 use mathlib.Core.List.{List, [], _∷_, _++_, map}
 use mathlib.Core.Path.{_≡_}

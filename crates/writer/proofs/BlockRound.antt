@@ -1,6 +1,6 @@
 -- A block that holds what the writer makes is good, with the entries or sites of the lists; a good block of bytes with these
 -- entries or sites holds what the writer makes. Assumes nothing.
-use Prim.Native.Nat.{ℕ, zero, _+_, _*_, _-_, _<_, _≤_}
+use Prim.Native.Nat.{ℕ, _+_, _*_, _<_, _≤_}
 use mathlib.Core.Bool.{true}
 use mathlib.Core.List.{List}
 use mathlib.Core.Path.{_≡_, sym, ap, _∙_}

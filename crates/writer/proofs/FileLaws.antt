@@ -1,6 +1,6 @@
 -- The file that the writer makes passes the full check and gives its lists back; a file of bytes that passes holds what the
 -- writer makes of the lists that are read from it. Assumes nothing.
-use Prim.Native.Nat.{ℕ, _+_, _*_, _-_, _/_, _%_, _<_, _≤_}
+use Prim.Native.Nat.{ℕ, _+_, _*_, _/_, _%_, _<_, _≤_}
 use mathlib.Core.List.{List}
 use mathlib.Core.Path.{_≡_, sym, ap, _∙_}
 use native.Mathlib.Nat.{zero-add}
@@ -15,7 +15,6 @@ use Rattle.blocks.specs.Directory.{directoryBlocks, boxAt, countAt}
 use Rattle.blocks.specs.Layout.{blockSize, entriesPerBlock, maxSites}
 use Rattle.codec.specs.Number.{Bytes}
 use Rattle.codec.specs.Tabulate.{joined}
-use Rattle.geometry.specs.Box as geometry
 use Rattle.tiles.specs.Accepted.{GoodTileBlock, GoodFile}
 use Rattle.tiles.specs.Tile.{siteIn, tilePosition, siteAt}
 use Rattle.base.proofs.Tests.{by-test}

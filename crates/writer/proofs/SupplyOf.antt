@@ -15,7 +15,6 @@ use Rattle.blocks.specs.Directory.{entryOffset, entryBox, entryCount, boxAt, co
 use Rattle.blocks.specs.Layout.{countOffset, entriesPerBlock}
 use Rattle.codec.specs.Number.{Bytes, u32At, i32At}
 use Rattle.codec.specs.Tabulate.{tabulate, joined}
-use Rattle.geometry.specs.Box as geometry
 use Rattle.tiles.specs.Accepted.{GoodFile}
 use Rattle.tiles.specs.Tile.{siteIn, siteAt}
 use Rattle.tiles.specs.declared.tile.Site.{Site}

@@ -2,7 +2,7 @@
 ghost use mathlib.Core.Path.{_≡_};
 ghost use Prim.Native.Nat.{_+_, _*_, _<_, _≤_};
 ghost use lib.ListN.{length};
-ghost use Rattle.blocks.specs.Directory.{directoryBlocks, entriesDue};
+ghost use Rattle.blocks.specs.Directory.{directoryBlocks};
 ghost use Rattle.blocks.specs.Layout.{blockSize, entrySize, countOffset, maxTiles};
 ghost use Rattle.codec.specs.Over.{over};
 ghost use Rattle.codec.specs.Tabulate.{joined};

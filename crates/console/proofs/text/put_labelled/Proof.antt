@@ -1,4 +1,3 @@
-use native.Mathlib.Omega.{arith}
 use borrow.Author.Needs.{needs}
 use Rattle.console.specs.Text.{labelled}
 use Rattle.console.proofs.TextLaws.{then}

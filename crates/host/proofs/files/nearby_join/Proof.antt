@@ -1,6 +1,5 @@
 use mathlib.Core.Path.{ap, _∙_}
 use borrow.Author.Needs.{needs}
-use Rattle.join.specs.Join.{End}
 use Rattle.host.specs.Reports.{joinReport}
 use Rattle.host.proofs.files.nearby_join.Statement.{statement}
 use Rattle.host.proofs.files.nearby_join.Tie as tie

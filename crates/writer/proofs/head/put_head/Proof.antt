@@ -1,4 +1,3 @@
-use Prim.Native.Nat.{_-_}
 use borrow.Author.Needs.{needs}
 use Rattle.writer.proofs.EncodeLaws.{head-row}
 use Rattle.writer.proofs.head.put_head.Statement.{statement}

@@ -1,4 +1,3 @@
-use Prim.Native.Nat.{_-_}
 use borrow.Author.Needs.{needs}
 use Rattle.writer.specs.Encode.{fileLength}
 use Rattle.writer.proofs.supply.file_length.Statement.{statement}

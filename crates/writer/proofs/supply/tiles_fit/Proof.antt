@@ -1,4 +1,3 @@
-use Prim.Native.Nat.{_-_}
 use borrow.Author.Needs.{needs}
 use Rattle.writer.specs.Write.{tilesFit}
 use Rattle.writer.proofs.supply.tiles_fit.Statement.{statement}
