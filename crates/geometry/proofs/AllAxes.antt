@@ -1,5 +1,5 @@
 -- All axes: what holds on each axis adds up. Assumes nothing.
-use Prim.Native.Nat.{suc, _+_, _*_, _≤_}
+use Prim.Native.Nat.{suc, _*_, _≤_}
 use mathlib.Core.Bool.{true}
 use mathlib.Core.List.{List, [], _∷_}
 use mathlib.Core.Path.{_≡_, refl, ap}
@@ -9,8 +9,7 @@ use lib.ListN.{length}
 use Rattle.base.proofs.Tests.{and-both, both-and, clash}
 use Rattle.geometry.specs.Box.{lo, withinLimits, validAxis, validBox, validPoint, onAxis, inside}
 use Rattle.geometry.specs.Distance.{D, closestPoint, farthestPoint, minDist, maxDist}
-use Rattle.geometry.specs.Margin.{bestPoint}
-use Rattle.geometry.proofs.OneAxis.{Axis, axis, On, on, on-test, low-on, valid-on, limited-on, closest-on, closest-least, farthest-on, farthest-most, best-end-on, best-end-limited, best-end-most}
+use Rattle.geometry.proofs.OneAxis.{Axis, axis, On, on, on-test, low-on, valid-on, limited-on, closest-on, closest-least, farthest-on, farthest-most}
 use Rattle.geometry.proofs.Shift.{Limited, limited, square-bound, axisBound}
 
 -- a point of a box, axis by axis
@@ -45,25 +44,6 @@ over (s ∷ b) (x ∷ p) t u e =
     let w = and-both (withinLimits x) (validPoint p) u in
     more (axis s (v .0)) (limited x (w .0)) (over b p (v .1) (w .1) (omega arith))
 
--- three boxes within the limits, with as many axes
-pub data Three : List (List ℤ) → List (List ℤ) → List (List ℤ) → Type 0 where
-  none : Three [] [] []
-  more : {o e b : List ℤ} {os es bs : List (List ℤ)} → Axis o → Axis e → Axis b → Three os es bs → Three (o ∷ os) (e ∷ es) (b ∷ bs)
-
-pub three : (o e b : List (List ℤ)) → validBox o ≡ true → validBox e ≡ true → validBox b ≡ true → length e ≡ length o →
-    length b ≡ length o → Three o e b
-unfolding validBox
-three [] [] [] t u v p q = none
-three [] (x ∷ e) b t u v p q = absurd (omega arith)
-three [] [] (x ∷ b) t u v p q = absurd (omega arith)
-three (x ∷ o) [] b t u v p q = absurd (omega arith)
-three (x ∷ o) (y ∷ e) [] t u v p q = absurd (omega arith)
-three (x ∷ o) (y ∷ e) (z ∷ b) t u v p q =
-    let f = and-both (validAxis x) (validBox o) t in
-    let g = and-both (validAxis y) (validBox e) u in
-    let h = and-both (validAxis z) (validBox b) v in
-    more (axis x (f .0)) (axis y (g .0)) (axis z (h .0)) (three o e b (f .1) (g .1) (h .1) (omega arith) (omega arith))
-
 -- a valid box holds a point
 pub lowest-point : (b : List (List ℤ)) → validBox b ≡ true → (p : List ℤ) × In b p
 unfolding validBox
@@ -94,30 +74,6 @@ pub max-largest : {b : List (List ℤ)} {p q : List ℤ} → Over b p → In b q
 unfolding maxDist farthestPoint D
 max-largest none none = omega arith
 max-largest (more {s} {x = x} a l r) (more {x = y} o i) = omega (arith, farthest-most s x a l y o, max-largest r i)
-
--- the margin's point of O, and that E and B can be measured from it
-pub best-in : {o e b : List (List ℤ)} → Three o e b → In o (bestPoint o e b)
-unfolding bestPoint
-best-in none = none
-best-in (more {o} {e} {b} ao ae ab r) = more (best-end-on o e b ao) (best-in r)
-
-pub best-over-e : {o e b : List (List ℤ)} → Three o e b → Over e (bestPoint o e b)
-unfolding bestPoint
-best-over-e none = none
-best-over-e (more {o} {e} {b} ao ae ab r) = more ae (best-end-limited o e b ao) (best-over-e r)
-
-pub best-over-b : {o e b : List (List ℤ)} → Three o e b → Over b (bestPoint o e b)
-unfolding bestPoint
-best-over-b none = none
-best-over-b (more {o} {e} {b} ao ae ab r) = more ab (best-end-limited o e b ao) (best-over-b r)
-
--- no three points have a larger difference; put as sums, so that nothing is negative
-pub best-most : {o e b : List (List ℤ)} {x y z : List ℤ} → Three o e b → In o x → In e y → In b z →
-    D x y + minDist b (bestPoint o e b) ≤ maxDist e (bestPoint o e b) + D x z
-unfolding minDist maxDist bestPoint closestPoint farthestPoint D
-best-most none none none none = omega arith
-best-most (more {o} {e} {b} ao ae ab r) (more {x = x} i is) (more {x = y} j js) (more {x = z} k ks) =
-    omega (arith, best-end-most o e b ao ae ab x y z i j k, best-most r is js ks)
 
 -- every coordinate within the limits
 pub data Within : List ℤ → Type 0 where
@@ -151,11 +107,3 @@ distance-bound (more {x = x} l v) (more {x = y} m w) = omega (arith, square-boun
 pub in-length : {b : List (List ℤ)} {p : List ℤ} → In b p → length p ≡ length b
 in-length none = refl
 in-length (more o i) = ap suc (in-length i)
-
--- from a point of O, E can be measured
-pub over-in : {o e b : List (List ℤ)} {x : List ℤ} → Three o e b → In o x → Over e x × Over b x
-over-in none none = (none, none)
-over-in (more ao ae ab r) (more i is) =
-    let l = limited-on ao i in
-    let w = over-in r is in
-    (more ae l (w .0), more ab l (w .1))

@@ -11,7 +11,10 @@ use borrow.Author.Tests.{le-ltb, lt-ltb, ltb-true, ltb-false, leb-true, le-leb}
 use Rattle.base.proofs.Tests.{and-both, cond-ind, iff-eq, clash}
 use Rattle.geometry.specs.Box.{withinLimits}
 use Rattle.geometry.specs.Distance.{gap, square}
-use Rattle.geometry.proofs.Line.{dist}
+
+-- how far two numbers from 0 are apart
+abbrev pub dist : ℕ → ℕ → ℕ
+dist a b = (a - b) + (b - a)
 
 -- x + 2^31, for a 32-bit x: never negative
 unfoldable pub shift : ℤ → ℕ

@@ -3,7 +3,8 @@ ghost use mathlib.Core.Path.{_≡_};
 ghost use Rattle.host.specs.Cab.{blockCheck, boxOf, marginNumber};
 use blocks::checksum;
 use blocks::layout;
-use geometry::margin;
+use margin::call::margin_within;
+use margin::call::valid_boxes;
 
 // What `nearby_margin` gives for a bad box: no margin is so large.
 pub const BAD_BOX: i64 = 9_000_000_000_000_000_000;
@@ -35,10 +36,10 @@ pub fn box_of(x0: i32, x1: i32, y0: i32, y1: i32) -> [[i32; 2]; 2]
 fn margin_or_bad(o: [[i32; 2]; 2], e: [[i32; 2]; 2], b: [[i32; 2]; 2]) -> i64
     ensures { λ r. ⌜ r ≡ marginNumber o e b ⌝ }
 {
-    if !margin::valid_boxes(o, e, b) {
+    if !valid_boxes(o, e, b) {
         return BAD_BOX;
     }
-    margin::margin_within(o, e, b)
+    margin_within(o, e, b)
 }
 
 // The margin of three boxes, each low x, high x, low y, high y; `BAD_BOX` if a box is bad.

@@ -3,8 +3,6 @@ use mathlib.Core.Path.{_≡_, sym, _∙_}
 use lib.IntN.{_-ℤ_}
 use lib.Signed.{ltZ}
 use mir.Facts.{toZ-ofZ}
-use mir.Syntax.{w32}
-use mir.Val.{toZ, ofZ}
 use borrow.Author.Needs.{needs}
 use Rattle.geometry.specs.Box.{lo, hi}
 use Rattle.geometry.proofs.OneAxis.{Axis, axis, farthest-test}

@@ -1,5 +1,5 @@
 use mathlib.Core.Bool.{true, false}
-use mathlib.Core.Path.{_≡_, sym, _∙_}
+use mathlib.Core.Path.{_≡_, _∙_}
 use lib.IntN.{_-ℤ_}
 use lib.Signed.{ltZ}
 use borrow.Author.Needs.{needs}

@@ -1,0 +1,4 @@
+pub mod Margin
+pub mod Calls
+pub mod Claims
+pub mod Cases
