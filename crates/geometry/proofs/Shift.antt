@@ -25,11 +25,6 @@ shift (negsuc n) = 2147483647 - n
 abbrev pub Small : ℤ → Type 0
 Small z = mag z < 2 ^ 31
 
-pub shift-fits : (z : ℤ) → Small z → shift z < 2 ^ 32
-unfolding shift
-shift-fits (pos n) h = omega arith
-shift-fits (negsuc n) h = omega arith
-
 -- order
 pub less-shift : (a b : ℤ) → Small a → Small b → ltZ a b ≡ true → shift a < shift b
 unfolding shift

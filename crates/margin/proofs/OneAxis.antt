@@ -89,11 +89,8 @@ best-gain o e b = cond-ap (gain e b) (ltZ (gain e b (lo o)) (gain e b (hi o))) (
 abbrev pub Valid : List ℤ → List ℤ → List ℤ → Type 0
 Valid o e b = (validAxis o ≡ true) × ((validAxis e ≡ true) × (validAxis b ≡ true))
 
--- bounds, from any point of O and from the better end
+-- bounds, from any point of O
 pub square-bounds : (o e b : List ℤ) → Valid o e b → (x : ℤ) → On o x → (far e x ≤ axisBound) × (near b x ≤ axisBound)
 square-bounds o e b v x p =
     let l = limited-on (axis o (v .0)) p in
     (farthest-bound e x (axis e (v .1 .0)) l, closest-bound b x (axis b (v .1 .1)) l)
-
-pub best-bounds : (o e b : List ℤ) → Valid o e b → (best-far o e b ≤ axisBound) × (best-near o e b ≤ axisBound)
-best-bounds o e b v = square-bounds o e b v (bestEnd o e b) (best-end-on o e b (axis o (v .0)))

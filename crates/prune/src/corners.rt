@@ -10,7 +10,7 @@ ghost use Rattle.base.specs.Refusal.{accepted};
 ghost use Rattle.blocks.specs.Directory.{directory, boxAt};
 ghost use Rattle.codec.specs.Over.{over};
 ghost use Rattle.geometry.specs.Box.{validBox, validPoint};
-ghost use Rattle.geometry.specs.Distance.{minDist, maxDist};
+ghost use Rattle.geometry.specs.Distance.{maxDist};
 ghost use Rattle.search.specs.Lists.{range};
 ghost use Rattle.prune.specs.Corners.{NearOf, NotBelow};
 use base::both;

@@ -1,4 +1,3 @@
-use Prim.Native.Nat.{_-_}
 use borrow.Author.Needs.{needs}
 use Rattle.prune.specs.Prune.{validK}
 use Rattle.prune.proofs.call.valid_k.Statement.{statement}

@@ -1,4 +1,3 @@
-use Prim.Native.Nat.{_-_}
 use borrow.Author.Needs.{needs}
 use Rattle.prune.proofs.corners.below.Statement.{statement}
 use Rattle.prune.proofs.corners.below.Tie as tie

@@ -1,4 +1,3 @@
-use Prim.Native.Nat.{_-_}
 use mir.Facts.{toZ-ofZ}
 use mir.Syntax.{w32}
 use mir.Val.{SFits}

@@ -1,4 +1,4 @@
-use Prim.Native.Nat.{_≤_, _-_}
+use Prim.Native.Nat.{_≤_}
 use lib.ListN.{replicate}
 use mir.Facts.{toZ-ofZ}
 use mir.Syntax.{w32}
