@@ -8,13 +8,13 @@ use Rattle.base.specs.Refusal.{Outcome, accepted, refused, require, #k, #stops,
 use Rattle.blocks.specs.Directory.{directory}
 use Rattle.codec.specs.Every.{every}
 use Rattle.prune.specs.Prune.{validK}
-use Rattle.serve.specs.Stops.{validStop}
+use Rattle.stops.specs.Stops.{validStop}
 use Rattle.base.proofs.Outcomes.{require-accepted}
 use Rattle.codec.proofs.Every.{every-at}
-use Rattle.join.specs.Arguments.{arguments, stopsDue, room}
+use Rattle.stops.specs.Arguments.{arguments, stopsDue, room}
 use Rattle.join.specs.Join.{Result, lent, tests, runEnd, joinFrom, joinEnd}
 use Rattle.join.specs.Running.{RunReady}
-use Rattle.join.proofs.ArgumentLaws.{good-k, good-stops, good-room}
+use Rattle.stops.proofs.ArgumentLaws.{good-k, good-stops, good-room}
 
 module _ (f : List ℕ) (xs ys : List ℤ) (k : ℕ) (ds ss cs ms : List ℕ) where
   -- test 1 or a directory block refuses

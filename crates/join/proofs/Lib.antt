@@ -1,5 +1,3 @@
-pub mod ArgumentLaws
-pub mod StopLaws
 pub mod Linking
 pub mod RunLaws
 pub mod CallLaws

@@ -24,7 +24,7 @@ use Rattle.search.specs.Run.{noPlace, join, padded, queue, slices, placesUsed, 
 use Rattle.search.specs.declared.Place.{Place}
 use Rattle.serve.specs.Marks.{markAll}
 use Rattle.serve.specs.Serving.{walkStops, StopsReady, StopsServed, lastLength, plainPlan}
-use Rattle.serve.specs.Stops.{validStop}
+use Rattle.stops.specs.Stops.{validStop}
 use Rattle.base.proofs.Outcomes.{andThen-accepted, accepted-injective, accepted-refused}
 use Rattle.codec.proofs.Over.{over-under, over-eq, length-over}
 use Rattle.places.proofs.Laying.{laid-next}
@@ -41,7 +41,7 @@ use Rattle.search.proofs.Walk.{both, by-outcome}
 use Rattle.serve.proofs.Marking.{marks-end}
 use Rattle.join.specs.Join.{runFor, filled, cleared, ended, runEnd, lent}
 use Rattle.join.specs.Running.{RunReady, walksFor, Attempted}
-use Rattle.join.proofs.ArgumentLaws.{few-places}
+use Rattle.stops.proofs.ArgumentLaws.{few-places}
 use Rattle.join.proofs.Linking.{walks-link, waits-link}
 
 -- ---- the stops

@@ -37,7 +37,7 @@ use Rattle.search.proofs.Marks.{slices-length}
 use Rattle.search.proofs.Theorems as run
 use Rattle.search.proofs.Walk.{by-outcome}
 use Rattle.tiles.proofs.Theorems.{validate-exactly}
-use Rattle.join.specs.Arguments.{arguments}
+use Rattle.stops.specs.Arguments.{arguments}
 use Rattle.join.specs.Claims.{Demand3, Agreeing, plan, opened, left}
 use Rattle.join.specs.Join.{Result, Slices, planFor, runFor, tests, filled, ended, runEnd, joinFrom, joinEnd}
 use Rattle.join.specs.Running.{RunReady}

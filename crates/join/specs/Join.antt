@@ -13,7 +13,7 @@ use Rattle.search.specs.Plan.{Plan}
 use Rattle.search.specs.Pruning.{prunedCount}
 use Rattle.search.specs.Run.{Run, join, slices, placesUsed, marks, openedCount}
 use Rattle.search.specs.declared.Place.{Place}
-use Rattle.join.specs.Arguments.{arguments}
+use Rattle.stops.specs.Arguments.{arguments}
 use Rattle.join.specs.declared.call.JoinAnswer.{JoinAnswer}
 use Rattle.join.specs.declared.call.JoinAnswer.the-variants.{Joined, Refused}
 

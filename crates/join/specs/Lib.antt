@@ -1,5 +1,4 @@
 pub mod Join
-pub mod Arguments
 pub mod Running
 pub mod Claims
 pub mod Cases

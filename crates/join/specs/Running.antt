@@ -17,7 +17,7 @@ use Rattle.search.specs.Run.{slices}
 use Rattle.search.specs.declared.Place.{Place}
 use Rattle.serve.specs.Marks.{markAll}
 use Rattle.serve.specs.Serving.{lastLength, plainPlan}
-use Rattle.serve.specs.Stops.{validStop}
+use Rattle.stops.specs.Stops.{validStop}
 use Rattle.search.proofs.Cut.{cutWalks}
 use Rattle.search.proofs.Walk.{Trace}
 

@@ -10,8 +10,6 @@ ghost use Rattle.codec.specs.Over.{over};
 ghost use Rattle.search.specs.Lists.{count};
 ghost use Rattle.join.specs.Join.{joinOutcome, noResult, joinEnd, runEnd, lent};
 ghost use Rattle.join.specs.Running.{RunReady, Attempted};
-use crate::arguments::failed_argument;
-use crate::stops::around;
 use base::Refusal;
 use blocks::block::Answer;
 use blocks::directory::read_directory;
@@ -20,6 +18,8 @@ use places::clear::clear32;
 use places::clear::clear64;
 use prune::marking::mark_pruned;
 use serve::serving::serve_all;
+use stops::arguments::failed_argument;
+use stops::around::around;
 
 pub enum JoinAnswer {
     Joined {

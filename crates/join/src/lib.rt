@@ -1,4 +1,2 @@
 // The join (document 01, "The join"). The call is call::join.
-pub mod arguments;
 pub mod call;
-pub mod stops;

@@ -1,3 +1,2 @@
-pub mod Stops
 pub mod Marks
 pub mod Serving

@@ -21,7 +21,7 @@ use Rattle.tiles.specs.Tile.{openTile}
 use Rattle.search.proofs.Cut.{inserts}
 use Rattle.search.proofs.Walk.{Trace}
 use Rattle.serve.specs.Marks.{markFrom, markAll}
-use Rattle.serve.specs.Stops.{validStop}
+use Rattle.stops.specs.Stops.{validStop}
 
 -- the tiles asked for, in turn, and what it comes to
 abbrev pub Walk : Type 0 → Type 0

@@ -8,7 +8,6 @@ ghost use Rattle.queue.specs.Queue.{waits};
 ghost use Rattle.search.specs.Lists.{range, filter};
 ghost use Rattle.serve.specs.Serving.{walkStop, byKey, walkStops, Rising, TileReady, TileTaken, StopReady, StopServed, StopsReady, StopsServed};
 use crate::opening::open_once;
-use crate::stop::stop_at;
 use blocks::block::Answer;
 use places::list::last_ahead;
 use places::tile::add_tile;
@@ -16,6 +15,7 @@ use queue::gather::gather;
 use queue::keys::NONE;
 use queue::keys::fill_keys;
 use queue::keys::next_key;
+use stops::stop::stop_at;
 
 // Takes tile t for the stop p: opens it, once a run, and puts its sites into the list. The number of places used then.
 fn take_tile(

@@ -7,7 +7,7 @@ use borrow.Author.Needs.{needs}
 use Rattle.blocks.specs.Outcome.{answerOutcome}
 use Rattle.codec.specs.Tabulate.{tabulate}
 use Rattle.places.specs.Places.{places}
-use Rattle.serve.specs.Stops.{validStop}
+use Rattle.stops.specs.Stops.{validStop}
 use Rattle.serve.proofs.Turning.{Turning, turning-start, turning-ends, turning-refused, turning-next}
 use Rattle.serve.proofs.serving.serve_each.Statement.{statement}
 use Rattle.serve.proofs.serving.serve_each.Tie as tie

@@ -6,11 +6,11 @@ use borrow.Author.Needs.{needs}
 use borrow.Author.Tests.{not-true, not-false}
 use Rattle.codec.specs.Every.{every}
 use Rattle.prune.specs.Prune.{validK}
-use Rattle.serve.specs.Stops.{validStop}
-use Rattle.join.specs.Arguments.{stopsDue, arguments}
-use Rattle.join.proofs.ArgumentLaws.{good-k, good-stops, few-places}
-use Rattle.join.proofs.arguments.failed_argument.Statement.{statement}
-use Rattle.join.proofs.arguments.failed_argument.Tie as tie
+use Rattle.stops.specs.Stops.{validStop}
+use Rattle.stops.specs.Arguments.{stopsDue, arguments}
+use Rattle.stops.proofs.ArgumentLaws.{good-k, good-stops, few-places}
+use Rattle.stops.proofs.arguments.failed_argument.Statement.{statement}
+use Rattle.stops.proofs.arguments.failed_argument.Tie as tie
 
 -- what each test left
 k-good : (c : tie.Else1) → validK (c .before .before .args .k) ≡ true

@@ -1,7 +1,7 @@
 use borrow.Author.Needs.{needs}
-use Rattle.join.specs.Arguments.{stopsDue}
-use Rattle.join.proofs.arguments.stops_due.Statement.{statement}
-use Rattle.join.proofs.arguments.stops_due.Tie as tie
+use Rattle.stops.specs.Arguments.{stopsDue}
+use Rattle.stops.proofs.arguments.stops_due.Statement.{statement}
+use Rattle.stops.proofs.arguments.stops_due.Tie as tie
 
 both-requires : tie.Need-both-requires
 both-requires c κs = search needs

@@ -9,9 +9,9 @@ use mir.Syntax.{w32}
 use mir.Val.{toZ, SFits}
 use borrow.Author.Needs.{sfits-of, needs}
 use Rattle.plan.specs.Stops.{foremost, greatest}
-use Rattle.join.proofs.StopLaws.{foremost-turn, foremost-done, greatest-start}
-use Rattle.join.proofs.stops.greatest.Statement.{statement}
-use Rattle.join.proofs.stops.greatest.Tie as tie
+use Rattle.stops.proofs.StopLaws.{foremost-turn, foremost-done, greatest-start}
+use Rattle.stops.proofs.around.greatest.Statement.{statement}
+use Rattle.stops.proofs.around.greatest.Tie as tie
 
 abbrev Inv-loop : tie.InvT-loop
 Inv-loop xs a₀ i₀ a i = (i ≤ length xs) × (foremost (λ a b. ltZ b a) (toZ w32 a) (drop i xs) ≡ greatest xs)

@@ -3,8 +3,8 @@ use mir.Syntax.{w32}
 use mir.Val.{SFits}
 use borrow.Author.Needs.{sfits-of, needs}
 use Rattle.plan.specs.Stops.{around}
-use Rattle.join.proofs.stops.around.Statement.{statement}
-use Rattle.join.proofs.stops.around.Tie as tie
+use Rattle.stops.proofs.around.around.Statement.{statement}
+use Rattle.stops.proofs.around.around.Tie as tie
 
 least-requires : tie.Need-least-requires
 least-requires c κs = search needs

@@ -6,9 +6,9 @@ ghost use lib.ListN.{length};
 ghost use lib.Signed.{ltZ};
 ghost use Rattle.codec.specs.Every.{every};
 ghost use Rattle.plan.specs.Stops.{least, greatest, around};
-ghost use Rattle.serve.specs.Stops.{validStop};
+ghost use Rattle.stops.specs.Stops.{validStop};
+use crate::stop::stop_at;
 use geometry::limits::valid_point;
-use serve::stop::stop_at;
 
 // Test 13.
 pub fn valid_stops(xs: &[i32], ys: &[i32]) -> bool

@@ -9,9 +9,9 @@ use mir.Syntax.{w32}
 use mir.Val.{toZ, SFits}
 use borrow.Author.Needs.{sfits-of, needs}
 use Rattle.plan.specs.Stops.{foremost, least}
-use Rattle.join.proofs.StopLaws.{foremost-turn, foremost-done, least-start}
-use Rattle.join.proofs.stops.least.Statement.{statement}
-use Rattle.join.proofs.stops.least.Tie as tie
+use Rattle.stops.proofs.StopLaws.{foremost-turn, foremost-done, least-start}
+use Rattle.stops.proofs.around.least.Statement.{statement}
+use Rattle.stops.proofs.around.least.Tie as tie
 
 abbrev Inv-loop : tie.InvT-loop
 Inv-loop xs a₀ i₀ a i = (i ≤ length xs) × (foremost ltZ (toZ w32 a) (drop i xs) ≡ least xs)

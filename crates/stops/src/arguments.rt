@@ -1,8 +1,8 @@
 // Tests 11 to 14 of the join.
 ghost use mathlib.Core.Path.{_≡_};
 ghost use Rattle.blocks.specs.Outcome.{numberOutcome};
-ghost use Rattle.join.specs.Arguments.{stopsDue, room, arguments};
-use crate::stops::valid_stops;
+ghost use Rattle.stops.specs.Arguments.{stopsDue, room, arguments};
+use crate::around::valid_stops;
 use base::both;
 use prune::call::valid_k;
 

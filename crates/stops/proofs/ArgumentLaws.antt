@@ -7,7 +7,7 @@ use lib.Dec.{eqb, leb}
 use borrow.Author.Tests.{leb-true, eqb-true}
 use Rattle.prune.specs.Prune.{validK}
 use Rattle.base.proofs.Tests.{and-both}
-use Rattle.join.specs.Arguments.{stopsDue, room}
+use Rattle.stops.specs.Arguments.{stopsDue, room}
 
 pub record GoodK (k : ℕ) : Type 0 where
   pub some : 1 ≤ k

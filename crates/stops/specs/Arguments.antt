@@ -8,7 +8,7 @@ use lib.ListN.{length}
 use Rattle.base.specs.Refusal.{Outcome, accepted, require, #k, #stops, #spot, #short}
 use Rattle.codec.specs.Every.{every}
 use Rattle.prune.specs.Prune.{validK}
-use Rattle.serve.specs.Stops.{validStop}
+use Rattle.stops.specs.Stops.{validStop}
 
 -- 12: "none, over 256, or unequal x and y slices"
 unfoldable pub stopsDue : ℕ → ℕ → Bool

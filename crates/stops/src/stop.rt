@@ -2,7 +2,7 @@
 ghost use mathlib.Core.Path.{_≡_};
 ghost use Prim.Native.Nat.{_<_};
 ghost use lib.ListN.{length};
-ghost use Rattle.serve.specs.Stops.{stopAt};
+ghost use Rattle.stops.specs.Stops.{stopAt};
 
 pub fn stop_at(xs: &[i32], ys: &[i32], i: usize) -> [i32; 2]
     requires { ⌜ (i < length (now xs)) × (i < length (now ys)) ⌝ }

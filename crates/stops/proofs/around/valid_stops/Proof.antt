@@ -7,10 +7,10 @@ use borrow.Author.Count.{below-more}
 use borrow.Author.Needs.{needs}
 use borrow.Author.Tests.{not-true, not-false}
 use Rattle.geometry.specs.Box.{validPoint}
-use Rattle.serve.specs.Stops.{validStop}
+use Rattle.stops.specs.Stops.{validStop}
 use Rattle.codec.proofs.Every.{every-holds, every-fails}
-use Rattle.join.proofs.stops.valid_stops.Statement.{statement}
-use Rattle.join.proofs.stops.valid_stops.Tie as tie
+use Rattle.stops.proofs.around.valid_stops.Statement.{statement}
+use Rattle.stops.proofs.around.valid_stops.Tie as tie
 
 abbrev Inv-loop : tie.InvT-loop
 Inv-loop xs ys i₀ i = (i ≤ length xs) × ((j : ℕ) → j < i → validStop xs ys j ≡ true)

@@ -2,8 +2,8 @@ use mathlib.Core.Bool.{true, false}
 use mathlib.Core.Path.{_≡_, _∙_}
 use lib.Signed.{ltZ}
 use mir.Facts.{toZ-ofZ}
-use Rattle.join.proofs.stops.greater.Statement.{statement}
-use Rattle.join.proofs.stops.greater.Tie as tie
+use Rattle.stops.proofs.around.greater.Statement.{statement}
+use Rattle.stops.proofs.around.greater.Tie as tie
 
 returns : tie.Need-returns
 returns c =

@@ -1,7 +1,7 @@
 use borrow.Author.Needs.{needs}
-use Rattle.join.specs.Arguments.{room}
-use Rattle.join.proofs.arguments.room.Statement.{statement}
-use Rattle.join.proofs.arguments.room.Tie as tie
+use Rattle.stops.specs.Arguments.{room}
+use Rattle.stops.proofs.arguments.room.Statement.{statement}
+use Rattle.stops.proofs.arguments.room.Tie as tie
 
 both-requires : tie.Need-both-requires
 both-requires c κs = search needs

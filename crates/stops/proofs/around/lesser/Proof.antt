@@ -2,8 +2,8 @@ use mathlib.Core.Bool.{true, false}
 use mathlib.Core.Path.{_≡_, _∙_}
 use lib.Signed.{ltZ}
 use mir.Facts.{toZ-ofZ}
-use Rattle.join.proofs.stops.lesser.Statement.{statement}
-use Rattle.join.proofs.stops.lesser.Tie as tie
+use Rattle.stops.proofs.around.lesser.Statement.{statement}
+use Rattle.stops.proofs.around.lesser.Tie as tie
 
 returns : tie.Need-returns
 returns c =
