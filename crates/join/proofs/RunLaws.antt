@@ -22,7 +22,7 @@ use Rattle.search.specs.Plan.{Plan, Lawful}
 use Rattle.search.specs.Pruning.{pruned, prunedCount}
 use Rattle.search.specs.Run.{noPlace, join, padded, queue, slices, placesUsed, marks, openedCount, mark}
 use Rattle.search.specs.declared.Place.{Place}
-use Rattle.serve.specs.Marks.{markAll}
+use Rattle.marks.specs.Marks.{markAll}
 use Rattle.serve.specs.Serving.{walkStops, StopsReady, StopsServed, lastLength, plainPlan}
 use Rattle.stops.specs.Stops.{validStop}
 use Rattle.base.proofs.Outcomes.{andThen-accepted, accepted-injective, accepted-refused}
@@ -38,7 +38,7 @@ use Rattle.search.proofs.Lists.{all-mem, mem-all, member-mem, mem-member}
 use Rattle.search.proofs.Marks.{slices-length}
 use Rattle.search.proofs.Theorems.{places-used, opened-count, only-tiles}
 use Rattle.search.proofs.Walk.{both, by-outcome}
-use Rattle.serve.proofs.Marking.{marks-end}
+use Rattle.marks.proofs.Marking.{marks-end}
 use Rattle.join.specs.Join.{runFor, filled, cleared, ended, runEnd, lent}
 use Rattle.join.specs.Running.{RunReady, walksFor, Attempted}
 use Rattle.stops.proofs.ArgumentLaws.{few-places}

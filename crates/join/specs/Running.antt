@@ -15,7 +15,7 @@ use Rattle.prune.specs.Prune.{pruneMarks}
 use Rattle.search.specs.Pruning.{prunedCount}
 use Rattle.search.specs.Run.{slices}
 use Rattle.search.specs.declared.Place.{Place}
-use Rattle.serve.specs.Marks.{markAll}
+use Rattle.marks.specs.Marks.{markAll}
 use Rattle.serve.specs.Serving.{lastLength, plainPlan}
 use Rattle.stops.specs.Stops.{validStop}
 use Rattle.search.proofs.Cut.{cutWalks}

@@ -1,18 +1,17 @@
 // The call of document 01, "The join".
 ghost use mathlib.Core.Path.{_≡_};
 ghost use Prim.Native.Nat.{_*_, _≤_};
-ghost use lib.Dec.{eqb};
-ghost use lib.ListN.{length, replicate, take};
+ghost use lib.ListN.{length, replicate};
 ghost use Rattle.base.specs.Refusal as outcome;
 ghost use Rattle.base.specs.Refusal.{accepted, andThen};
 ghost use Rattle.blocks.specs.Outcome.{answerOutcome};
 ghost use Rattle.codec.specs.Over.{over};
-ghost use Rattle.search.specs.Lists.{count};
 ghost use Rattle.join.specs.Join.{joinOutcome, noResult, joinEnd, runEnd, lent};
 ghost use Rattle.join.specs.Running.{RunReady, Attempted};
 use base::Refusal;
 use blocks::block::Answer;
 use blocks::directory::read_directory;
+use marks::counting::count_opened;
 use places::clear::clear8;
 use places::clear::clear32;
 use places::clear::clear64;
@@ -50,20 +49,6 @@ fn passed_on(answer: Answer) -> JoinAnswer
         },
         Answer::Refused(r) => JoinAnswer::Refused(r),
     }
-}
-
-// The tiles marked 2.
-fn count_opened(marks: &[u8], tiles: usize) -> usize
-    requires { ⌜ tiles ≤ length (now marks) ⌝ }
-    ensures { λ r. ⌜ (r ≡ count (λ m. eqb m 2) (take tiles (now (marks .entry)))) × (r ≤ tiles) ⌝ }
-{
-    let mut opened: usize = 0;
-    let mut t: usize = 0;
-    while t < tiles {
-        opened += (marks[t] == 2) as usize;
-        t += 1;
-    }
-    opened
 }
 
 fn clear_places(dist: &mut [u64], site: &mut [u32], cue: &mut [u32], n: usize)

@@ -31,7 +31,7 @@ use Rattle.places.proofs.Laying.{places-length, laid-self, laid-places, laid-ne
 use Rattle.prune.proofs.Filling.{filled-at}
 use Rattle.search.proofs.Places.{rank-order}
 use Rattle.search.proofs.Sort.{Sorted}
-use Rattle.serve.specs.Marks.{markAll}
+use Rattle.marks.specs.Marks.{markAll}
 use Rattle.serve.specs.Serving.{Walk, entered, walkStop, byKey, Opens, Rising, withTile, TileTaken, StopServed}
 use Rattle.serve.proofs.Small.{near-small}
 use Rattle.serve.proofs.Taking.{Keyed, living, living-all, living-none, living-next, keyed-next, fewer}

@@ -1,5 +1,4 @@
 pub mod Taking
-pub mod Marking
 pub mod Small
 pub mod Going
 pub mod Turning

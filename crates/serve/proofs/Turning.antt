@@ -18,10 +18,10 @@ use Rattle.base.proofs.Outcomes.{andThen-accepted, accepted-injective, accepted
 use Rattle.codec.proofs.Over.{over-under}
 use Rattle.places.proofs.Laying.{Same, same-refl, same-next, laid-lengths}
 use Rattle.places.proofs.Serving.{Clear, clear-kept, stop-turn, stops-done}
-use Rattle.serve.specs.Marks.{markAll}
+use Rattle.marks.specs.Marks.{markAll}
 use Rattle.serve.specs.Serving.{Walk, walkStop, byKey, follows, walkStops, Opens, StopServed, StopsServed, lastLength, plainPlan}
 use Rattle.stops.specs.Stops.{stopAt}
-use Rattle.serve.proofs.Marking.{length-mark-all}
+use Rattle.marks.proofs.Marking.{length-mark-all}
 
 mark-all-append : (ms a b : List ℕ) → markAll ms (a ++ b) ≡ markAll (markAll ms a) b
 unfolding markAll

@@ -20,7 +20,7 @@ use Rattle.search.specs.declared.Place.{Place}
 use Rattle.tiles.specs.Tile.{openTile}
 use Rattle.search.proofs.Cut.{inserts}
 use Rattle.search.proofs.Walk.{Trace}
-use Rattle.serve.specs.Marks.{markFrom, markAll}
+use Rattle.marks.specs.Marks.{markFrom, markAll}
 use Rattle.stops.specs.Stops.{validStop}
 
 -- the tiles asked for, in turn, and what it comes to

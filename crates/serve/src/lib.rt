@@ -1,3 +1,2 @@
-// The stops served in turn: opening a tile once, the walk of each stop. The call is serving::serve_all.
-pub mod opening;
+// The stops served in turn: the walk of each. The call is serving::serve_all.
 pub mod serving;

@@ -11,8 +11,8 @@ use Rattle.search.specs.Lists.{count}
 use Rattle.prune.proofs.Summing.{bit-small}
 use Rattle.queue.proofs.Gathering.{bit-byte}
 use Rattle.search.proofs.Lists.{count-append}
-use Rattle.join.proofs.call.count_opened.Statement.{statement}
-use Rattle.join.proofs.call.count_opened.Tie as tie
+use Rattle.marks.proofs.counting.count_opened.Statement.{statement}
+use Rattle.marks.proofs.counting.count_opened.Tie as tie
 
 abbrev Inv-loop : tie.InvT-loop
 Inv-loop marks tiles opened₀ t₀ opened t = (t ≤ tiles) × ((opened ≤ t) × (opened ≡ count (λ m. eqb m 2) (take t marks)))

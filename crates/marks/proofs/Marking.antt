@@ -18,7 +18,7 @@ use Rattle.base.proofs.Tests.{by-test}
 use Rattle.codec.proofs.Over.{length-over, getD-after}
 use Rattle.prune.proofs.Filling.{filled-at, range-length}
 use Rattle.search.proofs.Equation.{withNew, withNew-member}
-use Rattle.serve.specs.Marks.{markAll}
+use Rattle.marks.specs.Marks.{markAll}
 
 pub length-mark-all : (ms ts : List ℕ) → length (markAll ms ts) ≡ length ms
 unfolding markAll

@@ -6,7 +6,7 @@ ghost use Rattle.base.specs.Refusal.{accepted};
 ghost use Rattle.blocks.specs.Directory.{directory, countAt};
 ghost use Rattle.blocks.specs.Outcome.{answerOutcome};
 ghost use Rattle.tiles.specs.Tile.{openTile};
-ghost use Rattle.serve.specs.Marks.{markFrom};
+ghost use Rattle.marks.specs.Marks.{markFrom};
 use blocks::block::Answer;
 use blocks::directory;
 use tiles::tile;

@@ -6,8 +6,8 @@ use borrow.Author.Needs.{needs}
 use Rattle.base.specs.Refusal.{accepted}
 use Rattle.blocks.specs.Outcome.{answerOutcome}
 use Rattle.blocks.proofs.OutcomeLaws.{told-accepted, told-refused}
-use Rattle.serve.proofs.opening.open_once.Statement.{statement}
-use Rattle.serve.proofs.opening.open_once.Tie as tie
+use Rattle.marks.proofs.opening.open_once.Statement.{statement}
+use Rattle.marks.proofs.opening.open_once.Tie as tie
 
 slice-read-if1 : tie.Need-slice-read-if1
 slice-read-if1 c = let s = c .before .before .before in omega (arith, s .pre .0 .1 .0, s .pre .0 .1 .1)
