@@ -1,10 +1,10 @@
 // The calls on files, for hosts and tests in C: each gives its answer as a report, by value.
 ghost use mathlib.Core.Path.{_≡_};
 ghost use lib.ListN.{length};
+ghost use Rattle.encode.specs.Supply.{supply};
 ghost use Rattle.join.specs.Join.{joinEnd, lent};
 ghost use Rattle.prune.specs.Prune.{pruneCall, marksAfter};
 ghost use Rattle.tiles.specs.Validate.{validate};
-ghost use Rattle.writer.specs.Supply.{supply};
 ghost use Rattle.writer.specs.Write.{writeCall, writeExit};
 ghost use Rattle.host.specs.Cab.{boxOf};
 ghost use Rattle.host.specs.Reports.{joinReport, pruneReport, validateReport, writeReport};

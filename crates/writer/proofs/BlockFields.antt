@@ -17,16 +17,16 @@ use Rattle.blocks.specs.declared.checksum.Sums.{Sums}
 use Rattle.codec.specs.Bytes.{bytes, bytes16, bytes32, bytesSigned}
 use Rattle.codec.specs.Every.{zeros}
 use Rattle.codec.specs.Number.{Bytes, i32At}
+use Rattle.encode.specs.Encode.{headBytes, checkBytes, bodyBytes, blockBytes, boxBytes, entryBytes, siteBytes}
+use Rattle.encode.specs.Supply.{numbersPerBox, boxOf, countOf}
 use Rattle.tiles.specs.Tile.{siteOffset, siteIn}
 use Rattle.tiles.specs.declared.tile.Site.{Site}
 use Rattle.base.proofs.Tests.{and-both, both-and}
 use Rattle.codec.proofs.Bytes.{read-16, read-32, read-signed, held-16, held-32, held-signed}
 use Rattle.codec.proofs.Holds.{Holds, holds-run, holds-cons, holds-head, holds-tail, holds-left, holds-right, holds-append}
 use Rattle.codec.proofs.Holds.{zeros-held, held-zeros}
-use Rattle.writer.specs.Encode.{headBytes, checkBytes, bodyBytes, blockBytes, boxBytes, entryBytes, siteBytes}
+use Rattle.encode.proofs.EncodeLaws.{length-head, length-body, sums-body}
 use Rattle.writer.specs.Made.{Signed, Unsigned}
-use Rattle.writer.specs.Supply.{numbersPerBox, boxOf, countOf}
-use Rattle.writer.proofs.EncodeLaws.{length-head, length-body, sums-body}
 
 pub record Fields (s : List ℕ) (kind p n t : ℕ) (payload : List ℕ) : Type 0 where
   pub sync : getD s 0 0 ≡ syncByte

@@ -17,6 +17,8 @@ use Rattle.blocks.specs.Layout.{siteSize, maxSites, maxTiles, directoryKind, ti
 use Rattle.codec.specs.Every.{zeros}
 use Rattle.codec.specs.Number.{Bytes, u16At}
 use Rattle.codec.specs.Tabulate.{joined}
+use Rattle.encode.specs.Encode.{entryBytes, siteBytes, directoryBytes, tileBytes}
+use Rattle.encode.specs.Supply.{boxOf, countOf, pointOf}
 use Rattle.geometry.specs.Box as geometry
 use Rattle.tiles.specs.Accepted.{GoodTileBlock}
 use Rattle.tiles.specs.Tile.{siteOffset, siteIn, sitePoint, tilePadding}
@@ -24,12 +26,10 @@ use Rattle.tiles.specs.declared.tile.Site.{Site}
 use Rattle.base.proofs.Tests.{and-both, both-and, by-test}
 use Rattle.codec.proofs.Every.{every-at, every-holds, zeros-at, zeros-hold}
 use Rattle.codec.proofs.Holds.{Holds, holds-each, holds-joined}
-use Rattle.writer.specs.Encode.{entryBytes, siteBytes, directoryBytes, tileBytes}
+use Rattle.encode.proofs.EncodeLaws.{length-entry, length-site, length-entries, length-sites, due-few, due-within}
+use Rattle.encode.proofs.EncodeLaws.{blocks-few}
 use Rattle.writer.specs.Made.{Signed, Unsigned}
-use Rattle.writer.specs.Supply.{boxOf, countOf, pointOf}
 use Rattle.writer.proofs.BlockFields.{Fields, fields-read, fields-held, entry-read, entry-held, site-read, site-held}
-use Rattle.writer.proofs.EncodeLaws.{length-entry, length-site, length-entries, length-sites, due-few, due-within}
-use Rattle.writer.proofs.EncodeLaws.{blocks-few}
 
 -- the fields that both kinds of block have in common
 module _ {s : List ℕ} {kind p : ℕ} where

@@ -15,6 +15,8 @@ use Rattle.blocks.specs.Directory.{directoryBlocks, boxAt, countAt}
 use Rattle.blocks.specs.Layout.{blockSize, entriesPerBlock, maxSites}
 use Rattle.codec.specs.Number.{Bytes}
 use Rattle.codec.specs.Tabulate.{joined}
+use Rattle.encode.specs.Encode.{directoryBytes, tileBytesOf, fileBytes, fileLength}
+use Rattle.encode.specs.Supply.{Supply, tilesOf, boxOf, countOf, offset, siteOf}
 use Rattle.tiles.specs.Accepted.{GoodTileBlock, GoodFile}
 use Rattle.tiles.specs.Tile.{siteIn, tilePosition, siteAt}
 use Rattle.base.proofs.Tests.{by-test}
@@ -23,12 +25,10 @@ use Rattle.blocks.proofs.DirectoryLaws.{entry-block, entry-due, block-fits, cou
 use Rattle.codec.proofs.Holds.{Holds, holds-run, holds-part, part-holds, holds-left, holds-right, holds-append, holds-each}
 use Rattle.codec.proofs.Holds.{holds-joined}
 use Rattle.codec.proofs.Joined.{length-joined}
+use Rattle.encode.proofs.EncodeLaws.{length-directory-block, length-tile-block, due-few, due-within, blocks-few}
 use Rattle.writer.specs.Accepted.{GoodSupply}
-use Rattle.writer.specs.Encode.{directoryBytes, tileBytesOf, fileBytes, fileLength}
 use Rattle.writer.specs.Made.{Typed}
-use Rattle.writer.specs.Supply.{Supply, tilesOf, boxOf, countOf, offset, siteOf}
 use Rattle.writer.proofs.BlockRound.{Entries, directory-read, directory-held, tile-read, tile-held}
-use Rattle.writer.proofs.EncodeLaws.{length-directory-block, length-tile-block, due-few, due-within, blocks-few}
 
 -- what is read from a file is what these lists say: box and count of each tile, and the site of each slot
 pub record Reads (f : List ℕ) (s : Supply) : Type 0 where

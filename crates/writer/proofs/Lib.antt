@@ -1,5 +1,3 @@
-pub mod EncodeLaws
-pub mod SupplyLaws
 pub mod WriteLaws
 pub mod BlockFields
 pub mod BlockRound

@@ -15,6 +15,7 @@ use Rattle.blocks.specs.Directory.{entryOffset, entryBox, entryCount, boxAt, co
 use Rattle.blocks.specs.Layout.{countOffset, entriesPerBlock}
 use Rattle.codec.specs.Number.{Bytes, u32At, i32At}
 use Rattle.codec.specs.Tabulate.{tabulate, joined}
+use Rattle.encode.specs.Supply.{Supply, tilesOf, numbersPerBox, boxOf, countOf, offset, total}
 use Rattle.tiles.specs.Accepted.{GoodFile}
 use Rattle.tiles.specs.Tile.{siteIn, siteAt}
 use Rattle.tiles.specs.declared.tile.Site.{Site}
@@ -23,11 +24,10 @@ use Rattle.codec.proofs.Bytes.{u16-small, u32-small}
 use Rattle.codec.proofs.Joined.{length-joined, getD-joined, length-joined-next, joined-all, joined-same, joined-parts}
 use Rattle.codec.proofs.Number.{signed-small}
 use Rattle.codec.proofs.Tabulate.{length-tabulate, getD-tabulate, tabulate-same, tabulate-all, tabulate-part}
+use Rattle.encode.proofs.SupplyLaws.{offset-next, offset-within}
 use Rattle.writer.specs.Accepted.{GoodSupply}
 use Rattle.writer.specs.Made.{Signed, Typed, boxNumbers, column, supplyOf}
-use Rattle.writer.specs.Supply.{Supply, tilesOf, numbersPerBox, boxOf, countOf, offset, total}
 use Rattle.writer.proofs.FileLaws.{Reads, block-bytes}
-use Rattle.writer.proofs.SupplyLaws.{offset-next, offset-within}
 
 module _ (f : List ℕ) (tiles : ℕ) where
   counts : List ℕ

@@ -10,6 +10,8 @@ use Rattle.base.specs.Refusal.{accepted}
 use Rattle.blocks.specs.Directory.{boxAt, countAt}
 use Rattle.codec.specs.Number.{Bytes}
 use Rattle.codec.specs.Tabulate.{tabulate}
+use Rattle.encode.specs.Encode.{fileBytes, fileLength}
+use Rattle.encode.specs.Supply.{Supply, tilesOf, boxOf, countOf, siteOf}
 use Rattle.tiles.specs.Accepted.{GoodFile}
 use Rattle.tiles.specs.Tile.{siteAt, sitesAt}
 use Rattle.tiles.specs.Validate.{validate}
@@ -19,9 +21,7 @@ use Rattle.codec.proofs.Over.{over-eq}
 use Rattle.codec.proofs.Tabulate.{tabulate-same}
 use Rattle.tiles.proofs.Theorems.{validate-exactly}
 use Rattle.writer.specs.Accepted.{GoodSupply}
-use Rattle.writer.specs.Encode.{fileBytes, fileLength}
 use Rattle.writer.specs.Made.{Typed, Made, supplyOf}
-use Rattle.writer.specs.Supply.{Supply, tilesOf, boxOf, countOf, siteOf}
 use Rattle.writer.specs.Write.{writeTests, writeCall, writeExit}
 use Rattle.writer.proofs.FileLaws.{Reads, length-file, written-reads, written-good, good-holds}
 use Rattle.writer.proofs.SupplyOf.{reads-own, size-own, good-own, typed-own, only-own}

@@ -12,17 +12,17 @@ use Rattle.blocks.specs.Directory.{directoryBlocks}
 use Rattle.blocks.specs.Layout.{blockSize, maxSites, maxTiles}
 use Rattle.codec.specs.Over.{over}
 use Rattle.codec.specs.Tabulate.{joined}
+use Rattle.encode.specs.Encode.{directoryBytes, tileBytesOf, fileBytes, fileLength}
+use Rattle.encode.specs.Supply.{Supply, tilesOf, numbersPerBox, boxOf, countOf, offset, total, pointOf}
 use Rattle.geometry.specs.Box.{validBox, inside}
 use Rattle.base.proofs.Outcomes.{require-accepted}
 use Rattle.base.proofs.Tests.{and-both, both-and}
 use Rattle.codec.proofs.Every.{every-at, every-holds}
 use Rattle.codec.proofs.Joined.{length-joined}
 use Rattle.codec.proofs.Over.{also}
+use Rattle.encode.proofs.EncodeLaws.{length-directory-block}
 use Rattle.writer.specs.Accepted.{GoodSupply}
-use Rattle.writer.specs.Encode.{directoryBytes, tileBytesOf, fileBytes, fileLength}
-use Rattle.writer.specs.Supply.{Supply, tilesOf, numbersPerBox, boxOf, countOf, offset, total, pointOf}
 use Rattle.writer.specs.Write.{tilesFit, entryFits, listsFit, sitesFit, tileFits, writeTests, writeCall, writeExit}
-use Rattle.writer.proofs.EncodeLaws.{length-directory-block}
 
 -- ---- test by test
 pub tiles-good : (t : ℕ) → tilesFit t ≡ true → (1 ≤ t) × (t ≤ maxTiles)
@@ -47,6 +47,13 @@ tile-good : (boxes : List ℤ) (counts : List ℕ) (xs ys : List ℤ) (t : ℕ) 
 unfolding tileFits sitesFit
 tile-good boxes counts xs ys t e slot l =
     every-at (λ i. inside (boxOf boxes t) (pointOf xs ys (offset counts t + i))) (countOf counts t) slot e l
+
+-- test 10 of tile t, by what the code goes by
+pub tile-test : (boxes : List ℤ) (counts : List ℕ) (xs ys : List ℤ) (t : ℕ) {b : List (List ℤ)} {first n : ℕ} →
+    b ≡ boxOf boxes t →
+    first ≡ offset counts t → n ≡ countOf counts t → sitesFit b xs ys first n ≡ tileFits boxes counts xs ys t
+unfolding tileFits
+tile-test boxes counts xs ys t e₁ e₂ e₃ = rw (e₁, e₂, e₃)
 
 -- ---- all tests
 module _ (s : Supply) (room : ℕ) where

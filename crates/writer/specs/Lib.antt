@@ -1,5 +1,3 @@
-pub mod Supply
-pub mod Encode
 pub mod Write
 pub mod Accepted
 pub mod Made

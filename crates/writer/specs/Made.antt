@@ -9,10 +9,10 @@ use lib.Signed.{mag}
 use Rattle.base.specs.Refusal.{accepted}
 use Rattle.blocks.specs.Directory.{boxAt, countAt}
 use Rattle.codec.specs.Tabulate.{tabulate, joined}
+use Rattle.encode.specs.Supply.{Supply, tilesOf}
 use Rattle.geometry.specs.Box.{lo, hi}
 use Rattle.tiles.specs.Tile.{siteAt}
 use Rattle.tiles.specs.declared.tile.Site.{Site}
-use Rattle.writer.specs.Supply.{Supply, tilesOf}
 use Rattle.writer.specs.Write.{writeCall, writeExit}
 
 -- lists of unsigned and of signed 32-bit numbers, as slices hold them

@@ -10,9 +10,9 @@ use Rattle.blocks.specs.Directory.{validEntry}
 use Rattle.blocks.specs.Layout.{maxTiles}
 use Rattle.codec.specs.Every.{every}
 use Rattle.codec.specs.Over.{over}
+use Rattle.encode.specs.Encode.{fileBytes, fileLength}
+use Rattle.encode.specs.Supply.{Supply, tilesOf, numbersPerBox, boxOf, countOf, offset, total, pointOf}
 use Rattle.geometry.specs.Box.{inside}
-use Rattle.writer.specs.Encode.{fileBytes, fileLength}
-use Rattle.writer.specs.Supply.{Supply, tilesOf, numbersPerBox, boxOf, countOf, offset, total, pointOf}
 
 -- 6: "T is 0, over 960"
 unfoldable pub tilesFit : ℕ → Bool

@@ -1,6 +1,3 @@
 // The writer of files (document 01, "Writer, full check, host, program"). write::write takes any lists; the other calls serve it.
-pub mod directory;
-pub mod head;
 pub mod supply;
-pub mod tile;
 pub mod write;

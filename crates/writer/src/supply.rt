@@ -5,23 +5,17 @@ ghost use lib.ListN.{length};
 ghost use Rattle.blocks.specs.Layout.{maxSites, maxTiles};
 ghost use Rattle.blocks.specs.Outcome.{numberOutcome};
 ghost use Rattle.codec.specs.Every.{every};
+ghost use Rattle.encode.specs.Supply.{supply, numbersPerBox, boxOf, countOf, total, pointOf};
+ghost use Rattle.encode.specs.Encode.{fileLength};
 ghost use Rattle.geometry.specs.Box.{inside};
-ghost use Rattle.writer.specs.Supply.{supply, numbersPerBox, boxOf, countOf, total, pointOf};
 ghost use Rattle.writer.specs.Write.{tilesFit, entryFits, listsFit, sitesFit, tileFits, writeTests};
-ghost use Rattle.writer.specs.Encode.{fileLength};
 use base::both;
 use blocks::directory::directory_blocks;
 use blocks::layout;
+use encode::lists::NUMBERS_PER_BOX;
+use encode::lists::wide;
 use geometry::limits::inside;
 use geometry::limits::valid_box;
-
-pub const NUMBERS_PER_BOX: usize = 4;
-
-pub fn wide(n: u32) -> usize
-    ensures { λ r. ⌜ (r ≡ n) × (r < 0x1_0000_0000) ⌝ }
-{
-    n as usize
-}
 
 // The box of tile t.
 pub fn box_of(boxes: &[i32], t: usize) -> [[i32; 2]; 2]

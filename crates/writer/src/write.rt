@@ -2,14 +2,14 @@
 ghost use mathlib.Core.Path.{_≡_};
 ghost use lib.ListN.{length};
 ghost use Rattle.blocks.specs.Outcome.{answerOutcome};
-ghost use Rattle.writer.specs.Supply.{supply};
+ghost use Rattle.encode.specs.Supply.{supply};
 ghost use Rattle.writer.specs.Write.{writeCall, writeExit};
-use crate::directory::put_directory;
 use crate::supply::failed_test;
 use crate::supply::file_length;
-use crate::tile::put_tiles;
 use blocks::block;
 use blocks::block::Answer;
+use encode::directory::put_directory;
+use encode::tile::put_tiles;
 
 // Writes the file of a town: four numbers of a box and a count for each tile, and the sites in tile order. Gives the file's
 // length, or the first refusal.

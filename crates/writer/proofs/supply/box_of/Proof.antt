@@ -2,8 +2,8 @@ use Prim.Native.Nat.{ℕ, _+_, _*_}
 use lib.IntN.{ℤ, pos}
 use lib.ListN.{getD}
 use borrow.Author.Needs.{needs}
+use Rattle.encode.specs.Supply.{numbersPerBox, boxOf}
 use Rattle.codec.proofs.Number.{local-i32}
-use Rattle.writer.specs.Supply.{numbersPerBox, boxOf}
 use Rattle.writer.proofs.supply.box_of.Statement.{statement}
 use Rattle.writer.proofs.supply.box_of.Tie as tie
 

@@ -1,5 +1,5 @@
 use borrow.Author.Needs.{needs}
-use Rattle.writer.specs.Encode.{fileLength}
+use Rattle.encode.specs.Encode.{fileLength}
 use Rattle.writer.proofs.supply.file_length.Statement.{statement}
 use Rattle.writer.proofs.supply.file_length.Tie as tie
 

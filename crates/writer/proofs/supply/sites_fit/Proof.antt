@@ -4,10 +4,10 @@ use mathlib.Core.Path.{_≡_, sym}
 use native.Mathlib.Omega.{arith}
 use borrow.Author.Count.{below-more}
 use borrow.Author.Needs.{needs}
+use Rattle.encode.specs.Supply.{pointOf}
 use Rattle.geometry.specs.Box.{inside}
 use Rattle.blocks.proofs.TestLaws.{passed, failed}
 use Rattle.codec.proofs.Every.{every-fails, every-holds}
-use Rattle.writer.specs.Supply.{pointOf}
 use Rattle.writer.specs.Write.{sitesFit}
 use Rattle.writer.proofs.supply.sites_fit.Statement.{statement}
 use Rattle.writer.proofs.supply.sites_fit.Tie as tie

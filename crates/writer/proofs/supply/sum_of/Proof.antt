@@ -3,8 +3,8 @@ use mathlib.Core.Path.{_≡_, ap, _∙_}
 use native.Mathlib.Omega.{arith}
 use lib.ListN.{length}
 use borrow.Author.Needs.{needs}
-use Rattle.writer.specs.Supply.{offset}
-use Rattle.writer.proofs.SupplyLaws.{offset-next, offset-small}
+use Rattle.encode.specs.Supply.{offset}
+use Rattle.encode.proofs.SupplyLaws.{offset-next, offset-small}
 use Rattle.writer.proofs.supply.sum_of.Statement.{statement}
 use Rattle.writer.proofs.supply.sum_of.Tie as tie
 

@@ -5,11 +5,12 @@ use native.Mathlib.Omega.{arith}
 use lib.ListN.{length}
 use borrow.Author.Count.{below-more}
 use borrow.Author.Needs.{needs}
+use Rattle.encode.specs.Supply.{offset}
 use Rattle.blocks.proofs.TestLaws.{passed, failed}
 use Rattle.codec.proofs.Every.{every-fails, every-holds}
-use Rattle.writer.specs.Supply.{offset}
+use Rattle.encode.proofs.SupplyLaws.{offset-next, offset-within}
 use Rattle.writer.specs.Write.{tileFits}
-use Rattle.writer.proofs.SupplyLaws.{tile-test, offset-next, offset-within}
+use Rattle.writer.proofs.WriteLaws.{tile-test}
 use Rattle.writer.proofs.supply.tiles_inside.Statement.{statement}
 use Rattle.writer.proofs.supply.tiles_inside.Tie as tie
 

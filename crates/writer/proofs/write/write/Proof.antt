@@ -4,10 +4,10 @@ use native.Mathlib.Omega.{arith}
 use lib.ListN.{length}
 use borrow.Author.Needs.{needs}
 use Rattle.base.specs.Refusal.{accepted}
+use Rattle.encode.specs.Encode.{fileLength}
+use Rattle.encode.specs.Supply.{supply}
 use Rattle.blocks.proofs.OutcomeLaws.{number-accepted, number-refused}
 use Rattle.writer.specs.Accepted.{GoodSupply}
-use Rattle.writer.specs.Encode.{fileLength}
-use Rattle.writer.specs.Supply.{supply}
 use Rattle.writer.specs.Write.{writeTests}
 use Rattle.writer.proofs.WriteLaws.{tests-good, call-refused, call-accepted, exit-refused, exit-accepted, file-row}
 use Rattle.writer.proofs.write.write.Statement.{statement}

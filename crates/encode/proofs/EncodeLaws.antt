@@ -1,0 +1,194 @@
+-- The bytes of blocks: their lengths, and that rows of writing calls leave them. Assumes nothing.
+use Prim.Native.Nat.{ℕ, _+_, _*_, _-_, _<_, _≤_}
+use mathlib.Core.List.{List, [], _∷_, _++_}
+use mathlib.Core.Path.{_≡_, refl, sym, ap, _∙_}
+use native.Mathlib.Omega.{arith}
+use lib.Dec.{lit<}
+use lib.IntN.{ℤ, pos}
+use lib.ListN.{length, getD, take, drop, replicate, length-append, length-replicate, length-drop}
+use lib.Seq.{slice, take-all, length-take-le}
+use Rattle.blocks.specs.Checksum.{sumsFrom, sums}
+use Rattle.blocks.specs.Directory.{directoryBlocks, entriesDue}
+use Rattle.blocks.specs.Layout.{syncByte, directoryKind, tileKind, kindAt, positionAt, entriesAt, tilesAt, countOffset}
+use Rattle.blocks.specs.Layout.{zeroOffset, blockSize, reservedAt, payloadAt, checkAt, entrySize, entriesPerBlock, siteSize}
+use Rattle.blocks.specs.Layout.{maxSites}
+use Rattle.blocks.specs.declared.checksum.Sums.{Sums}
+use Rattle.codec.specs.Bytes.{bytes, bytes16, bytes32, bytesSigned}
+use Rattle.codec.specs.Over.{over}
+use Rattle.codec.specs.Tabulate.{joined}
+use Rattle.tiles.specs.Tile.{tilePosition}
+use Rattle.blocks.proofs.ChecksumLaws.{sums-small}
+use Rattle.codec.proofs.Holds.{Holds, holds-over, holds-part, holds-front}
+use Rattle.codec.proofs.Joined.{length-joined}
+use Rattle.codec.proofs.Over.{also, length-over}
+use Rattle.encode.specs.Encode.{headBytes, checkBytes, bodyBytes, blockBytes, boxBytes, entryBytes, siteBytes}
+use Rattle.encode.specs.Encode.{directoryBytes, tileBytes, tileBytesOf}
+use Rattle.encode.specs.Supply.{numbersPerBox, countOf, offset}
+
+-- ---- lengths
+pub length-head : (kind p n t : ℕ) → length (headBytes kind p n t) ≡ reservedAt
+unfolding headBytes bytes16 bytes
+length-head kind p n t = refl
+
+pub length-entry : (boxes : List ℤ) (counts : List ℕ) (t : ℕ) → length (entryBytes boxes counts t) ≡ entrySize
+unfolding entryBytes boxBytes bytesSigned bytes32 bytes16 bytes
+length-entry boxes counts t = refl
+
+pub length-site : (xs ys : List ℤ) (cues : List ℕ) (i : ℕ) → length (siteBytes xs ys cues i) ≡ siteSize
+unfolding siteBytes bytesSigned bytes32 bytes
+length-site xs ys cues i = refl
+
+pub length-entries : (boxes : List ℤ) (counts : List ℕ) (t n : ℕ) → length (joined (entryBytes boxes counts) t n) ≡ entrySize * n
+length-entries boxes counts t n = length-joined (entryBytes boxes counts) entrySize t n (λ i l. length-entry boxes counts (t + i))
+
+pub length-sites : (xs ys : List ℤ) (cues : List ℕ) (i n : ℕ) → length (joined (siteBytes xs ys cues) i n) ≡ siteSize * n
+length-sites xs ys cues i n = length-joined (siteBytes xs ys cues) siteSize i n (λ j l. length-site xs ys cues (i + j))
+
+module _ (head payload : List ℕ) (h : length head ≡ reservedAt) (fits : payloadAt + length payload ≤ checkAt) where
+  pub length-body : length (bodyBytes head payload) ≡ checkAt
+  unfolding bodyBytes
+  length-body = simp (length-append, length-replicate) (omega arith)
+
+  pub length-block : length (blockBytes head payload) ≡ blockSize
+  unfolding blockBytes checkBytes
+  length-block = simp (length-append, length-body)
+
+pub due-few : (t p : ℕ) → entriesDue t p ≤ entriesPerBlock
+unfolding entriesDue
+due-few t p = omega arith
+
+pub due-within : (t p : ℕ) → p < directoryBlocks t → entriesPerBlock * p + entriesDue t p ≤ t
+unfolding directoryBlocks entriesDue
+due-within t p h = omega arith
+
+pub blocks-few : (t : ℕ) → directoryBlocks t ≤ t
+unfolding directoryBlocks
+blocks-few t = omega arith
+
+pub length-directory-block : (boxes : List ℤ) (counts : List ℕ) (p : ℕ) → length (directoryBytes boxes counts p) ≡ blockSize
+unfolding directoryBytes
+length-directory-block boxes counts p =
+    let n = entriesDue (length counts) p in
+    length-block (headBytes directoryKind p n (length counts)) (joined (entryBytes boxes counts) (entriesPerBlock * p) n)
+    (length-head directoryKind p n (length counts))
+    (omega (arith, length-entries boxes counts (entriesPerBlock * p) n, due-few (length counts) p))
+
+pub length-tile-block : (xs ys : List ℤ) (cues : List ℕ) (p i n : ℕ) → n ≤ maxSites →
+    length (tileBytes xs ys cues p i n) ≡ blockSize
+unfolding tileBytes
+length-tile-block xs ys cues p i n h =
+    length-block (headBytes tileKind p n 0) (joined (siteBytes xs ys cues) i n) (length-head tileKind p n 0)
+    (omega (arith, length-sites xs ys cues i n))
+
+-- the block of tile t, by what the code goes by
+pub tile-of : (counts : List ℕ) (xs ys : List ℤ) (cues : List ℕ) (t : ℕ) {p first n : ℕ} →
+    p ≡ directoryBlocks (length counts) + t →
+    first ≡ offset counts t → n ≡ countOf counts t → tileBytes xs ys cues p first n ≡ tileBytesOf counts xs ys cues t
+unfolding tileBytesOf tilePosition
+tile-of counts xs ys cues t e₁ e₂ e₃ = rw (e₁, e₂, e₃)
+
+-- ---- the check, which is over bytes 1 to 509
+pub sums-front : (s r : List ℕ) → take checkAt s ≡ take checkAt r → sums s ≡ sums r
+unfolding sums
+sums-front s r e = ap (λ l. sumsFrom 0 0 (drop 1 l)) e
+
+pub sums-byte : (s : List ℕ) → (sums s .a < 256) × (sums s .c < 256)
+unfolding sums
+sums-byte s = let h = sums-small (slice 1 checkAt s) 0 0 (lit< tt) (lit< tt) in (omega (arith, h .0), omega (arith, h .1))
+
+-- of a block that holds a body
+pub sums-body : (s body : List ℕ) → Holds s 0 body → length body ≡ checkAt → checkAt ≤ length s → sums s ≡ sums body
+sums-body s body h n l =
+    sums-front s body (holds-front checkAt h n l ∙ sym (take-all checkAt body (omega arith)))
+
+-- the part of the slice that is lent to the check
+pub lent : (l : List ℕ) (at : ℕ) (r : Sums) → r ≡ sums (take (at + blockSize - at) (drop at l)) →
+    r ≡ sums (take blockSize (drop at l))
+lent l at r e = let k : at + blockSize - at ≡ blockSize = omega arith in rw k at e
+
+-- ---- rows of calls
+module _ (l : List ℕ) (at : ℕ) where
+  pub head-row : (kind p n t : ℕ) {d₁ d₂ d₃ d₄ d₅ : List ℕ} → d₁ ≡ over l at (syncByte ∷ []) →
+      d₂ ≡ over d₁ (at + kindAt) (kind ∷ []) →
+      d₃ ≡ over d₂ (at + positionAt) (bytes16 p) → d₄ ≡ over d₃ (at + entriesAt) (bytes16 n) →
+      d₅ ≡ over d₄ (at + tilesAt) (bytes16 t) →
+      d₅ ≡ over l at (headBytes kind p n t)
+  unfolding headBytes bytes16 bytes
+  head-row kind p n t e₁ e₂ e₃ e₄ e₅ =
+      let a : List ℕ = syncByte ∷ [] in
+      let b = a ++ (kind ∷ []) in
+      let c = b ++ bytes16 p in
+      let d = c ++ bytes16 n in
+      also l at (at + tilesAt) d (bytes16 t)
+      (also l at (at + entriesAt) c (bytes16 n) (also l at (at + positionAt) b (bytes16 p)
+      (also l at (at + kindAt) a (kind ∷ []) e₁ e₂ refl) e₃ refl) e₄ refl) e₅ refl
+
+  pub check-row : (s : List ℕ) {a c : ℕ} {d₁ d₂ : List ℕ} → a ≡ sums s .a → c ≡ sums s .c → d₁ ≡ over l at (a ∷ []) →
+      d₂ ≡ over d₁ (at + 1) (c ∷ []) → d₂ ≡ over l at (checkBytes s)
+  unfolding checkBytes
+  check-row s {a} {c} p q e₁ e₂ = also l at (at + 1) (a ∷ []) (c ∷ []) e₁ e₂ refl ∙ rw (p, q)
+
+  pub box-row : (boxes : List ℤ) (t : ℕ) {d₁ d₂ d₃ d₄ : List ℕ} →
+      let end : ℕ → List ℕ = λ i. bytesSigned (getD boxes i (pos 0)) in
+      let b = numbersPerBox * t in
+      d₁ ≡ over l at (end b) → d₂ ≡ over d₁ (at + 4) (end (b + 1)) → d₃ ≡ over d₂ (at + 8) (end (b + 2)) →
+      d₄ ≡ over d₃ (at + 12) (end (b + 3)) → d₄ ≡ over l at (boxBytes boxes t)
+  unfolding boxBytes bytesSigned bytes32 bytes
+  box-row boxes t e₁ e₂ e₃ e₄ =
+      let end : ℕ → List ℕ = λ i. bytesSigned (getD boxes i (pos 0)) in
+      let b = numbersPerBox * t in
+      also l at (at + 12) (end b ++ end (b + 1) ++ end (b + 2)) (end (b + 3))
+      (also l at (at + 8) (end b ++ end (b + 1)) (end (b + 2))
+      (also l at (at + 4) (end b) (end (b + 1)) e₁ e₂ refl) e₃ refl) e₄ refl
+
+  pub entry-row : (boxes : List ℤ) (counts : List ℕ) (t : ℕ) {d₁ d₂ d₃ : List ℕ} → d₁ ≡ over l at (boxBytes boxes t) →
+      d₂ ≡ over d₁ (at + countOffset) (bytes16 (countOf counts t)) →
+      d₃ ≡ over d₂ (at + zeroOffset) (replicate (at + entrySize - (at + zeroOffset)) 0) →
+      d₃ ≡ over l at (entryBytes boxes counts t)
+  unfolding entryBytes boxBytes bytesSigned bytes32 bytes16 bytes
+  entry-row boxes counts t {d₁} {d₂} e₁ e₂ e₃ =
+      let z : at + entrySize - (at + zeroOffset) ≡ entrySize - zeroOffset = omega arith in
+      let a = boxBytes boxes t in
+      let b = a ++ bytes16 (countOf counts t) in
+      also l at (at + zeroOffset) b (replicate (entrySize - zeroOffset) 0)
+      (also l at (at + countOffset) a (bytes16 (countOf counts t)) e₁ e₂ refl)
+      (e₃ ∙ ap (λ k. over d₂ (at + zeroOffset) (replicate k 0)) z) refl
+
+  pub site-row : (xs ys : List ℤ) (cues : List ℕ) (i : ℕ) {d₁ d₂ d₃ : List ℕ} → d₁ ≡ over l at (bytesSigned (getD xs i (pos 0))) →
+      d₂ ≡ over d₁ (at + 4) (bytesSigned (getD ys i (pos 0))) → d₃ ≡ over d₂ (at + 8) (bytes32 (getD cues i 0)) →
+      d₃ ≡ over l at (siteBytes xs ys cues i)
+  unfolding siteBytes bytesSigned bytes32 bytes
+  site-row xs ys cues i e₁ e₂ e₃ =
+      let a = bytesSigned (getD xs i (pos 0)) in
+      let b = bytesSigned (getD ys i (pos 0)) in
+      also l at (at + 8) (a ++ b) (bytes32 (getD cues i 0)) (also l at (at + 4) a b e₁ e₂ refl) e₃ refl
+
+  pub block-row : (head payload : List ℕ) (used : ℕ) → length head ≡ reservedAt → used ≡ payloadAt + length payload →
+      used ≤ checkAt →
+      at + blockSize ≤ length l → {d₁ d₂ d₃ d₄ d₅ : List ℕ} → d₁ ≡ over l at head →
+      d₂ ≡ over d₁ (at + reservedAt) (replicate (at + payloadAt - (at + reservedAt)) 0) → d₃ ≡ over d₂ (at + payloadAt) payload →
+      d₄ ≡ over d₃ (at + used) (replicate (at + checkAt - (at + used)) 0) →
+      d₅ ≡ over d₄ (at + checkAt) (checkBytes (take blockSize (drop at d₄))) → d₅ ≡ over l at (blockBytes head payload)
+  unfolding blockBytes bodyBytes checkBytes
+  block-row head payload used n u fits room {d₁} {d₂} {d₃} {d₄} e₁ e₂ e₃ e₄ e₅ =
+      let z : at + payloadAt - (at + reservedAt) ≡ payloadAt - reservedAt = omega arith in
+      let y : at + checkAt - (at + used) ≡ checkAt - (payloadAt + length payload) = omega arith in
+      let gap : List ℕ = replicate (payloadAt - reservedAt) 0 in
+      let tail : List ℕ = replicate (checkAt - (payloadAt + length payload)) 0 in
+      let f₂ = e₂ ∙ ap (λ k. over d₁ (at + reservedAt) (replicate k 0)) z in
+      let f₄ = e₄ ∙ ap (λ k. over d₃ (at + used) (replicate k 0)) y in
+      let b₂ = also l at (at + reservedAt) head gap e₁ f₂ (ap (λ k. at + k) (sym n)) in
+      let m₂ : length (head ++ gap) ≡ payloadAt = simp length-append (omega arith) in
+      let b₃ = also l at (at + payloadAt) (head ++ gap) payload b₂ e₃ (ap (λ k. at + k) (sym m₂)) in
+      let m₃ : length (head ++ gap ++ payload) ≡ used = length-append (head ++ gap) payload ∙ omega arith in
+      let b₄ = also l at (at + used) (head ++ gap ++ payload) tail b₃ f₄ (ap (λ k. at + k) (sym m₃)) in
+      let body = bodyBytes head payload in
+      let m₄ : length body ≡ checkAt = length-body head payload n (omega arith) in
+      let held : Holds d₄ at body = rw b₄ (holds-over l at body (omega arith)) in
+      let room₄ : length d₄ ≡ length l = ap length b₄ ∙ length-over l at body in
+      let size : length (take blockSize (drop at d₄)) ≡ blockSize =
+      length-take-le blockSize (drop at d₄) (omega (arith, length-drop at d₄)) in
+      let s = sums-body (take blockSize (drop at d₄)) body (holds-part held blockSize at 0 (omega arith) (omega arith)) m₄
+      (omega arith) in
+      also l at (at + checkAt) body (checkBytes body) b₄ (e₅ ∙ ap (λ (x : Sums). over d₄ (at + checkAt) (x .a ∷ x .c ∷ [])) s)
+      (ap (λ k. at + k) (sym m₄))

@@ -1,0 +1,91 @@
+use Prim.Native.Nat.{_+_, _*_}
+use mathlib.Core.Path.{_≡_, ap, _∙_}
+use native.Mathlib.Omega.{arith}
+use lib.ListN.{length}
+use borrow.Author.Needs.{needs}
+use Rattle.blocks.specs.Directory.{directoryBlocks}
+use Rattle.blocks.specs.Layout.{blockSize}
+use Rattle.codec.specs.Over.{over}
+use Rattle.codec.specs.Tabulate.{joined}
+use Rattle.codec.proofs.Joined.{joined-turn, joined-end}
+use Rattle.encode.specs.Encode.{directoryBytes}
+use Rattle.encode.proofs.EncodeLaws.{length-directory-block}
+use Rattle.encode.proofs.directory.put_directory.Statement.{statement}
+use Rattle.encode.proofs.directory.put_directory.Tie as tie
+
+abbrev Inv-loop : tie.InvT-loop
+Inv-loop d₀ boxes counts p₀ left₀ d p left =
+    (p + left ≡ directoryBlocks (length counts)) × (length d ≡ length d₀)
+    × (over d (blockSize * p) (joined (directoryBytes boxes counts) p left)
+    ≡ over d₀ 0 (joined (directoryBytes boxes counts) 0 (directoryBlocks (length counts))))
+
+abbrev μ-loop : tie.MeasureT-loop
+μ-loop d₀ boxes counts p₀ left₀ d p left = left
+
+directory-blocks-requires : tie.Need-directory-blocks-requires Inv-loop μ-loop
+directory-blocks-requires c κs = search needs
+
+loop-holds : tie.Need-loop-holds Inv-loop μ-loop
+loop-holds c =
+    let a = c .before .before .before .args in
+    let e = c .directory-blocks .ensures .0 in (
+      omega (arith, e),
+      search needs,
+      ap (λ k. over (a .d .now) 0
+          (joined (directoryBytes (a .boxes .now) (a .counts .now)) 0 k)) e,
+    )
+
+put-directory-block-requires : tie.Need-put-directory-block-requires Inv-loop μ-loop
+put-directory-block-requires c κs =
+    let l = c .before .before in
+    omega (arith, l .loop .inv, c .before .before .before .before .before .before .pre, c .before .loop-test)
+
+add-p : tie.Need-add-p Inv-loop μ-loop
+add-p c = search needs
+
+sub-left : tie.Need-sub-left Inv-loop μ-loop
+sub-left c = search needs
+
+loop-less : tie.Need-loop-less Inv-loop μ-loop
+loop-less c = search needs
+
+loop-again : tie.Need-loop-again Inv-loop μ-loop
+loop-again c =
+    let l = c .before .before .before .before .before in
+    let a = l .before .before .before .before .args in
+    let p = c .before .before .put-directory-block in
+    let k : length (p .last .0) ≡ length (l .loop .d) = p .kept .0 in
+    let w = length-directory-block (a .boxes .now) (a .counts .now) (l .loop .p) in (
+      omega (arith, l .loop .inv, c .before .before .before .before .loop-test),
+      omega (arith, k, l .loop .inv),
+      joined-turn (directoryBytes (a .boxes .now) (a .counts .now)) (l .loop .d) (blockSize * l .loop .p)
+          (blockSize * (l .loop .p + 1)) (l .loop .p)
+          (l .loop .left) (search needs) (p .ensures) (omega (arith, w)) ∙ l .loop .inv .2,
+    )
+
+same-length : tie.Need-same-length Inv-loop μ-loop
+same-length c = search needs
+
+returns : tie.Need-returns Inv-loop μ-loop
+returns c =
+    let l = c .before in
+    let a = l .before .before .before .before .args in
+    joined-end (directoryBytes (a .boxes .now) (a .counts .now)) (l .loop .d) (blockSize * l .loop .p) (l .loop .p)
+    (l .loop .left) (search needs)
+    ∙ l .loop .inv .2
+
+pub put-directory-spec : {M : Type 1} → statement M
+put-directory-spec =
+    tie.close
+    (tie.spec
+    Inv-loop
+    μ-loop
+    directory-blocks-requires
+    loop-holds
+    put-directory-block-requires
+    add-p
+    sub-left
+    loop-less
+    loop-again
+    same-length
+    returns)

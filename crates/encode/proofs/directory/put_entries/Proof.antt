@@ -1,0 +1,83 @@
+use Prim.Native.Nat.{_+_, _*_, _≤_}
+use mathlib.Core.Path.{_≡_, sym, ap, _∙_}
+use native.Mathlib.Omega.{arith}
+use lib.ListN.{length}
+use borrow.Author.Needs.{needs}
+use Rattle.blocks.specs.Layout.{entrySize}
+use Rattle.codec.specs.Over.{over}
+use Rattle.codec.specs.Tabulate.{joined}
+use Rattle.codec.proofs.Joined.{joined-turn, joined-end}
+use Rattle.encode.specs.Encode.{entryBytes}
+use Rattle.encode.specs.Supply.{numbersPerBox}
+use Rattle.encode.proofs.EncodeLaws.{length-entry}
+use Rattle.encode.proofs.directory.put_entries.Statement.{statement}
+use Rattle.encode.proofs.directory.put_entries.Tie as tie
+
+abbrev Inv-loop : tie.InvT-loop
+Inv-loop d₀ start boxes counts first n at₀ t₀ left₀ d at t left =
+    (at + entrySize * left ≤ length d) × (length d ≡ length d₀) × (numbersPerBox * (t + left) ≤ length boxes)
+    × (t + left ≤ length counts)
+    × (over d at (joined (entryBytes boxes counts) t left) ≡ over d₀ start (joined (entryBytes boxes counts) first n))
+
+abbrev μ-loop : tie.MeasureT-loop
+μ-loop d₀ start boxes counts first n at₀ t₀ left₀ d at t left = left
+
+loop-holds : tie.Need-loop-holds Inv-loop μ-loop
+loop-holds c = search needs
+
+put-entry-requires : tie.Need-put-entry-requires Inv-loop μ-loop
+put-entry-requires c κs = search needs
+
+add-at : tie.Need-add-at Inv-loop μ-loop
+add-at c = search needs
+
+add-t : tie.Need-add-t Inv-loop μ-loop
+add-t c = search needs
+
+sub-left : tie.Need-sub-left Inv-loop μ-loop
+sub-left c = search needs
+
+loop-less : tie.Need-loop-less Inv-loop μ-loop
+loop-less c = search needs
+
+loop-again : tie.Need-loop-again Inv-loop μ-loop
+loop-again c =
+    let l = c .before .before .before .before .before in
+    let a = l .before .before .before .args in
+    let p = c .before .before .put-entry in
+    let k : length (p .last .0) ≡ length (l .loop .d) = p .kept .0 in (
+      omega (arith, k, l .loop .inv),
+      omega (arith, k, l .loop .inv),
+      search needs,
+      search needs,
+      joined-turn (entryBytes (a .boxes .now) (a .counts .now)) (l .loop .d) (l .loop .at) (l .loop .at + entrySize)
+          (l .loop .t) (l .loop .left)
+          (search needs) (p .ensures) (ap (λ w. l .loop .at + w)
+          (sym (length-entry (a .boxes .now) (a .counts .now) (l .loop .t)))) ∙ l .loop .inv .4,
+    )
+
+same-length : tie.Need-same-length Inv-loop μ-loop
+same-length c = search needs
+
+returns : tie.Need-returns Inv-loop μ-loop
+returns c =
+    let l = c .before in
+    let a = l .before .before .before .args in
+    joined-end (entryBytes (a .boxes .now) (a .counts .now)) (l .loop .d) (l .loop .at) (l .loop .t) (l .loop .left)
+    (search needs) ∙ l .loop .inv .4
+
+pub put-entries-spec : {M : Type 1} → statement M
+put-entries-spec =
+    tie.close
+    (tie.spec
+    Inv-loop
+    μ-loop
+    loop-holds
+    put-entry-requires
+    add-at
+    add-t
+    sub-left
+    loop-less
+    loop-again
+    same-length
+    returns)

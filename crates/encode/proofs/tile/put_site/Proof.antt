@@ -1,0 +1,73 @@
+use lib.IntN.{pos}
+use lib.ListN.{getD}
+use borrow.Author.Needs.{needs}
+use Rattle.codec.proofs.Number.{local-i32}
+use Rattle.encode.proofs.EncodeLaws.{site-row}
+use Rattle.encode.proofs.tile.put_site.Statement.{statement}
+use Rattle.encode.proofs.tile.put_site.Tie as tie
+
+mul-put-i32 : tie.Need-mul-put-i32
+mul-put-i32 c = search needs
+
+shared-slice-copy-out-put-i32 : tie.Need-shared-slice-copy-out-put-i32
+shared-slice-copy-out-put-i32 c = search needs
+
+put-i32-requires : tie.Need-put-i32-requires
+put-i32-requires c κs = search needs
+
+add-put-i32 : tie.Need-add-put-i32
+add-put-i32 c = search needs
+
+mul-put-i32-2 : tie.Need-mul-put-i32-2
+mul-put-i32-2 c = search needs
+
+shared-slice-copy-out-put-i32-2 : tie.Need-shared-slice-copy-out-put-i32-2
+shared-slice-copy-out-put-i32-2 c = search needs
+
+put-i32-requires-2 : tie.Need-put-i32-requires-2
+put-i32-requires-2 c κs = search needs
+
+add-put-u32 : tie.Need-add-put-u32
+add-put-u32 c = search needs
+
+mul-put-u32 : tie.Need-mul-put-u32
+mul-put-u32 c = search needs
+
+shared-slice-read-put-u32 : tie.Need-shared-slice-read-put-u32
+shared-slice-read-put-u32 c = search needs
+
+put-u32-requires : tie.Need-put-u32-requires
+put-u32-requires c κs = search needs
+
+same-length : tie.Need-same-length
+same-length c = search needs
+
+returns : tie.Need-returns
+returns c =
+    let c₁ = c .before .before .before .before .before .before .before in
+    let c₂ = c₁ .before in
+    let c₃ = c₂ .before .before .before .before in
+    let c₄ = c₃ .before in
+    let a = c₄ .before .before .before .before .args in
+    site-row (a .d .now) (a .at) (a .xs .now) (a .ys .now) (a .cues .now) (a .i)
+    (simp (local-i32 (getD (a .xs .now) (a .i) (pos 0)) (c₄ .put-i32-arg2 .given)) at (c₃ .put-i32 .ensures))
+    (simp (local-i32 (getD (a .ys .now) (a .i) (pos 0)) (c₂ .put-i32-arg4 .given)) at (c₁ .put-i322 .ensures))
+    (c .before .before .put-u32 .ensures)
+
+pub put-site-spec : {M : Type 1} → statement M
+put-site-spec =
+    tie.close
+    (tie.spec
+    mul-put-i32
+    shared-slice-copy-out-put-i32
+    put-i32-requires
+    add-put-i32
+    mul-put-i32-2
+    shared-slice-copy-out-put-i32-2
+    put-i32-requires-2
+    add-put-u32
+    mul-put-u32
+    shared-slice-read-put-u32
+    put-u32-requires
+    same-length
+    returns)

@@ -1,0 +1,67 @@
+-- The bytes of a file (document 01, "Blocks").
+use Prim.Native.Nat.{ℕ, _+_, _*_, _-_}
+use mathlib.Core.List.{List, [], _∷_, _++_}
+use lib.IntN.{ℤ, pos}
+use lib.ListN.{getD, length, replicate}
+use Rattle.blocks.specs.Checksum.{sums}
+use Rattle.blocks.specs.Directory.{directoryBlocks, entriesDue}
+use Rattle.blocks.specs.Layout.{blockSize, syncByte, directoryKind, tileKind, reservedAt, payloadAt, checkAt, entrySize}
+use Rattle.blocks.specs.Layout.{zeroOffset, entriesPerBlock}
+use Rattle.codec.specs.Bytes.{bytes16, bytes32, bytesSigned}
+use Rattle.codec.specs.Tabulate.{joined}
+use Rattle.tiles.specs.Tile.{tilePosition}
+use Rattle.encode.specs.Supply.{Supply, tilesOf, numbersPerBox, countOf, offset}
+
+-- "Byte 0: D6 hex. Byte 1: kind .. Bytes 2-3: the block's position in the file .. Bytes 4-5: entries. Bytes 6-7: T"
+unfoldable pub headBytes : ℕ → ℕ → ℕ → ℕ → List ℕ
+headBytes kind p n t = (syncByte ∷ []) ++ (kind ∷ []) ++ bytes16 p ++ bytes16 n ++ bytes16 t
+
+-- bytes 510 and 511, of a list that has bytes 1 to 509
+unfoldable pub checkBytes : List ℕ → List ℕ
+checkBytes s = sums s .a ∷ sums s .c ∷ []
+
+-- bytes 0 to 509: "Payload at 16-495 .. All else zero, unused payload too"
+unfoldable pub bodyBytes : List ℕ → List ℕ → List ℕ
+bodyBytes head payload =
+    head ++ replicate (payloadAt - reservedAt) 0 ++ payload ++ replicate (checkAt - (payloadAt + length payload)) 0
+
+-- a block
+unfoldable pub blockBytes : List ℕ → List ℕ → List ℕ
+blockBytes head payload = bodyBytes head payload ++ checkBytes (bodyBytes head payload)
+
+-- "A directory entry has 20 bytes: low x, low y, high x, high y (signed, 4 bytes each), count (2), zero (2)": that of tile t
+unfoldable pub boxBytes : List ℤ → ℕ → List ℕ
+boxBytes boxes t =
+    bytesSigned (getD boxes (numbersPerBox * t) (pos 0)) ++ bytesSigned (getD boxes (numbersPerBox * t + 1) (pos 0))
+    ++ bytesSigned (getD boxes (numbersPerBox * t + 2) (pos 0)) ++ bytesSigned (getD boxes (numbersPerBox * t + 3) (pos 0))
+
+unfoldable pub entryBytes : List ℤ → List ℕ → ℕ → List ℕ
+entryBytes boxes counts t = boxBytes boxes t ++ bytes16 (countOf counts t) ++ replicate (entrySize - zeroOffset) 0
+
+-- "A site has 12 bytes: x, y (signed), cue": site i of the lists
+unfoldable pub siteBytes : List ℤ → List ℤ → List ℕ → ℕ → List ℕ
+siteBytes xs ys cues i = bytesSigned (getD xs i (pos 0)) ++ bytesSigned (getD ys i (pos 0)) ++ bytes32 (getD cues i 0)
+
+-- the directory block at position p: "Each directory block but the last has 24 entries"
+unfoldable pub directoryBytes : List ℤ → List ℕ → ℕ → List ℕ
+directoryBytes boxes counts p =
+    blockBytes (headBytes directoryKind p (entriesDue (length counts) p) (length counts))
+    (joined (entryBytes boxes counts) (entriesPerBlock * p) (entriesDue (length counts) p))
+
+-- a tile block at position p, with n sites of the lists from site i on; T is "zero in a tile"
+unfoldable pub tileBytes : List ℤ → List ℤ → List ℕ → ℕ → ℕ → ℕ → List ℕ
+tileBytes xs ys cues p i n = blockBytes (headBytes tileKind p n 0) (joined (siteBytes xs ys cues) i n)
+
+-- the block of tile t, at position d + t
+unfoldable pub tileBytesOf : List ℕ → List ℤ → List ℤ → List ℕ → ℕ → List ℕ
+tileBytesOf counts xs ys cues t = tileBytes xs ys cues (tilePosition (length counts) t) (offset counts t) (countOf counts t)
+
+-- "A file has d directory blocks, d = T/24 rounded up, then tile t at position d + t"
+unfoldable pub fileBytes : Supply → List ℕ
+fileBytes s =
+    joined (directoryBytes (s .boxes) (s .counts)) 0 (directoryBlocks (tilesOf s))
+    ++ joined (tileBytesOf (s .counts) (s .xs) (s .ys) (s .cues)) 0 (tilesOf s)
+
+-- "the file's length in bytes", of t tiles
+unfoldable pub fileLength : ℕ → ℕ
+fileLength t = blockSize * (directoryBlocks t + t)

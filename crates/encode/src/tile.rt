@@ -1,0 +1,107 @@
+// The tiles: their blocks in order, each written once.
+ghost use mathlib.Core.Path.{_≡_};
+ghost use Prim.Native.Nat.{ℕ, _+_, _*_, _<_, _≤_};
+ghost use lib.ListN.{length};
+ghost use Rattle.blocks.specs.Directory.{directoryBlocks};
+ghost use Rattle.blocks.specs.Layout.{blockSize, siteSize, maxSites, maxTiles};
+ghost use Rattle.codec.specs.Over.{over};
+ghost use Rattle.codec.specs.Tabulate.{joined};
+ghost use Rattle.encode.specs.Encode.{siteBytes, tileBytes, tileBytesOf, fileLength};
+ghost use Rattle.encode.specs.Supply.{countOf, total};
+use crate::head::put_checksum;
+use crate::head::put_head;
+use crate::lists::wide;
+use blocks::directory::directory_blocks;
+use blocks::layout;
+use codec::writing::put_i32;
+use codec::writing::put_u32;
+use codec::writing::put_zeros;
+use tiles::tile::site_offset;
+
+// Site i of the lists.
+pub fn put_site(d: &mut [u8], at: usize, xs: &[i32], ys: &[i32], cues: &[u32], i: usize)
+    requires { ⌜ (at + siteSize ≤ length (now d)) × (i < length (now xs)) × (i < length (now ys)) × (i < length (now cues)) ⌝ }
+    ensures { λ _. ⌜
+        now (d .exit) ≡ over (now (d .entry)) at (siteBytes (now (xs .entry)) (now (ys .entry)) (now (cues .entry)) i) ⌝ }
+{
+    put_i32(d, at, xs[i]);
+    put_i32(d, at + 4, ys[i]);
+    put_u32(d, at + 8, cues[i]);
+}
+
+// n sites of the lists from site `first` on.
+pub fn put_sites(
+    d: &mut [u8],
+    start: usize,
+    xs: &[i32],
+    ys: &[i32],
+    cues: &[u32],
+    first: usize,
+    n: usize,
+)
+    requires { ⌜
+        (start + siteSize * n ≤ length (now d)) × (first + n ≤ length (now xs)) × (first + n ≤ length (now ys))
+        × (first + n ≤ length (now cues)) ⌝ }
+    ensures { λ _. ⌜
+        now (d .exit) ≡ over (now (d .entry)) start
+        (joined (siteBytes (now (xs .entry)) (now (ys .entry)) (now (cues .entry))) first n) ⌝ }
+{
+    let mut at = start;
+    let mut i = first;
+    let mut left = n;
+    while 0 < left {
+        put_site(d, at, xs, ys, cues, i);
+        at += layout::SITE_SIZE;
+        i += 1;
+        left -= 1;
+    }
+}
+
+// A tile's block at position p, with n sites of the lists from site `first` on.
+pub fn put_tile(
+    d: &mut [u8],
+    p: usize,
+    xs: &[i32],
+    ys: &[i32],
+    cues: &[u32],
+    first: usize,
+    n: usize,
+)
+    requires { ⌜
+        (blockSize * p + blockSize ≤ length (now d)) × (n ≤ maxSites) × (first + n ≤ length (now xs))
+        × (first + n ≤ length (now ys)) × (first + n ≤ length (now cues)) ⌝ }
+    ensures { λ _. ⌜
+        now (d .exit) ≡ over (now (d .entry)) (blockSize * p)
+        (tileBytes (now (xs .entry)) (now (ys .entry)) (now (cues .entry)) p first n) ⌝ }
+{
+    let at = layout::BLOCK_SIZE * p;
+    let used = site_offset(n);
+    put_head(d, at, layout::TILE_KIND, p, n, 0);
+    put_zeros(d, at + layout::RESERVED_AT, at + layout::PAYLOAD_AT);
+    put_sites(d, at + layout::PAYLOAD_AT, xs, ys, cues, first, n);
+    put_zeros(d, at + used, at + layout::CHECK_AT);
+    put_checksum(d, at);
+}
+
+// All tiles, after the directory.
+pub fn put_tiles(d: &mut [u8], counts: &[u32], xs: &[i32], ys: &[i32], cues: &[u32])
+    requires { ⌜
+        (fileLength (length (now counts)) ≤ length (now d)) × (length (now counts) ≤ maxTiles)
+        × ((t : ℕ) → t < length (now counts) → countOf (now counts) t ≤ maxSites) × (length (now xs) ≡ total (now counts))
+        × (length (now ys) ≡ total (now counts)) × (length (now cues) ≡ total (now counts)) ⌝ }
+    ensures { λ _. ⌜
+        now (d .exit) ≡ over (now (d .entry)) (blockSize * directoryBlocks (length (now (counts .entry))))
+        (joined (tileBytesOf (now (counts .entry)) (now (xs .entry)) (now (ys .entry)) (now (cues .entry))) 0
+        (length (now (counts .entry)))) ⌝ }
+{
+    let mut p = directory_blocks(counts.len());
+    let mut t = 0;
+    let mut first = 0;
+    while t < counts.len() {
+        let n = wide(counts[t]);
+        put_tile(d, p, xs, ys, cues, first, n);
+        first += n;
+        p += 1;
+        t += 1;
+    }
+}
