@@ -11,7 +11,8 @@ use lib.ListN.{length}
 use Rattle.blocks.specs.Directory.{boxAt, countAt}
 use Rattle.codec.specs.Over.{over}
 use Rattle.geometry.specs.Distance.{minDist}
-use Rattle.places.specs.Places.{lastAhead, ownPlaces}
+use Rattle.list.specs.List.{lastAhead}
+use Rattle.places.specs.Places.{ownPlaces}
 use Rattle.plan.specs.FilePlan.{planOf, openingOf}
 use Rattle.prune.specs.Prune.{pruneMarks}
 use Rattle.queue.specs.Queue.{sooner, waits}

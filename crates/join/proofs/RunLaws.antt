@@ -12,7 +12,7 @@ use Rattle.base.specs.Refusal.{Outcome, accepted, refused, andThen}
 use Rattle.codec.specs.Number.{Bytes}
 use Rattle.codec.specs.Over.{over}
 use Rattle.geometry.specs.Box.{validPoint, inside}
-use Rattle.places.specs.Places.{dists, sites, cues}
+use Rattle.list.specs.List.{dists, sites, cues}
 use Rattle.plan.specs.FilePlan.{planOf, openingOf}
 use Rattle.plan.specs.Stops.{stopsOf, around, SmallestAround}
 use Rattle.prune.specs.Prune.{pruneMarks}
@@ -27,7 +27,7 @@ use Rattle.serve.specs.Serving.{walkStops, StopsReady, StopsServed, lastLength,
 use Rattle.stops.specs.Stops.{validStop}
 use Rattle.base.proofs.Outcomes.{andThen-accepted, accepted-injective, accepted-refused}
 use Rattle.codec.proofs.Over.{over-under, over-eq, length-over}
-use Rattle.places.proofs.Laying.{laid-next}
+use Rattle.list.proofs.Laying.{laid-next}
 use Rattle.places.proofs.Serving.{clear-laid, clear-all}
 use Rattle.plan.proofs.Theorems.{box-around, plan-lawful, opening-checked}
 use Rattle.prune.proofs.Filling.{filled-at, range-length}

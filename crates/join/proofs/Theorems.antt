@@ -15,7 +15,7 @@ use Rattle.blocks.specs.Same.{SameDirectory}
 use Rattle.codec.specs.Number.{Bytes}
 use Rattle.codec.specs.Over.{over}
 use Rattle.geometry.specs.Box.{inside}
-use Rattle.places.specs.Places.{placeAt, dists, sites, cues, Laid}
+use Rattle.list.specs.List.{placeAt, dists, sites, cues, Laid}
 use Rattle.plan.specs.FilePlan.{openingOf, townOf}
 use Rattle.plan.specs.Stops.{stopsOf, around}
 use Rattle.search.specs.FullSearch.{firstOf, fullSearch}
@@ -29,7 +29,7 @@ use Rattle.tiles.specs.Validate.{validate}
 use Rattle.base.proofs.Outcomes.{accepted-injective, accepted-refused}
 use Rattle.blocks.proofs.Theorems.{same-directory, directory-exactly}
 use Rattle.codec.proofs.Over.{getD-run}
-use Rattle.places.proofs.Laying.{laid-place}
+use Rattle.list.proofs.Laying.{laid-place}
 use Rattle.plan.proofs.Theorems.{plan-lawful, opening-checked, join-depends, pruned-count-depends, marks-depend, used-depends, slices-depend, good-opens, good-agrees}
 use Rattle.prune.proofs.Filling.{range-length}
 use Rattle.search.proofs.Lists.{all-map}

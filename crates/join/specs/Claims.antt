@@ -9,7 +9,7 @@ use lib.IntN.{ℤ}
 use lib.ListN.{length, getD, take}
 use Rattle.blocks.specs.Block.{blockAt}
 use Rattle.blocks.specs.Same.{SameDirectory}
-use Rattle.places.specs.Places.{placeAt}
+use Rattle.list.specs.List.{placeAt}
 use Rattle.plan.specs.FilePlan.{openingOf}
 use Rattle.plan.specs.Stops.{stopsOf}
 use Rattle.search.specs.FullSearch.{fullSearch, Fits, Changes}

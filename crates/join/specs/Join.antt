@@ -6,7 +6,7 @@ use lib.ListN.{length, replicate}
 use Rattle.base.specs.Refusal.{Outcome, accepted, refused, andThen}
 use Rattle.blocks.specs.Directory.{directory}
 use Rattle.codec.specs.Over.{over}
-use Rattle.places.specs.Places.{dists, sites, cues}
+use Rattle.list.specs.List.{dists, sites, cues}
 use Rattle.plan.specs.FilePlan.{planOf, openingOf}
 use Rattle.plan.specs.Stops.{stopsOf, around}
 use Rattle.search.specs.Plan.{Plan}

@@ -8,7 +8,7 @@ use lib.ListN.{length, replicate}
 use Rattle.base.specs.Refusal.{Outcome, accepted, andThen}
 use Rattle.blocks.specs.Directory.{directory}
 use Rattle.codec.specs.Over.{over}
-use Rattle.places.specs.Places.{Laid}
+use Rattle.list.specs.List.{Laid}
 use Rattle.plan.specs.FilePlan.{planOf, openingOf}
 use Rattle.plan.specs.Stops.{stopsOf, around}
 use Rattle.prune.specs.Prune.{pruneMarks}

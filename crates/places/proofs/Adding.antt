@@ -13,6 +13,7 @@ use Rattle.blocks.specs.Block.{blockAt}
 use Rattle.blocks.specs.Directory.{directoryBlocks, directory, boxAt, countAt}
 use Rattle.codec.specs.Tabulate.{tabulate}
 use Rattle.geometry.specs.Distance.{D}
+use Rattle.list.specs.List.{placeAt, places, Laid, Adds, Ready}
 use Rattle.plan.specs.FilePlan.{planOf, townOf}
 use Rattle.search.specs.Plan.{slots, ranks}
 use Rattle.search.specs.Run.{tilePlaces, rank, listing}
@@ -22,15 +23,15 @@ use Rattle.tiles.specs.declared.tile.Site.{Site}
 use Rattle.blocks.proofs.BlockLaws.{length-block}
 use Rattle.blocks.proofs.DirectoryLaws.{directory-good, block-fits, box-valid, count-small}
 use Rattle.geometry.proofs.AllAxes.{in-box, in-valid}
+use Rattle.list.proofs.Full.{put-none}
+use Rattle.list.proofs.Insertion.{inserts-few, inserts-grow, inserts-sorted}
+use Rattle.list.proofs.Laying.{places-length, laid-self, laid-lengths, laid-places, laid-next}
 use Rattle.search.proofs.Cut.{inserts}
 use Rattle.base.proofs.Tests.{by-test}
 use Rattle.search.proofs.Pairs.{lex-less}
 use Rattle.search.proofs.Places.{rank-order}
 use Rattle.tiles.proofs.Theorems.{opened-inside}
-use Rattle.places.specs.Places.{placeAt, places, Laid, Adds, Ready, sitePlace, sitePlaces, ownPlaces, Sited, Farther, Skipped}
-use Rattle.places.proofs.Full.{put-none}
-use Rattle.places.proofs.Insertion.{inserts-few, inserts-grow, inserts-sorted}
-use Rattle.places.proofs.Laying.{places-length, laid-self, laid-lengths, laid-places, laid-next}
+use Rattle.places.specs.Places.{sitePlace, sitePlaces, ownPlaces, Sited, Farther, Skipped}
 
 -- ---- what was added, as a list that is ready again
 module _ (more : List Place) {ds ss cs : List ℕ} {at used k : ℕ} {r : ℕ} {ds′ ss′ cs′ : List ℕ} (ready : Ready ds ss cs at used k)

@@ -7,13 +7,13 @@ use native.Mathlib.Omega.{arith}
 use lib.ListN.{length, take, replicate, length-replicate, getD-replicate}
 use lib.Seq.{take-append-add}
 use Rattle.codec.specs.Over.{over}
+use Rattle.list.specs.List.{placeAt, places, Laid}
 use Rattle.search.specs.Plan.{Plan}
 use Rattle.search.specs.Run.{noPlace, padded, slices}
 use Rattle.search.specs.declared.Place.{Place}
 use Rattle.codec.proofs.Tabulate.{tabulate-const}
+use Rattle.list.proofs.Laying.{Long, laid-self, laid-place, laid-after, Same, same-done, same-append, laid-append}
 use Rattle.search.proofs.Marks.{padded-length}
-use Rattle.places.specs.Places.{placeAt, places, Laid}
-use Rattle.places.proofs.Laying.{Long, laid-self, laid-place, laid-after, Same, same-done, same-append, laid-append}
 
 map-replicate : (show : Place → ℕ) (n : ℕ) → map show (replicate n noPlace) ≡ replicate n (show noPlace)
 map-replicate show zero = refl

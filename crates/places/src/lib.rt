@@ -1,4 +1,3 @@
-// The lists of the join in its three output slices.
+// The sites of a tile put into the list of a stop, and slices set to zero.
 pub mod clear;
-pub mod list;
 pub mod tile;

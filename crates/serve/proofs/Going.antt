@@ -15,7 +15,8 @@ use Rattle.codec.specs.Over.{over}
 use Rattle.codec.specs.Tabulate.{tabulate}
 use Rattle.geometry.specs.Box.{validPoint}
 use Rattle.geometry.specs.Distance.{minDist}
-use Rattle.places.specs.Places.{places, Laid, Ready, lastAhead, ownPlaces}
+use Rattle.list.specs.List.{places, Laid, Ready, lastAhead}
+use Rattle.places.specs.Places.{ownPlaces}
 use Rattle.queue.specs.Queue.{none, IsLeast}
 use Rattle.queue.specs.declared.keys.Least.{Least}
 use Rattle.search.specs.Lists.{range}
@@ -26,8 +27,8 @@ use Rattle.tiles.specs.Tile.{openTile}
 use Rattle.base.proofs.Outcomes.{accepted-injective, accepted-refused}
 use Rattle.base.proofs.Tests.{by-test}
 use Rattle.codec.proofs.Over.{over-under, over-set, length-over}
-use Rattle.places.proofs.Insertion.{inserts-few, inserts-grow, inserts-sorted}
-use Rattle.places.proofs.Laying.{places-length, laid-self, laid-places, laid-next}
+use Rattle.list.proofs.Insertion.{inserts-few, inserts-grow, inserts-sorted}
+use Rattle.list.proofs.Laying.{places-length, laid-self, laid-places, laid-next}
 use Rattle.prune.proofs.Filling.{filled-at}
 use Rattle.search.proofs.Places.{rank-order}
 use Rattle.search.proofs.Sort.{Sorted}

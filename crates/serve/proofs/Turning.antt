@@ -10,13 +10,13 @@ use lib.ListN.{length, set, drop, replicate, length-replicate}
 use lib.Seq.{drop-cons}
 use Rattle.base.specs.Refusal.{Outcome, accepted, refused, andThen}
 use Rattle.codec.specs.Over.{over}
-use Rattle.places.specs.Places.{Laid}
+use Rattle.list.specs.List.{Laid}
 use Rattle.plan.specs.Stops.{stopsOf}
 use Rattle.search.specs.Run.{slices}
 use Rattle.search.specs.declared.Place.{Place}
 use Rattle.base.proofs.Outcomes.{andThen-accepted, accepted-injective, accepted-refused}
 use Rattle.codec.proofs.Over.{over-under}
-use Rattle.places.proofs.Laying.{Same, same-refl, same-next, laid-lengths}
+use Rattle.list.proofs.Laying.{Same, same-refl, same-next, laid-lengths}
 use Rattle.places.proofs.Serving.{Clear, clear-kept, stop-turn, stops-done}
 use Rattle.marks.specs.Marks.{markAll}
 use Rattle.serve.specs.Serving.{Walk, walkStop, byKey, follows, walkStops, Opens, StopServed, StopsServed, lastLength, plainPlan}

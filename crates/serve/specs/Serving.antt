@@ -10,7 +10,8 @@ use Rattle.blocks.specs.Directory.{directory, boxAt, countAt}
 use Rattle.codec.specs.Over.{over}
 use Rattle.geometry.specs.Box.{validPoint}
 use Rattle.geometry.specs.Distance.{minDist}
-use Rattle.places.specs.Places.{placeAt, places, Laid, Ready, lastAhead, ownPlaces}
+use Rattle.list.specs.List.{placeAt, places, Laid, Ready, lastAhead}
+use Rattle.places.specs.Places.{ownPlaces}
 use Rattle.plan.specs.FilePlan.{planOf}
 use Rattle.queue.specs.Queue.{sooner}
 use Rattle.search.specs.Order.{sort}

@@ -6,7 +6,7 @@ use lib.ListN.{length, take}
 use borrow.Author.Needs.{needs}
 use Rattle.blocks.specs.Outcome.{answerOutcome}
 use Rattle.codec.specs.Tabulate.{tabulate}
-use Rattle.places.specs.Places.{places}
+use Rattle.list.specs.List.{places}
 use Rattle.stops.specs.Stops.{validStop}
 use Rattle.serve.proofs.Turning.{Turning, turning-start, turning-ends, turning-refused, turning-next}
 use Rattle.serve.proofs.serving.serve_each.Statement.{statement}

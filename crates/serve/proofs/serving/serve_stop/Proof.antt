@@ -8,13 +8,13 @@ use borrow.Author.Needs.{needs}
 use Rattle.base.specs.Refusal.{andThen, accepted}
 use Rattle.blocks.specs.Directory.{countAt}
 use Rattle.blocks.specs.Outcome.{answerOutcome}
-use Rattle.places.specs.Places.{Ready, lastAhead, places}
+use Rattle.list.specs.List.{Ready, lastAhead, places}
 use Rattle.queue.specs.Queue.{none, Passed}
 use Rattle.tiles.specs.Tile.{openTile}
 use Rattle.base.proofs.Outcomes.{andThen-refused, andThen-accepted}
 use Rattle.blocks.proofs.DirectoryLaws.{directory-good}
 use Rattle.blocks.proofs.OutcomeLaws.{told-accepted, told-refused}
-use Rattle.places.proofs.Laying.{laid-lengths}
+use Rattle.list.proofs.Laying.{laid-lengths}
 use Rattle.queue.proofs.Scanning.{passed-none, passed-next}
 use Rattle.tiles.proofs.Theorems.{opened-count}
 use Rattle.serve.proofs.Going.{Going, going-start, going-ends, going-none, going-full, going-refused, going-next, going-fewer}

@@ -4,7 +4,7 @@ use Rattle.base.specs.Refusal.{accepted}
 use Rattle.blocks.specs.Outcome.{answerOutcome}
 use Rattle.base.proofs.Outcomes.{accepted-refused}
 use Rattle.blocks.proofs.OutcomeLaws.{told-accepted, told-refused}
-use Rattle.places.proofs.Laying.{laid-self}
+use Rattle.list.proofs.Laying.{laid-self}
 use Rattle.tiles.proofs.Theorems.{opened-count}
 use Rattle.serve.proofs.serving.take_tile.Statement.{statement}
 use Rattle.serve.proofs.serving.take_tile.Tie as tie

@@ -1,8 +1,8 @@
 use mathlib.Core.Path.{sym, _∙_}
 use borrow.Author.Needs.{needs}
-use Rattle.places.proofs.Gap.{Gap, gap-starts, gap-turn, gap-stop, gap-bottom}
-use Rattle.places.proofs.list.make_gap.Statement.{statement}
-use Rattle.places.proofs.list.make_gap.Tie as tie
+use Rattle.list.proofs.Gap.{Gap, gap-starts, gap-turn, gap-stop, gap-bottom}
+use Rattle.list.proofs.make_gap.Statement.{statement}
+use Rattle.list.proofs.make_gap.Tie as tie
 
 abbrev Inv-loop : tie.InvT-loop
 Inv-loop dist₀ site₀ cue₀ at n x left₀ dist site cue left = Gap dist₀ site₀ cue₀ at n x dist site cue left

@@ -1,9 +1,9 @@
 use mathlib.Core.Path.{sym, _∙_}
 use native.Mathlib.Omega.{arith}
 use borrow.Author.Needs.{needs}
-use Rattle.places.proofs.Full.{put-room, first-ready, put-none, put-full}
-use Rattle.places.proofs.list.insert_place.Statement.{statement}
-use Rattle.places.proofs.list.insert_place.Tie as tie
+use Rattle.list.proofs.Full.{put-room, first-ready, put-none, put-full}
+use Rattle.list.proofs.insert_place.Statement.{statement}
+use Rattle.list.proofs.insert_place.Tie as tie
 
 put-place-requires : tie.Need-put-place-requires
 put-place-requires c κs =

@@ -12,9 +12,9 @@ use Rattle.codec.proofs.Tabulate.{getD-tabulate}
 use Rattle.search.proofs.Cut.{inserts}
 use Rattle.search.proofs.Places.{rank-order}
 use Rattle.search.proofs.Sort.{insert-length}
-use Rattle.places.specs.Places.{placeAt, places, PutIn, Adds, Ready, lastAhead}
-use Rattle.places.proofs.Insertion.{cut-room, cut-stays, cut-falls}
-use Rattle.places.proofs.Laying.{places-length, places-last, places-sorted, laid-self}
+use Rattle.list.specs.List.{placeAt, places, PutIn, Adds, Ready, lastAhead}
+use Rattle.list.proofs.Insertion.{cut-room, cut-stays, cut-falls}
+use Rattle.list.proofs.Laying.{places-length, places-last, places-sorted, laid-self}
 
 -- the places of a full list without the last
 pub first-ready : {ds ss cs : List ℕ} {at used k : ℕ} → Ready ds ss cs at used k → k ≤ used

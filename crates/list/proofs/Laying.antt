@@ -14,7 +14,7 @@ use Rattle.codec.proofs.Over.{length-over, over-nil, over-cons, getD-before, ge
 use Rattle.codec.proofs.Tabulate.{length-tabulate, getD-tabulate, tabulate-last, tabulate-same, tabulate-take}
 use Rattle.search.proofs.Cut.{sorted-take}
 use Rattle.search.proofs.Sort.{Sorted}
-use Rattle.places.specs.Places.{placeAt, places, dists, sites, cues, Laid}
+use Rattle.list.specs.List.{placeAt, places, dists, sites, cues, Laid}
 
 -- ---- one slice, which holds what `show` gives of each place
 module _ (show : Place → ℕ) where

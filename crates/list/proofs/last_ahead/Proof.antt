@@ -2,9 +2,9 @@ use mathlib.Core.Path.{_≡_, _∙_}
 use native.Mathlib.Omega.{arith}
 use borrow.Author.Needs.{needs}
 use Rattle.search.specs.Run.{aheadOf}
-use Rattle.places.proofs.Full.{not-full, full-last}
-use Rattle.places.proofs.list.last_ahead.Statement.{statement}
-use Rattle.places.proofs.list.last_ahead.Tie as tie
+use Rattle.list.proofs.Full.{not-full, full-last}
+use Rattle.list.proofs.last_ahead.Statement.{statement}
+use Rattle.list.proofs.last_ahead.Tie as tie
 
 returns : tie.Need-returns
 returns c =

@@ -15,9 +15,9 @@ use Rattle.search.specs.declared.Place.{Place}
 use Rattle.codec.proofs.Over.{set-over}
 use Rattle.search.proofs.Places.{rank-order}
 use Rattle.search.proofs.Sort.{Sorted, insert-length}
-use Rattle.places.specs.Places.{placeAt, places, GapLeft, Ready}
-use Rattle.places.proofs.Insertion.{insert-back, insert-none, insert-end}
-use Rattle.places.proofs.Laying.{shown-last, places-length, places-last, places-same, places-sorted, laid-self, Same, same-refl, same-next, same-laid}
+use Rattle.list.specs.List.{placeAt, places, GapLeft, Ready}
+use Rattle.list.proofs.Insertion.{insert-back, insert-none, insert-end}
+use Rattle.list.proofs.Laying.{shown-last, places-length, places-last, places-same, places-sorted, laid-self, Same, same-refl, same-next, same-laid}
 
 module _ (ds ss cs : List ℕ) (at : ℕ) where
   -- a place stored at index i does not show in what lies below

@@ -1,9 +1,9 @@
-// A sorted list of at most k places from an index of the three slices on.
+// The list of a stop: at most k places, sorted, from an index of the three slices on.
 ghost use mathlib.Core.Path.{_≡_};
 ghost use mathlib.Core.List.{List, [], _∷_};
 ghost use Prim.Native.Nat.{ℕ, _+_, _<_, _≤_};
 ghost use lib.ListN.{length};
-ghost use Rattle.places.specs.Places.{placeAt, places, PutIn, GapLeft, Ready, Adds, lastAhead};
+ghost use Rattle.list.specs.List.{placeAt, places, PutIn, GapLeft, Ready, Adds, lastAhead};
 use search::Place;
 use search::ahead_of_key;
 use search::ranks_before;
