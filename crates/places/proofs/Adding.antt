@@ -12,13 +12,12 @@ use Rattle.base.specs.Refusal.{accepted}
 use Rattle.blocks.specs.Block.{blockAt}
 use Rattle.blocks.specs.Directory.{directoryBlocks, directory, boxAt, countAt}
 use Rattle.codec.specs.Tabulate.{tabulate}
-use Rattle.geometry.specs.Distance.{D}
 use Rattle.list.specs.List.{placeAt, places, Laid, Adds, Ready}
 use Rattle.plan.specs.FilePlan.{planOf, townOf}
 use Rattle.search.specs.Plan.{slots, ranks}
 use Rattle.search.specs.Run.{tilePlaces, rank, listing}
 use Rattle.search.specs.declared.Place.{Place}
-use Rattle.tiles.specs.Tile.{sitePoint, siteIn, tilePosition, openTile, siteAt, sitesAt}
+use Rattle.tiles.specs.Tile.{siteIn, tilePosition, openTile, siteAt, sitesAt}
 use Rattle.tiles.specs.declared.tile.Site.{Site}
 use Rattle.blocks.proofs.BlockLaws.{length-block}
 use Rattle.blocks.proofs.DirectoryLaws.{directory-good, block-fits, box-valid, count-small}
@@ -119,16 +118,6 @@ module _ {g : ℕ → Site} {n first : ℕ} {p : List ℤ} {ds₀ ss₀ cs₀ : 
   adding-done h =
       let e = sym (sites-done p k g first slot n (places ds ss cs at m) h) ∙ a .rest in
       record { number = sym (places-length ds ss cs at m) ∙ ap length e; laid = rw e at (a .laid) }
-
--- one site more that is farther than the bound
-pub farther-next : (s : List ℕ) (p : List ℤ) (bound from i : ℕ) → Farther s p bound from i → bound < D p (sitePoint (siteIn s i))
-    → Farther s p bound from (i + 1)
-farther-next s p bound from i far here slot l u =
-    by-test (ltb slot i)
-    (λ t. far slot l (ltb-true slot i t))
-    (λ t.
-    let e : slot ≡ i = omega (arith, ltb-false slot i t) in
-    rw e here)
 
 -- sites farther away than the last place of a full list leave it as it is
 module _ (s : List ℕ) {n first : ℕ} {p : List ℤ} {ds₀ ss₀ cs₀ : List ℕ} {at used k : ℕ} {ds ss cs : List ℕ} {m slot : ℕ}

@@ -1,5 +1,5 @@
 -- Closer at two axes, from the tables of the corners. Assumes nothing.
-use Prim.Native.Nat.{ℕ, _+_, _<_, _≤_}
+use Prim.Native.Nat.{ℕ, _<_, _≤_}
 use mathlib.Core.Bool.{true, false, _&&_}
 use mathlib.Core.List.{List, [], _∷_, map}
 use mathlib.Core.Path.{_≡_, refl, ap, sym, _∙_}
@@ -8,7 +8,7 @@ use lib.Dec.{ltb}
 use lib.IntN.{ℤ}
 use lib.ListN.{getD, length}
 use lib.Signed.{leZ}
-use borrow.Author.Tests.{le-ltb, ltb-true, ltb-false}
+use borrow.Author.Tests.{le-ltb}
 use Rattle.base.specs.Refusal.{accepted}
 use Rattle.blocks.specs.Directory.{directory, boxAt, entryBox}
 use Rattle.codec.specs.Over.{over}
@@ -16,12 +16,12 @@ use Rattle.geometry.specs.Box.{lo, hi, withinLimits, validAxis, validBox, valid
 use Rattle.geometry.specs.Distance.{minDist, maxDist}
 use Rattle.margin.specs.Margin.{closer}
 use Rattle.search.specs.Lists.{range}
-use Rattle.base.proofs.Tests.{and-both, by-test}
+use Rattle.base.proofs.Tests.{and-both}
 use Rattle.blocks.proofs.Theorems.{entry-of-accepted}
 use Rattle.codec.proofs.Over.{length-over}
 use Rattle.margin.proofs.Corners.{atCorners, closer-corners}
 use Rattle.geometry.proofs.Two.{two, axis-x, axis-y, valid-axes-2}
-use Rattle.prune.specs.Corners.{cornerA, cornerB, cornerC, cornerD, FarTable, FarTables, NearOf, NotBelow}
+use Rattle.prune.specs.Corners.{cornerA, cornerB, cornerC, cornerD, FarTable, FarTables, NearOf}
 use Rattle.prune.specs.declared.corners.Nears.{Nears}
 use Rattle.prune.proofs.Filling.{filled-at}
 
@@ -79,15 +79,6 @@ pub not-closer : (f : List ℕ) (tiles : ℕ) (o b : List (List ℤ)) (fa fb fc 
     n .a ≤ getD fa e 0 → closer o (boxAt f e) b ≡ false
 not-closer f tiles o b fa fb fc fd n e d h vo vb po pb t m l =
     sym (table-closer f tiles o b fa fb fc fd n e d h vo vb po pb t m) ∙ rw (le-ltb (getD fa e 0) (n .a) l)
-
--- one tile more that is not below
-pub not-below-next : (far : List ℕ) (near from e : ℕ) → NotBelow far near from e → near ≤ getD far e 0 → NotBelow far near from (e + 1)
-not-below-next far near from e before here i l u =
-    by-test (ltb i e)
-    (λ t. before i l (ltb-true i e t))
-    (λ t.
-    let same : i ≡ e = omega (arith, ltb-false i e t) in
-    rw same here)
 
 -- a table as filling leaves it
 pub far-table : (f : List ℕ) (tiles : ℕ) (p : List ℤ) (d : List ℕ) {d′ : List ℕ} → tiles ≤ length d →

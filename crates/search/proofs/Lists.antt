@@ -5,11 +5,21 @@ use mathlib.Core.List.{List, [], _∷_, _++_, List·Memᴰ, List·Memᴰ·head, 
 use mathlib.Core.Logic.{_⊎_, inl, inr, _≢_}
 use mathlib.Core.Path.{_≡_, refl, sym, ap, _∙_, subst}
 use native.Mathlib.Omega.{arith}
-use lib.Dec.{eqb}
+use lib.Dec.{eqb, ltb}
 use lib.ListN.{length, take}
-use borrow.Author.Tests.{eqb-true, eqb-false, eq-eqb}
+use borrow.Author.Tests.{ltb-true, ltb-false, eqb-true, eqb-false, eq-eqb}
 use Rattle.base.proofs.Tests.{clash, by-test}
 use Rattle.search.specs.Lists.{range, count, total, filter, member, All, Distinct}
+
+-- ---- a property of every index: from one to before another, and of that one
+
+pub up-to-next : (P : ℕ → Type 0) (from i : ℕ) → ((j : ℕ) → from ≤ j → j < i → P j) → P i → (j : ℕ) → from ≤ j → j < i + 1 → P j
+up-to-next P from i before here j l u =
+    by-test (ltb j i)
+    (λ t. before j l (ltb-true j i t))
+    (λ t.
+    let e : j ≡ i = omega (arith, ltb-false j i t) in
+    rw e here)
 
 -- ---- a property of every element
 

@@ -3,6 +3,8 @@ use mathlib.Core.Path.{_≡_, _∙_}
 use native.Mathlib.Omega.{arith}
 use lib.IntN.{pos, _-ℤ_}
 use mir.Facts.{toZ-ofZ}
+use mir.Syntax.{w32}
+use mir.Val.{toZ, ofZ}
 use borrow.Author.Needs.{sfits-of, needs}
 use Rattle.geometry.specs.Box.{lo, hi, withinLimits}
 use Rattle.geometry.proofs.OneAxis.{Axis, axis, low-on, high-on, valid-on}
@@ -28,12 +30,16 @@ low s = valid-on (s .pre .0) (low-on (over s))
 high : (s : tie.Start) → withinLimits (hi (s .args .t1)) ≡ true
 high s = valid-on (s .pre .0) (high-on (over s))
 
+-- and as the code passes them on
+passed : (s : tie.Start) → (withinLimits (toZ w32 (ofZ w32 (lo (s .args .t1)))) ≡ true) × (withinLimits (toZ w32 (ofZ w32 (hi (s .args .t1)))) ≡ true)
+passed s = (rw (toZ-ofZ (limited-fits (over s .low))) (low s), rw (toZ-ofZ (limited-fits (over s .high))) (high s))
+
 -- the squares from the low end
 max-square-requires : tie.Need-max-square-requires
-max-square-requires c κs = let s = c .before .before in (s .pre .1 .0, rw (toZ-ofZ (limited-fits (over s .low))) (low s))
+max-square-requires c κs = let s = c .before .before in (s .pre .1 .0, search (passed s .0, passed s .1))
 
 min-square-requires : tie.Need-min-square-requires
-min-square-requires c κs = let s = c .before .before .before in (s .pre .1 .1, rw (toZ-ofZ (limited-fits (over s .low))) (low s))
+min-square-requires c κs = let s = c .before .before .before in (s .pre .1 .1, search (passed s .0, passed s .1))
 
 squares-low : (c : tie.After-min-square) →
     (c .before .max-square .result ≡ far (c .before .before .before .before .args .e) (lo (c .before .before .before .before .args .t1))) × (c .min-square .result ≡ near (c .before .before .before .before .args .b) (lo (c .before .before .before .before .args .t1)))
@@ -50,10 +56,10 @@ difference-requires c κs =
 
 -- the squares from the high end
 max-square-requires-2 : tie.Need-max-square-requires-2
-max-square-requires-2 c κs = let s = c .before .before .before .before .before in (s .pre .1 .0, rw (toZ-ofZ (limited-fits (over s .high))) (high s))
+max-square-requires-2 c κs = let s = c .before .before .before .before .before in (s .pre .1 .0, search (passed s .0, passed s .1))
 
 min-square-requires-2 : tie.Need-min-square-requires-2
-min-square-requires-2 c κs = let s = c .before .before .before .before .before .before in (s .pre .1 .1, rw (toZ-ofZ (limited-fits (over s .high))) (high s))
+min-square-requires-2 c κs = let s = c .before .before .before .before .before .before in (s .pre .1 .1, search (passed s .0, passed s .1))
 
 squares-high : (c : tie.After-min-square2) →
     (c .before .max-square2 .result ≡ far (c .before .before .before .before .before .before .before .args .e) (hi (c .before .before .before .before .before .before .before .args .t1))) × (c .min-square2 .result ≡ near (c .before .before .before .before .before .before .before .args .b) (hi (c .before .before .before .before .before .before .before .args .t1)))

@@ -1,12 +1,12 @@
-use Prim.Native.Nat.{_-_, _≤_}
+use Prim.Native.Nat.{_-_, _<_, _≤_}
 use mathlib.Core.Path.{_≡_, ap}
 use native.Mathlib.Omega.{arith}
 use borrow.Author.Needs.{needs}
 use Rattle.geometry.specs.Distance.{D}
 use Rattle.search.specs.declared.Place.{Place}
 use Rattle.tiles.specs.Tile.{sitePoint, siteIn}
+use Rattle.search.proofs.Lists.{up-to-next}
 use Rattle.places.specs.Places.{Farther}
-use Rattle.places.proofs.Adding.{farther-next}
 use Rattle.places.proofs.tile.next_within.Statement.{statement}
 use Rattle.places.proofs.tile.next_within.Tie as tie
 
@@ -43,7 +43,7 @@ loop-again c =
     let d : x .result .dist ≡ D (s .args .p) (sitePoint (siteIn (s .args .s .now) (l .i))) = ap (λ (z : Place). z .dist) (x .ensures) in (
       omega (arith, l .inv .0),
       omega arith,
-      farther-next (s .args .s .now) (s .args .p) (s .args .bound) (s .args .from) (l .i) (l .inv .2) (omega (arith, d)),
+      up-to-next (λ slot. s .args .bound < D (s .args .p) (sitePoint (siteIn (s .args .s .now) slot))) (s .args .from) (l .i) (l .inv .2) (omega (arith, d)),
     )
 
 returns-2 : tie.Need-returns-2 Inv-loop μ-loop

@@ -1,8 +1,9 @@
 use Prim.Native.Nat.{_-_, _≤_}
 use native.Mathlib.Omega.{arith}
+use lib.ListN.{getD}
 use borrow.Author.Needs.{needs}
+use Rattle.search.proofs.Lists.{up-to-next}
 use Rattle.prune.specs.Corners.{NotBelow}
-use Rattle.prune.proofs.Closer.{not-below-next}
 use Rattle.prune.proofs.corners.next_below.Statement.{statement}
 use Rattle.prune.proofs.corners.next_below.Tie as tie
 
@@ -35,7 +36,7 @@ loop-again : tie.Need-loop-again Inv-loop μ-loop
 loop-again c =
     let s = c .before .before .before .before .args in
     let l = c .before .before .before .loop in
-    (omega (arith, l .inv .0), omega arith, not-below-next (s .far .now) (s .near) (s .from) (l .e) (l .inv .2) (c .if1 .left))
+    (omega (arith, l .inv .0), omega arith, up-to-next (λ i. s .near ≤ getD (s .far .now) i 0) (s .from) (l .e) (l .inv .2) (c .if1 .left))
 
 returns-2 : tie.Need-returns-2 Inv-loop μ-loop
 returns-2 c = c .before .loop .inv
