@@ -6,11 +6,12 @@ use mathlib.Core.Path.{_≡_, refl, ap, _∙_}
 use native.Mathlib.Omega.{arith}
 use lib.ListN.{length, take, length-append, length-take}
 use lib.Seq.{take-all, take-at}
+use Rattle.search.specs.Inner.Cut.{Sorted, inserts}
 use Rattle.search.specs.Order.{insert}
 use Rattle.base.proofs.Tests.{clash, by-test}
-use Rattle.search.proofs.Cut.{inserts, sorted-take}
+use Rattle.search.proofs.Cut.{sorted-take}
 use Rattle.search.proofs.Lists.{all-right}
-use Rattle.search.proofs.Sort.{Order, Sorted, insert-length, insert-sorted}
+use Rattle.search.proofs.Sort.{Order, insert-length, insert-sorted}
 
 module _ {A : Type 0} (lt : A → A → Bool) (x : A) where
   -- past a last element that is not ahead of x

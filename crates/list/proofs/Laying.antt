@@ -1,4 +1,12 @@
--- Lists of places laid over three slices: what is read back, what stays, and how one follows another. Assumes nothing.
+-- Lists of places laid over three slices: what is read back, what stays, and how one follows another.
+--
+--   places-*         the places from an index on
+--   lay-self         what stands there, laid again
+--   lay-lengths      no slice gets longer or shorter
+--   lay-place(s)     what was laid is read back
+--   lay-before, lay-after   what stands elsewhere stays
+--   lay-nil, lay-next, lay-under   nothing; one list right after another; one that covers another
+--   put-last, put-lay   a place stored right behind a list
 use Prim.Native.Nat.{ℕ, zero, suc, _+_, _<_, _≤_}
 use mathlib.Core.List.{List, [], _∷_, _++_, map, map-append}
 use mathlib.Core.Path.{_≡_, refl, sym, ap, _∙_}
@@ -8,13 +16,15 @@ use lib.ListN.{length, getD, set, length-map, List·getD-map}
 use lib.Seq.{set-getD, ext-getD}
 use Rattle.codec.specs.Over.{over}
 use Rattle.codec.specs.Tabulate.{tabulate}
+use Rattle.search.specs.Inner.Cut.{Sorted}
 use Rattle.search.specs.Run.{noPlace, rank}
 use Rattle.search.specs.declared.Place.{Place}
-use Rattle.codec.proofs.Over.{length-over, over-nil, over-cons, getD-before, getD-run, getD-after, over-next, over-under, over-last}
+use Rattle.codec.proofs.Over.{length-over, over-nil, over-cons, getD-before, getD-run, getD-after, over-next, over-under}
+use Rattle.codec.proofs.Over.{over-last, set-over}
 use Rattle.codec.proofs.Tabulate.{length-tabulate, getD-tabulate, tabulate-last, tabulate-same, tabulate-take}
 use Rattle.search.proofs.Cut.{sorted-take}
-use Rattle.search.proofs.Sort.{Sorted}
-use Rattle.list.specs.List.{placeAt, places, dists, sites, cues, Laid}
+use Rattle.list.specs.Inner.Keeping.{places, put, Long}
+use Rattle.list.specs.Lists.{Lists, lists, placeAt, dists, sites, cues, lay}
 
 -- ---- one slice, which holds what `show` gives of each place
 module _ (show : Place → ℕ) where
@@ -62,130 +72,114 @@ module _ (show : Place → ℕ) where
       let m = length-map a show in
       sym (over-last l i n (show y) (map show a) (omega arith)) ∙ ap (over l i) (sym (map-append show a (y ∷ [])))
 
+-- three slices alike
+same : {d s c d′ s′ c′ : List ℕ} → d ≡ d′ → s ≡ s′ → c ≡ c′ → lists d s c ≡ lists d′ s′ c′
+same e f g = rw (e, f, g)
+
 -- ---- the places
 
-pub places-length : (ds ss cs : List ℕ) (at n : ℕ) → length (places ds ss cs at n) ≡ n
+pub places-length : (o : Lists) (at n : ℕ) → length (places o at n) ≡ n
 unfolding places
-places-length ds ss cs at n = length-tabulate (placeAt ds ss cs) at n
+places-length o at n = length-tabulate (placeAt o) at n
 
-pub places-last : (ds ss cs : List ℕ) (at n : ℕ)
-    → places ds ss cs at (suc n) ≡ places ds ss cs at n ++ placeAt ds ss cs (at + n) ∷ []
+pub places-last : (o : Lists) (at n : ℕ) → places o at (suc n) ≡ places o at n ++ placeAt o (at + n) ∷ []
 unfolding places
-places-last ds ss cs at n = tabulate-last (placeAt ds ss cs) at n
+places-last o at n = tabulate-last (placeAt o) at n
 
-pub places-same : (ds ss cs ds′ ss′ cs′ : List ℕ) (at n : ℕ)
-    → ((i : ℕ) → at ≤ i → i < at + n → placeAt ds′ ss′ cs′ i ≡ placeAt ds ss cs i)
-    → places ds′ ss′ cs′ at n ≡ places ds ss cs at n
+pub places-same : (o o′ : Lists) (at n : ℕ) → ((i : ℕ) → at ≤ i → i < at + n → placeAt o′ i ≡ placeAt o i)
+    → places o′ at n ≡ places o at n
 unfolding places
-places-same ds ss cs ds′ ss′ cs′ at n e = tabulate-same (placeAt ds′ ss′ cs′) (placeAt ds ss cs) at n (λ i h. e (at + i) (omega arith) (omega arith))
+places-same o o′ at n e = tabulate-same (placeAt o′) (placeAt o) at n (λ i h. e (at + i) (omega arith) (omega arith))
 
 -- the first of sorted places are sorted
-pub places-sorted : (ds ss cs : List ℕ) (at n m : ℕ) → m ≤ n → Sorted rank (places ds ss cs at n)
-    → Sorted rank (places ds ss cs at m)
+pub places-sorted : (o : Lists) (at n m : ℕ) → m ≤ n → Sorted rank (places o at n) → Sorted rank (places o at m)
 unfolding places
-places-sorted ds ss cs at n m h s =
-    rw (tabulate-take (placeAt ds ss cs) at n m h) at (sorted-take rank m (tabulate (placeAt ds ss cs) at n) s)
+places-sorted o at n m h s = rw (tabulate-take (placeAt o) at n m h) at (sorted-take rank m (tabulate (placeAt o) at n) s)
 
--- ---- laid
+-- ---- a list laid
 
-pub laid-self : (ds ss cs : List ℕ) (at n : ℕ) → Laid ds ss cs at (places ds ss cs at n) ds ss cs
-unfolding places
-laid-self ds ss cs at n = record {
-  d = over-self (λ a. a .dist) (placeAt ds ss cs) ds (λ i. refl) at n;
-  s = over-self (λ a. a .site) (placeAt ds ss cs) ss (λ i. refl) at n;
-  c = over-self (λ a. a .cue) (placeAt ds ss cs) cs (λ i. refl) at n;
-}
+pub lay-self : (o : Lists) (at n : ℕ) → lay o at (places o at n) ≡ o
+unfolding lay places
+lay-self o at n = sym (same
+    (over-self (λ a. a .dist) (placeAt o) (o .dist) (λ i. refl) at n)
+    (over-self (λ a. a .site) (placeAt o) (o .site) (λ i. refl) at n)
+    (over-self (λ a. a .cue) (placeAt o) (o .cue) (λ i. refl) at n))
 
--- three slices of at least m elements
-abbrev pub Long : List ℕ → List ℕ → List ℕ → ℕ → Type 0
-Long ds ss cs m = (m ≤ length ds) × ((m ≤ length ss) × (m ≤ length cs))
+pub lay-nil : (o : Lists) (at : ℕ) → lay o at [] ≡ o
+unfolding lay
+lay-nil o at = same (over-nil (o .dist) at) (over-nil (o .site) at) (over-nil (o .cue) at)
 
-module _ {ds ss cs : List ℕ} {at : ℕ} {l : List Place} {ds′ ss′ cs′ : List ℕ} (p : Laid ds ss cs at l ds′ ss′ cs′) where
-  pub laid-lengths : (length ds′ ≡ length ds) × ((length ss′ ≡ length ss) × (length cs′ ≡ length cs))
-  laid-lengths = (
-    ap length (p .d) ∙ length-over ds at (dists l),
-    (ap length (p .s) ∙ length-over ss at (sites l), ap length (p .c) ∙ length-over cs at (cues l)),
+pub lay-next : (o : Lists) (at : ℕ) (l m : List Place) → lay (lay o at l) (at + length l) m ≡ lay o at (l ++ m)
+unfolding lay
+lay-next o at l m = same
+    (shown-next (λ a. a .dist) (o .dist) at l m)
+    (shown-next (λ a. a .site) (o .site) at l m)
+    (shown-next (λ a. a .cue) (o .cue) at l m)
+
+pub lay-under : (o : Lists) (i j : ℕ) (a b : List Place) → j ≤ i → i + length a ≤ j + length b
+    → lay (lay o i a) j b ≡ lay o j b
+unfolding lay
+lay-under o i j a b h g = same
+    (shown-under (λ a. a .dist) (o .dist) i j a b h g)
+    (shown-under (λ a. a .site) (o .site) i j a b h g)
+    (shown-under (λ a. a .cue) (o .cue) i j a b h g)
+
+-- a list with one place more: that place stored first, or last
+pub put-last : (o : Lists) (i n : ℕ) (a : List Place) (y : Place) → n ≡ i + length a → lay (put o n y) i a ≡ lay o i (a ++ y ∷ [])
+unfolding lay
+put-last o i n a y e = same
+    (shown-last (λ p. p .dist) (o .dist) i n a y e)
+    (shown-last (λ p. p .site) (o .site) i n a y e)
+    (shown-last (λ p. p .cue) (o .cue) i n a y e)
+
+pub put-lay : (o : Lists) (i n : ℕ) (a : List Place) (y : Place) → n ≡ i + length a → put (lay o i a) n y ≡ lay o i (a ++ y ∷ [])
+unfolding lay
+put-lay o i n a y e =
+    same (later (λ p. p .dist) (o .dist)) (later (λ p. p .site) (o .site)) (later (λ p. p .cue) (o .cue))
+    ∙ rw (← (put-last o i n a y e))
+  where
+    later : (show : Place → ℕ) (l : List ℕ) → set (over l i (map show a)) n (show y) ≡ over (set l n (show y)) i (map show a)
+    later show l = let m = length-map a show in set-over l i n (show y) (map show a) (omega arith)
+
+module _ (o : Lists) (at : ℕ) (l : List Place) where
+  pub lay-lengths : (length (lay o at l .dist) ≡ length (o .dist))
+      × ((length (lay o at l .site) ≡ length (o .site)) × (length (lay o at l .cue) ≡ length (o .cue)))
+  unfolding lay
+  lay-lengths = (
+    length-over (o .dist) at (dists l),
+    (length-over (o .site) at (sites l), length-over (o .cue) at (cues l)),
   )
 
-  -- what was laid is read back
-  pub laid-place : Long ds ss cs (at + length l) → (i : ℕ) → i < length l → placeAt ds′ ss′ cs′ (at + i) ≡ getD l i noPlace
-  laid-place g i h =
-      let d = over-shown (λ a. a .dist) refl ds at l i h (g .0) in
-      let s = over-shown (λ a. a .site) refl ss at l i h (g .1 .0) in
-      let c = over-shown (λ a. a .cue) refl cs at l i h (g .1 .1) in
-      rw (p .d, p .s, p .c, d, s, c)
+  pub lay-long : (m : ℕ) → Long o m → Long (lay o at l) m
+  lay-long m h = let n = lay-lengths in (omega arith, (omega arith, omega arith))
 
-  pub laid-places : Long ds ss cs (at + length l) → places ds′ ss′ cs′ at (length l) ≡ l
+  pub lay-place : Long o (at + length l) → (i : ℕ) → i < length l → placeAt (lay o at l) (at + i) ≡ getD l i noPlace
+  unfolding lay
+  lay-place g i h = rw (
+    over-shown (λ a. a .dist) refl (o .dist) at l i h (g .0),
+    over-shown (λ a. a .site) refl (o .site) at l i h (g .1 .0),
+    over-shown (λ a. a .cue) refl (o .cue) at l i h (g .1 .1),
+  )
+
+  pub lay-places : Long o (at + length l) → places (lay o at l) at (length l) ≡ l
   unfolding places
-  laid-places g =
-      let n = length-tabulate (placeAt ds′ ss′ cs′) at (length l) in
-      ext-getD noPlace (tabulate (placeAt ds′ ss′ cs′) at (length l)) l n
-      (λ i h. getD-tabulate (placeAt ds′ ss′ cs′) noPlace at (length l) i (omega arith) ∙ laid-place g i (omega arith))
+  lay-places g =
+      let n = length-tabulate (placeAt (lay o at l)) at (length l) in
+      ext-getD noPlace (tabulate (placeAt (lay o at l)) at (length l)) l n
+      (λ i h. getD-tabulate (placeAt (lay o at l)) noPlace at (length l) i (omega arith) ∙ lay-place g i (omega arith))
 
-  -- what stands elsewhere stays
-  pub laid-before : (i : ℕ) → i < at → placeAt ds′ ss′ cs′ i ≡ placeAt ds ss cs i
-  laid-before i h =
-      let d = shown-before (λ a. a .dist) ds at l i h in
-      let s = shown-before (λ a. a .site) ss at l i h in
-      let c = shown-before (λ a. a .cue) cs at l i h in
-      rw (p .d, p .s, p .c, d, s, c)
+  pub lay-before : (i : ℕ) → i < at → placeAt (lay o at l) i ≡ placeAt o i
+  unfolding lay
+  lay-before i h = rw (
+    shown-before (λ a. a .dist) (o .dist) at l i h,
+    shown-before (λ a. a .site) (o .site) at l i h,
+    shown-before (λ a. a .cue) (o .cue) at l i h,
+  )
 
-  pub laid-after : (i : ℕ) → at + length l ≤ i → placeAt ds′ ss′ cs′ i ≡ placeAt ds ss cs i
-  laid-after i h =
-      let d = shown-after (λ a. a .dist) ds at l i h in
-      let s = shown-after (λ a. a .site) ss at l i h in
-      let c = shown-after (λ a. a .cue) cs at l i h in
-      rw (p .d, p .s, p .c, d, s, c)
-
--- ---- the rest of the work, l′ over the present slices, is the whole work, l over those at the start
-pub record Same (ds ss cs : List ℕ) (at : ℕ) (l : List Place) (ds′ ss′ cs′ : List ℕ) (at′ : ℕ) (l′ : List Place) : Type 0 where
-  pub d : over ds′ at′ (dists l′) ≡ over ds at (dists l)
-  pub s : over ss′ at′ (sites l′) ≡ over ss at (sites l)
-  pub c : over cs′ at′ (cues l′) ≡ over cs at (cues l)
-
-pub same-refl : (ds ss cs : List ℕ) (at : ℕ) (l : List Place) → Same ds ss cs at l ds ss cs at l
-same-refl ds ss cs at l = record { d = refl; s = refl; c = refl }
-
-module _ {ds ss cs : List ℕ} {at : ℕ} {l : List Place} {ds′ ss′ cs′ : List ℕ} {at′ : ℕ} where
-  module _ {l′ : List Place} (p : Same ds ss cs at l ds′ ss′ cs′ at′ l′) {ds″ ss″ cs″ : List ℕ} where
-    pub same-next : {at″ : ℕ} {l″ : List Place} → Same ds′ ss′ cs′ at′ l′ ds″ ss″ cs″ at″ l″
-        → Same ds ss cs at l ds″ ss″ cs″ at″ l″
-    same-next q = record { d = q .d ∙ p .d; s = q .s ∙ p .s; c = q .c ∙ p .c }
-
-    pub same-laid : Laid ds′ ss′ cs′ at′ l′ ds″ ss″ cs″ → Laid ds ss cs at l ds″ ss″ cs″
-    same-laid q = record { d = q .d ∙ p .d; s = q .s ∙ p .s; c = q .c ∙ p .c }
-
-  -- nothing is left to do
-  pub same-done : Same ds ss cs at l ds′ ss′ cs′ at′ [] → Laid ds ss cs at l ds′ ss′ cs′
-  same-done p = record {
-    d = sym (over-nil ds′ at′) ∙ p .d;
-    s = sym (over-nil ss′ at′) ∙ p .s;
-    c = sym (over-nil cs′ at′) ∙ p .c;
-  }
-
-module _ {ds ss cs : List ℕ} {at : ℕ} {l : List Place} {ds′ ss′ cs′ : List ℕ} (p : Laid ds ss cs at l ds′ ss′ cs′)
-    (m : List Place) where
-  -- the first part is done
-  pub same-append : Same ds ss cs at (l ++ m) ds′ ss′ cs′ (at + length l) m
-  same-append = record {
-    d = rw (p .d) (shown-next (λ a. a .dist) ds at l m);
-    s = rw (p .s) (shown-next (λ a. a .site) ss at l m);
-    c = rw (p .c) (shown-next (λ a. a .cue) cs at l m);
-  }
-
-  -- what was laid is covered
-  pub same-under : (j : ℕ) → j ≤ at → at + length l ≤ j + length m → Same ds ss cs j m ds′ ss′ cs′ j m
-  same-under j h g = record {
-    d = rw (p .d) (shown-under (λ a. a .dist) ds at j l m h g);
-    s = rw (p .s) (shown-under (λ a. a .site) ss at j l m h g);
-    c = rw (p .c) (shown-under (λ a. a .cue) cs at j l m h g);
-  }
-
-  module _ {ds″ ss″ cs″ : List ℕ} where
-    -- a list that covers the one before, and a list right after it
-    pub laid-next : {j : ℕ} → Laid ds′ ss′ cs′ j m ds″ ss″ cs″ → j ≤ at → at + length l ≤ j + length m
-        → Laid ds ss cs j m ds″ ss″ cs″
-    laid-next {j} q h g = same-laid (same-under j h g) q
-
-    pub laid-append : Laid ds′ ss′ cs′ (at + length l) m ds″ ss″ cs″ → Laid ds ss cs at (l ++ m) ds″ ss″ cs″
-    laid-append q = same-laid same-append q
+  pub lay-after : (i : ℕ) → at + length l ≤ i → placeAt (lay o at l) i ≡ placeAt o i
+  unfolding lay
+  lay-after i h = rw (
+    shown-after (λ a. a .dist) (o .dist) at l i h,
+    shown-after (λ a. a .site) (o .site) at l i h,
+    shown-after (λ a. a .cue) (o .cue) at l i h,
+  )

@@ -2,4 +2,6 @@ pub mod Insertion
 pub mod Laying
 pub mod Gap
 pub mod Full
+pub mod Clearing
+pub mod Padding
 pub mod Theorems

@@ -1,9 +1,13 @@
 // The list of a stop: at most k places, sorted, from an index of the three slices on.
+pub mod clear;
+
 ghost use mathlib.Core.Path.{_≡_};
 ghost use mathlib.Core.List.{List, [], _∷_};
 ghost use Prim.Native.Nat.{ℕ, _+_, _<_, _≤_};
 ghost use lib.ListN.{length};
-ghost use Rattle.list.specs.List.{placeAt, places, PutIn, GapLeft, Ready, Adds, lastAhead};
+ghost use Rattle.search.specs.Inner.Cut.{lastAhead};
+ghost use Rattle.list.specs.Lists.{lists, placeAt};
+ghost use Rattle.list.specs.Inner.Keeping.{places, put, withPlace, Ready, Adds};
 use search::Place;
 use search::ahead_of_key;
 use search::ranks_before;
@@ -11,7 +15,7 @@ use search::ranks_before;
 // The place at index i.
 pub fn place_at(dist: &[u64], site: &[u32], cue: &[u32], i: usize) -> Place
     requires { ⌜ (i < length (now dist)) × (i < length (now site)) × (i < length (now cue)) ⌝ }
-    ensures { λ r. ⌜ r ≡ placeAt (now (dist .entry)) (now (site .entry)) (now (cue .entry)) i ⌝ }
+    ensures { λ r. ⌜ r ≡ placeAt (lists (now (dist .entry)) (now (site .entry)) (now (cue .entry))) i ⌝ }
 {
     Place {
         dist: dist[i],
@@ -29,10 +33,10 @@ fn make_gap(
     n: usize,
     x: Place,
 ) -> usize
-    requires { ⌜ Ready (now dist) (now site) (now cue) at n (n + 1) ⌝ }
+    requires { ⌜ Ready (lists (now dist) (now site) (now cue)) at n (n + 1) ⌝ }
     ensures gap { λ r. ⌜ r ≤ n ⌝ }
-    ensures filled { λ r. ⌜ GapLeft (now (dist .entry)) (now (site .entry)) (now (cue .entry)) at n x r
-        (now (dist .exit)) (now (site .exit)) (now (cue .exit)) ⌝ }
+    ensures filled { λ r. ⌜ put (lists (now (dist .exit)) (now (site .exit)) (now (cue .exit))) (at + r) x
+        ≡ withPlace (lists (now (dist .entry)) (now (site .entry)) (now (cue .entry))) at n x ⌝ }
 {
     let mut left = n;
     while 0 < left {
@@ -51,9 +55,9 @@ fn make_gap(
 
 // Puts x into n sorted places from index at on, which become n + 1.
 fn put_place(dist: &mut [u64], site: &mut [u32], cue: &mut [u32], at: usize, n: usize, x: Place)
-    requires { ⌜ Ready (now dist) (now site) (now cue) at n (n + 1) ⌝ }
-    ensures { λ _. ⌜ PutIn (now (dist .entry)) (now (site .entry)) (now (cue .entry)) at n x
-        (now (dist .exit)) (now (site .exit)) (now (cue .exit)) ⌝ }
+    requires { ⌜ Ready (lists (now dist) (now site) (now cue)) at n (n + 1) ⌝ }
+    ensures { λ _. ⌜ lists (now (dist .exit)) (now (site .exit)) (now (cue .exit))
+        ≡ withPlace (lists (now (dist .entry)) (now (site .entry)) (now (cue .entry))) at n x ⌝ }
 {
     let gap = make_gap(dist, site, cue, at, n, x);
     let i = at + gap;
@@ -73,9 +77,9 @@ pub fn insert_place(
     k: usize,
     x: Place,
 ) -> usize
-    requires { ⌜ Ready (now dist) (now site) (now cue) at used k ⌝ }
-    ensures { λ r. ⌜ Adds (now (dist .entry)) (now (site .entry)) (now (cue .entry)) at used k (x ∷ []) r
-        (now (dist .exit)) (now (site .exit)) (now (cue .exit)) ⌝ }
+    requires { ⌜ Ready (lists (now dist) (now site) (now cue)) at used k ⌝ }
+    ensures { λ r. ⌜ Adds (lists (now (dist .entry)) (now (site .entry)) (now (cue .entry))) at used k (x ∷ []) r
+        (lists (now (dist .exit)) (now (site .exit)) (now (cue .exit))) ⌝ }
 {
     if used < k {
         put_place(dist, site, cue, at, used, x);
@@ -101,7 +105,8 @@ pub fn last_ahead(
     tile: u32,
 ) -> bool
     requires { ⌜ (0 < k) × (used ≤ k) × (at + k ≤ length (now dist)) × (at + k ≤ length (now site)) ⌝ }
-    ensures { λ r. ⌜ ((cs : List ℕ) → r ≡ lastAhead k (places (now (dist .entry)) (now (site .entry)) cs at used) least tile) ⌝ }
+    ensures { λ r. ⌜ ((cs : List ℕ) → r
+        ≡ lastAhead k (places (lists (now (dist .entry)) (now (site .entry)) cs) at used) least tile) ⌝ }
 {
     if used < k {
         return false;

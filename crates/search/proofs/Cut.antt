@@ -1,7 +1,7 @@
 -- A list cut at k as code keeps it: sites are put in one after another, and its last place tells whether k are ahead of a key.
 -- For the code of the join: its list and its end test are those of the walk.
 use Prim.Native.Nat.{ℕ, zero, suc, _-_, _≤_, _<_}
-use mathlib.Core.Bool.{Bool, true, false, cond, _&&_}
+use mathlib.Core.Bool.{Bool, true, false, _&&_}
 use mathlib.Core.List.{List, [], _∷_, _++_, append-nil, Permᴰ·middle}
 use mathlib.Core.Path.{_≡_, refl, sym, ap, _∙_, subst}
 use native.Mathlib.Omega.{arith}
@@ -11,9 +11,11 @@ use lib.Seq.{take-nil}
 use borrow.Author.Tests.{eqb-true, eq-eqb, leb-true, le-leb}
 use Rattle.base.specs.Refusal.{accepted}
 use Rattle.base.proofs.Tests.{and-both, both-and, by-test, iff-eq}
+use Rattle.search.specs.Inner.Cut.{Sorted, inserts, lastAhead}
+use Rattle.search.specs.Inner.Walk.{enter, cutWalk, cutWalks}
 use Rattle.search.specs.Lists.{count, All}
-use Rattle.search.specs.Order.{lex, insert, sort}
-use Rattle.search.specs.Plan.{Plan, Lawful, Town}
+use Rattle.search.specs.Order.{lex, sort}
+use Rattle.search.specs.Plan.{Geometry, Directory, near, Lawful, Town}
 use Rattle.search.specs.Run.{tilePlaces, Reading, Place, noPlace, rank, aheadOf, contents, Checked, queue, ahead, enough, join}
 use Rattle.search.proofs.Equation.{Alike, join-walks}
 use Rattle.search.proofs.Lists.{all-map, all-append, all-take, all-perm, count-all}
@@ -21,15 +23,10 @@ use Rattle.search.proofs.Pairs.{lex-tight, lex-coarse}
 use Rattle.search.proofs.Places.{rank-order, Own, own-tight, known}
 use Rattle.search.proofs.Queue.{queue-tiles}
 use Rattle.search.proofs.Run.{contents-accepted}
-use Rattle.search.proofs.Sort.{Order, Tight, Sorted, insert-cut, sort-perm, sort-sorted, count-cut, count-sort}
-use Rattle.search.proofs.Walk.{by-outcome, Trace, enter, walk, cut, cutOut, both, walks}
+use Rattle.search.proofs.Sort.{Order, Tight, insert-cut, sort-perm, sort-sorted, count-cut, count-sort}
+use Rattle.search.proofs.Walk.{by-outcome, walk, cut, cutOut, walks}
 
 -- ---- putting in
-
--- one after another into the cut list
-unfoldable pub inserts : {A : Type 0} → (A → A → Bool) → ℕ → List A → List A → List A
-inserts lt k [] l = l
-inserts lt k (x ∷ m) l = inserts lt k m (take k (insert lt x l))
 
 -- the first k of what was found and of more: the more put into the first k of what was found
 pub cut-append : {A : Type 0} (lt : A → A → Bool) (o : Order lt) (P : A → Type 0) (tight : Tight lt P) (k : ℕ) (l m : List A)
@@ -100,89 +97,76 @@ module _ {A : Type 0} (lt : A → A → Bool) (o : Order lt) (p : A → Bool)
       (λ e. let b = and-both (eqb (length s) k) (p (getD s (k - 1) d)) e in let n = eqb-true (length s) k (b .0) in
       let u = count-all p s (up s (k - 1) d (omega arith) h (b .1)) in le-leb k (count p s) (omega arith))
 
-module _ (G : Plan) where
-  open Plan G using (Site, Stop, minDist, tiles, box, k)
+module _ {G : Geometry} (E : Directory G) (O : G .Box) (k : ℕ) where
+  open Geometry G using (Site, Stop, Within, minDist)
+  open Directory E using (tiles, box)
 
-  ahead-down : (p : Stop) (t : ℕ) (a b : Place) → rank b a ≡ false → ahead G p t b ≡ true → ahead G p t a ≡ true
+  ahead-down : (p : Stop) (t : ℕ) (a b : Place) → rank b a ≡ false → ahead E p t b ≡ true → ahead E p t a ≡ true
   unfolding rank ahead aheadOf
   ahead-down p t a b e h = by-test (lex (a .dist) (a .site) (b .dist) (b .site))
       (λ f. lex-coarse (a .dist) (a .site) (b .dist) (b .site) (minDist p (box t)) t f h)
       (λ f. let q = lex-tight (a .dist) (a .site) (b .dist) (b .site) f e in rw (q .0, q .1) h)
 
-  -- the cut list is full and its last place is ahead of the key
-  unfoldable pub full : Stop → ℕ → List Place → Bool
-  full p t l = eqb (length l) k && aheadOf (getD l (k - 1) noPlace) (minDist p (box t)) t
-
-  pub full-enough : (p : Stop) (t : ℕ) (found : List Place) → 0 < k → full p t (cut G found) ≡ enough G p t found
-  unfolding full enough cut ahead
+  -- the cut list is full and its last place is ahead of the key exactly when k of what was found are
+  full-enough : (p : Stop) (t : ℕ) (found : List Place) → 0 < k → lastAhead k (cut k found) (near E p t) t ≡ enough E k p t found
+  unfolding lastAhead enough cut ahead
   full-enough p t found pos =
       let s = sort rank found in
       let h = sort-sorted rank rank-order found in
       let n = length-take k s in
-      let last = last-test rank rank-order (ahead G p t) (ahead-down p t) k (take k s) noPlace pos (sorted-take rank k s h)
+      let last = last-test rank rank-order (ahead E p t) (ahead-down p t) k (take k s) noPlace pos (sorted-take rank k s h)
       (omega arith) in
-      sym last ∙ cut-test rank rank-order (ahead G p t) (ahead-down p t) k s h
-      ∙ ap (leb k) (count-sort rank (ahead G p t) found)
+      sym last ∙ cut-test rank rank-order (ahead E p t) (ahead-down p t) k s h
+      ∙ ap (leb k) (count-sort rank (ahead E p t) found)
 
   -- ---- the walk with the cut list alone
 
-  unfoldable pub cutWalk : Reading G → Stop → List ℕ → List Place → Trace (List Place)
-  cutWalk read p [] l = record { asked = []; out = accepted l }
-  cutWalk read p (t ∷ ts) l =
-      cond (full p t l)
-      (record { asked = []; out = accepted l })
-      (enter G t (read t) (λ f. cutWalk read p ts (inserts rank k (tilePlaces G p t f) l)))
-
-  unfoldable pub cutWalks : Reading G → List Stop → Trace (List (List Place))
-  cutWalks read [] = record { asked = []; out = accepted [] }
-  cutWalks read (p ∷ ps) = let w = cutWalk read p (queue G p) [] in both G (w .asked) (w .out) (cutWalks read ps)
-
-  module _ (InO : Stop → Type 0) (L : Lawful G InO) (read : Reading G) (checked : Checked G read) (pos : 0 < k) where
+  module _ (L : Lawful E O) (read : Reading G) (checked : Checked E read) (pos : 0 < k) where
     abbrev g : Town G
     g = contents G read
 
-    module _ (p : Stop) (home : InO p) where
-      own-listing : (t : ℕ) (f : List Site) → t < tiles → read t ≡ accepted f → All (Own G p g) (tilePlaces G p t f)
+    module _ (p : Stop) (home : Within O p) where
+      own-listing : (t : ℕ) (f : List Site) → t < tiles → read t ≡ accepted f → All (Own E p g) (tilePlaces G p t f)
       own-listing t f h a =
-          let c = contents-accepted G read t f a in
-          subst (λ (l : List Site). All (Own G p g) (tilePlaces G p t l)) c
-          (all-map (tilePlaces G p t (g t)) (λ x i. i .own) (known G InO L p home g t (h, rw c (checked t f h a))))
+          let c = contents-accepted E k read t f a in
+          subst (λ (l : List Site). All (Own E p g) (tilePlaces G p t l)) c
+          (all-map (tilePlaces G p t (g t)) (λ x i. i .own) (known E L p home g t (h, rw c (checked t f h a))))
 
-      grow : (found here : List Place) → All (Own G p g) (found ++ here)
-          → inserts rank k here (cut G found) ≡ cut G (found ++ here)
+      grow : (found here : List Place) → All (Own E p g) (found ++ here)
+          → inserts rank k here (cut k found) ≡ cut k (found ++ here)
       unfolding cut
-      grow found here o = sym (cut-append rank rank-order (Own G p g) (own-tight G p g) k found here o)
+      grow found here o = sym (cut-append rank rank-order (Own E p g) (own-tight E p g) k found here o)
 
-      cut-walk : (ts : List ℕ) (found : List Place) → All (λ t. t < tiles) ts → All (Own G p g) found
-          → cutWalk read p ts (cut G found) ≡ record {
-            asked = walk G read p ts found .asked;
-            out = cutOut G (walk G read p ts found .out);
+      cut-walk : (ts : List ℕ) (found : List Place) → All (λ t. t < tiles) ts → All (Own E p g) found
+          → cutWalk E k read p ts (cut k found) ≡ record {
+            asked = walk E k read p ts found .asked;
+            out = cutOut k (walk E k read p ts found .out);
           }
       unfolding cutWalk walk enter
       cut-walk [] found h o = refl
-      cut-walk (t ∷ ts) found h o = by-test (enough G p t found)
+      cut-walk (t ∷ ts) found h o = by-test (enough E k p t found)
           (λ e. rw (full-enough p t found pos, e))
           (λ e. by-outcome (read t)
           (λ f a.
           let here = tilePlaces G p t f in
-          let n = all-append (Own G p g) found here o (own-listing t f (h .0) a) in
-          let c : inserts rank k here (cut G found) ≡ cut G (found ++ here) = grow found here n in
+          let n = all-append (Own E p g) found here o (own-listing t f (h .0) a) in
+          let c : inserts rank k here (cut k found) ≡ cut k (found ++ here) = grow found here n in
           rw (full-enough p t found pos, e, a, c, cut-walk ts (found ++ here) (h .1) n))
           (λ n b a. rw (full-enough p t found pos, e, a)))
 
-      stop-cut : cutWalk read p (queue G p) [] ≡ record {
-        asked = walk G read p (queue G p) [] .asked;
-        out = cutOut G (walk G read p (queue G p) [] .out);
+      stop-cut : cutWalk E k read p (queue E O k p) [] ≡ record {
+        asked = walk E k read p (queue E O k p) [] .asked;
+        out = cutOut k (walk E k read p (queue E O k p) [] .out);
       }
       unfolding cut sort
-      stop-cut = let e = cut-walk (queue G p) [] (queue-tiles G p) tt in rw (take-nil {A = Place} k) at e
+      stop-cut = let e = cut-walk (queue E O k p) [] (queue-tiles E O k p) tt in rw (take-nil {A = Place} k) at e
 
-    walks-cut : (ps : List Stop) → All InO ps → cutWalks read ps ≡ walks G read ps
+    walks-cut : (ps : List Stop) → All (Within O) ps → cutWalks E k read (queue E O k) ps ≡ walks E k (queue E O k) read ps
     unfolding cutWalks walks
     walks-cut [] hs = refl
     walks-cut (p ∷ ps) hs = rw (stop-cut p (hs .0), walks-cut ps (hs .1))
 
     -- The join, from what code keeps: the lists are those of the cut walks, and the openings the tiles asked for, repeats removed.
-    pub join-cut : (ps : List Stop) (hs : All InO ps)
-        → Alike [] (join G read ps) (cutWalks read ps .asked) (cutWalks read ps .out)
-    join-cut ps hs = rw (walks-cut ps hs) (join-walks G InO L read checked ps hs)
+    pub join-cut : (ps : List Stop) (hs : All (Within O) ps)
+        → Alike [] (join E O k read ps) (cutWalks E k read (queue E O k) ps .asked) (cutWalks E k read (queue E O k) ps .out)
+    join-cut ps hs = rw (walks-cut ps hs) (join-walks E O k L read checked ps hs)

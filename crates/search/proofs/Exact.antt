@@ -16,7 +16,7 @@ use Rattle.base.proofs.Tests.{by-test}
 use Rattle.search.specs.FullSearch.{refill, firstOf}
 use Rattle.search.specs.Lists.{range, count, All}
 use Rattle.search.specs.Order.{lex, sort}
-use Rattle.search.specs.Plan.{Plan, Lawful, slots, ranks, Town, Agrees}
+use Rattle.search.specs.Plan.{Geometry, Directory, Lawful, slots, ranks, Town, Agrees}
 use Rattle.search.specs.Run.{tilePlaces, Place, rank, aheadOf, listing, placesOf, nearest, byKey, queue, ahead, enough}
 use Rattle.search.proofs.Fillings.{another-site, ranked-count, refit, refill-here, refill-there, refill-agrees}
 use Rattle.search.proofs.Lists.{all-map, all-any, all-both, all-right, all-take, all-mem, all-perm, count-append, count-le, count-none, count-perm, range-mem}
@@ -32,8 +32,9 @@ at-seam : {A : Type 0} (a : List A) (x : A) (b : List A) → getElem? (a ++ x �
 at-seam [] x b = refl
 at-seam (y ∷ a) x b = at-seam a x b
 
-module _ (G : Plan) where
-  open Plan G using (Site, Stop, D, cue, minDist, tiles, box, k, Inside)
+module _ {G : Geometry} (E : Directory G) (O : G .Box) (k : ℕ) where
+  open Geometry G using (Site, Stop, cue, Inside, Within, D, minDist)
+  open Directory E using (tiles, box)
 
   -- ---- a tile asked for: fewer than k places are ahead of its key
 
@@ -42,22 +43,22 @@ module _ (G : Plan) where
     sooner : List ℕ
     later : List ℕ
     split : ts ≡ sooner ++ t ∷ later
-    few : count (ahead G p t) (found ++ placesOf G p g sooner) < k
+    few : count (ahead E p t) (found ++ placesOf G p g sooner) < k
 
   asked-short : (p : Stop) (g : Town G) (ts : List ℕ) (found : List Place) (t : ℕ)
-      → List·Memᴰ t (walk G (λ u. accepted (g u)) p ts found .asked) → Short p g ts found t
+      → List·Memᴰ t (walk E k (λ u. accepted (g u)) p ts found .asked) → Short p g ts found t
   unfolding walk placesOf enough
   asked-short p g [] found t m = elim m [ ]
-  asked-short p g (w ∷ ts) found t m = by-test (enough G p w found)
-      (λ e. elim (rw (walk-ends G (λ u. accepted (g u)) p w ts found e) at m) [ ])
-      (λ e. go e (rw (walk-opens G (λ u. accepted (g u)) p w ts found (g w) e refl) at m)
+  asked-short p g (w ∷ ts) found t m = by-test (enough E k p w found)
+      (λ e. elim (rw (walk-ends E k (λ u. accepted (g u)) p w ts found e) at m) [ ])
+      (λ e. go e (rw (walk-opens E k (λ u. accepted (g u)) p w ts found (g w) e refl) at m)
       (λ n. asked-short p g ts (found ++ here) t n))
     where
       here : List Place
       here = tilePlaces G p w (g w)
 
-      go : enough G p w found ≡ false → List·Memᴰ t (w ∷ walk G (λ u. accepted (g u)) p ts (found ++ here) .asked)
-          → (List·Memᴰ t (walk G (λ u. accepted (g u)) p ts (found ++ here) .asked) → Short p g ts (found ++ here) t)
+      go : enough E k p w found ≡ false → List·Memᴰ t (w ∷ walk E k (λ u. accepted (g u)) p ts (found ++ here) .asked)
+          → (List·Memᴰ t (walk E k (λ u. accepted (g u)) p ts (found ++ here) .asked) → Short p g ts (found ++ here) t)
           → Short p g (w ∷ ts) found t
       go e (List·Memᴰ·head f) rec =
           record { sooner = []; later = ts; split = rw f; few = rw (append-nil found, f) (leb-false k _ e) }
@@ -70,41 +71,41 @@ module _ (G : Plan) where
             few = rw (← (append-assoc found here (placesOf G p g (r .sooner)))) (r .few);
           }
 
-  module _ (InO : Stop → Type 0) (L : Lawful G InO) (p : Stop) (home : InO p) (g : Town G) (ag : Agrees G g) where
-    short-queue : (t : ℕ) (u v : List ℕ) → queue G p ≡ u ++ t ∷ v → count (ahead G p t) (placesOf G p g u) < k
-        → count (ahead G p t) (placesOf G p g (queue G p)) < k
+  module _ (L : Lawful E O) (p : Stop) (home : Within O p) (g : Town G) (ag : Agrees E g) where
+    short-queue : (t : ℕ) (u v : List ℕ) → queue E O k p ≡ u ++ t ∷ v → count (ahead E p t) (placesOf G p g u) < k
+        → count (ahead E p t) (placesOf G p g (queue E O k p)) < k
     short-queue t u v e h =
-        let hq = filled G g ag (t ∷ v) (all-right _ u (t ∷ v) (rw e at (queue-tiles G p))) in
-        let sq = sorted-right (byKey G p) u (t ∷ v) (rw e at (queue-sorted G p)) in
-        let i = order-irrefl (byKey G p) (by-key-order G p) t in
-        let n = count-none (ahead G p t) (placesOf G p g (t ∷ v)) (later-none G InO L p home g t (t ∷ v) hq (i, sq .0)) in
-        let c = count-append (ahead G p t) (placesOf G p g u) (placesOf G p g (t ∷ v)) in
-        rw (e, placesOf-append G p g u (t ∷ v)) (omega arith)
+        let hq = filled E g ag (t ∷ v) (all-right _ u (t ∷ v) (rw e at (queue-tiles E O k p))) in
+        let sq = sorted-right (byKey E p) u (t ∷ v) (rw e at (queue-sorted E O k p)) in
+        let i = order-irrefl (byKey E p) (by-key-order E p) t in
+        let n = count-none (ahead E p t) (placesOf G p g (t ∷ v)) (later-none E L p home g t (t ∷ v) hq (i, sq .0)) in
+        let c = count-append (ahead E p t) (placesOf G p g u) (placesOf G p g (t ∷ v)) in
+        rw (e, placesOf-append E p g u (t ∷ v)) (omega arith)
 
-    rank-ahead : (t : ℕ) (x y : Place) → ahead G p t y ≡ true → rank x y ≡ true → ahead G p t x ≡ true
+    rank-ahead : (t : ℕ) (x y : Place) → ahead E p t y ≡ true → rank x y ≡ true → ahead E p t x ≡ true
     unfolding ahead aheadOf rank
     rank-ahead t x y e f = lex-coarse (x .dist) (x .site) (y .dist) (y .site) (minDist p (box t)) t f e
 
-    few-before : (t : ℕ) → count (ahead G p t) (placesOf G p g (queue G p)) < k → (y : Place) → ahead G p t y ≡ true
-        → count (λ x. rank x y) (placesOf G p g (queue G p)) < k
+    few-before : (t : ℕ) → count (ahead E p t) (placesOf G p g (queue E O k p)) < k → (y : Place) → ahead E p t y ≡ true
+        → count (λ x. rank x y) (placesOf G p g (queue E O k p)) < k
     few-before t h y a =
-        let here = placesOf G p g (queue G p) in
-        let c = count-le (λ x. rank x y) (ahead G p t) here (all-any _ here (λ x f. rank-ahead t x y a f)) in
+        let here = placesOf G p g (queue E O k p) in
+        let c = count-le (λ x. rank x y) (ahead E p t) here (all-any _ here (λ x f. rank-ahead t x y a f)) in
         omega arith
 
-    others-none : (t : ℕ) → count (ahead G p t) (placesOf G p g (queue G p)) < k
-        → All (λ y. ahead G p t y ≡ false) (placesOf G p g (others G))
-    others-none t h = others-places G InO L p home g ag (λ y. ahead G p t y ≡ false) (λ b y hb s i. by-test (ahead G p t y)
-        (λ a. absurd (let l = few-before t h y a in let d = pruned-behind G InO L p home g ag b hb s y i in omega arith))
+    others-none : (t : ℕ) → count (ahead E p t) (placesOf G p g (queue E O k p)) < k
+        → All (λ y. ahead E p t y ≡ false) (placesOf G p g (others E O k))
+    others-none t h = others-places E O k L p home g ag (λ y. ahead E p t y ≡ false) (λ b y hb s i. by-test (ahead E p t y)
+        (λ a. absurd (let l = few-before t h y a in let d = pruned-behind E O k L p home g ag b hb s y i in omega arith))
         (λ a. a))
 
-    short-town : (t : ℕ) → count (ahead G p t) (placesOf G p g (queue G p)) < k
-        → count (ahead G p t) (placesOf G p g (range 0 tiles)) < k
+    short-town : (t : ℕ) → count (ahead E p t) (placesOf G p g (queue E O k p)) < k
+        → count (ahead E p t) (placesOf G p g (range 0 tiles)) < k
     short-town t h =
-        let n = count-none (ahead G p t) (placesOf G p g (others G)) (others-none t h) in
-        let c = count-perm (ahead G p t) (placesOf-perm G p g (tiles-perm G p)) in
-        let a = count-append (ahead G p t) (placesOf G p g (queue G p)) (placesOf G p g (others G)) in
-        let q = ap (count (ahead G p t)) (placesOf-append G p g (queue G p) (others G)) in
+        let n = count-none (ahead E p t) (placesOf G p g (others E O k)) (others-none t h) in
+        let c = count-perm (ahead E p t) (placesOf-perm E p g (tiles-perm E O k p)) in
+        let a = count-append (ahead E p t) (placesOf G p g (queue E O k p)) (placesOf G p g (others E O k)) in
+        let q = ap (count (ahead E p t)) (placesOf-append E p g (queue E O k p) (others E O k)) in
         omega arith
 
   -- ---- the first site of a tile that ranks
@@ -156,19 +157,19 @@ module _ (G : Plan) where
   pub record Differs (p : Stop) (g : Town G) (t : ℕ) : Type 0 where
     pub filling : List Site
     pub another : filling ≡ g t → ⊥
-    pub agrees : Agrees G (refill G g t filling)
-    pub differs : firstOf G p (refill G g t filling) ≡ firstOf G p g → ⊥
+    pub agrees : Agrees E (refill G g t filling)
+    pub differs : firstOf E k p (refill G g t filling) ≡ firstOf E k p g → ⊥
 
   -- ---- another filling of such a tile
 
-  module _ (InO : Stop → Type 0) (L : Lawful G InO) (p : Stop) (home : InO p) (g : Town G) (ag : Agrees G g) (t : ℕ)
+  module _ (L : Lawful E O) (p : Stop) (home : Within O p) (g : Town G) (ag : Agrees E g) (t : ℕ)
       (ht : t < tiles) (b : First (g t))
-      (short : count (ahead G p t) (placesOf G p g (range 0 tiles)) < k) where
+      (short : count (ahead E p t) (placesOf G p g (range 0 tiles)) < k) where
     slot : ℕ
     slot = length (b .earlier)
 
     other : (q : Site) × Inside (box t) q × (D p q ≡ minDist p (box t)) × (cue q ≡ cue (b .it) → ⊥) × (ranks G q ≡ true)
-    other = another-site G InO L p home t ht (cue (b .it))
+    other = another-site E L p home t ht (cue (b .it))
 
     q : Site
     q = other .0
@@ -188,9 +189,9 @@ module _ (G : Plan) where
         let e = L .size-small t ht in
         omega arith
 
-    ag′ : Agrees G g′
+    ag′ : Agrees E g′
     unfolding g′ fresh q
-    ag′ = refill-agrees G g t fresh ag (refit G t (b .earlier) (b .later) (b .it) q (rw (b .parts) at (ag t ht)) (b .loud)
+    ag′ = refill-agrees E g t fresh ag (refit E t (b .earlier) (b .later) (b .it) q (rw (b .parts) at (ag t ht)) (b .loud)
         (other .4) (other .1))
 
     -- the place that it has now
@@ -199,13 +200,13 @@ module _ (G : Plan) where
 
     here-none : All (λ x. rank x now ≡ false) (tilePlaces G p t (g′ t))
     unfolding g′ now rank fresh slot q
-    here-none = all-both (λ x. t * slots + length (b .earlier) ≤ x .site) (Known G p g′ t) _ (tilePlaces G p t (g′ t))
+    here-none = all-both (λ x. t * slots + length (b .earlier) ≤ x .site) (Known E p g′ t) _ (tilePlaces G p t (g′ t))
         (λ x i j. lex-not-less (rw (other .2) (j .least)) i)
-        (rw (refill-here G g t fresh, listing-silent p (t * slots) (b .earlier) (q ∷ b .later) (b .silent))
-        (listing-from G p (t * slots + length (b .earlier)) (q ∷ b .later)))
-        (known G InO L p home g′ t (ht, ag′ t ht))
+        (rw (refill-here E g t fresh, listing-silent p (t * slots) (b .earlier) (q ∷ b .later) (b .silent))
+        (listing-from E p (t * slots + length (b .earlier)) (q ∷ b .later)))
+        (known E L p home g′ t (ht, ag′ t ht))
 
-    there-ahead : (u : ℕ) (x : Place) → eqb u t ≡ false → Known G p g u x → rank x now ≡ true → ahead G p t x ≡ true
+    there-ahead : (u : ℕ) (x : Place) → eqb u t ≡ false → Known E p g u x → rank x now ≡ true → ahead E p t x ≡ true
     unfolding rank ahead aheadOf now q
     there-ahead u x e i h = go (lex-ahead (x .dist) (x .site) (D p q) (t * slots + slot) h)
       where
@@ -215,44 +216,44 @@ module _ (G : Plan) where
             (let v = i .tile in let d : u ≢ t = eqb-false u t e in let c = slot-small in omega arith))
 
     -- in the new town no more places rank before it than were ahead of the key
-    few-here : (u : ℕ) → u < tiles → count (λ x. rank x now) (tilePlaces G p u (g′ u)) ≤ count (ahead G p t)
+    few-here : (u : ℕ) → u < tiles → count (λ x. rank x now) (tilePlaces G p u (g′ u)) ≤ count (ahead E p t)
         (tilePlaces G p u (g u))
     unfolding g′
     few-here u hu =
-        let same : eqb u t ≡ false → All (λ x. rank x now ≡ true → ahead G p t x ≡ true) (tilePlaces G p u (g u)) = λ e.
-        all-map (tilePlaces G p u (g u)) (λ x i. there-ahead u x e i) (known G InO L p home g u (hu, ag u hu)) in
+        let same : eqb u t ≡ false → All (λ x. rank x now ≡ true → ahead E p t x ≡ true) (tilePlaces G p u (g u)) = λ e.
+        all-map (tilePlaces G p u (g u)) (λ x i. there-ahead u x e i) (known E L p home g u (hu, ag u hu)) in
         by-test (eqb u t)
         (λ e. rw (eqb-true u t e) (let n = count-none (λ x. rank x now) (tilePlaces G p t (g′ t)) here-none in omega arith))
-        (λ e. rw (refill-there G g t fresh u e) (count-le (λ x. rank x now) (ahead G p t) (tilePlaces G p u (g u)) (same e)))
+        (λ e. rw (refill-there E g t fresh u e) (count-le (λ x. rank x now) (ahead E p t) (tilePlaces G p u (g u)) (same e)))
 
     few : (ts : List ℕ) → All (λ u. u < tiles) ts
-        → count (λ x. rank x now) (placesOf G p g′ ts) ≤ count (ahead G p t) (placesOf G p g ts)
+        → count (λ x. rank x now) (placesOf G p g′ ts) ≤ count (ahead E p t) (placesOf G p g ts)
     unfolding placesOf count
     few [] h = omega arith
     few (u ∷ ts) h =
         let ih = few ts (h .1) in
         let a = count-append (λ x. rank x now) (tilePlaces G p u (g′ u)) (placesOf G p g′ ts) in
-        let d = count-append (ahead G p t) (tilePlaces G p u (g u)) (placesOf G p g ts) in
+        let d = count-append (ahead E p t) (tilePlaces G p u (g u)) (placesOf G p g ts) in
         let c = few-here u (h .0) in
         omega arith
 
-    now-listed : List·Memᴰ now (firstOf G p g′)
+    now-listed : List·Memᴰ now (firstOf E k p g′)
     unfolding firstOf nearest now g′ fresh slot q
-    now-listed = listed rank rank-order (Own G p g′) (own-tight G p g′) k now (placesOf G p g′ (range 0 tiles))
-        (own-places G InO L p home g′ (range 0 tiles) (filled G g′ ag′ (range 0 tiles) (below G)))
-        (first-listed p g′ t (b .earlier) q (b .later) (range 0 tiles) (refill-here G g t fresh) (b .silent) (other .4)
+    now-listed = listed rank rank-order (Own E p g′) (own-tight E p g′) k now (placesOf G p g′ (range 0 tiles))
+        (own-places E L p home g′ (range 0 tiles) (filled E g′ ag′ (range 0 tiles) (below E)))
+        (first-listed p g′ t (b .earlier) q (b .later) (range 0 tiles) (refill-here E g t fresh) (b .silent) (other .4)
         (range-mem t 0 tiles (omega arith) (omega arith)))
-        (let c = few (range 0 tiles) (below G) in omega arith)
+        (let c = few (range 0 tiles) (below E) in omega arith)
 
     -- in the town as it was, the place of that number has another cue
-    now-new : List·Memᴰ now (firstOf G p g) → ⊥
+    now-new : List·Memᴰ now (firstOf E k p g) → ⊥
     unfolding firstOf nearest now Own placeAt slot q
     now-new m =
         let l = placesOf G p g (range 0 tiles) in
-        let h = all-take (Own G p g) k (sort rank l)
-        (all-perm (Own G p g) (Permᴰ·symm (sort-is-perm rank l))
-        (own-places G InO L p home g (range 0 tiles) (filled G g ag (range 0 tiles) (below G)))) in
-        let e : placeAt G p g (t * slots + slot) ≡ some now = all-mem (Own G p g) h m in
+        let h = all-take (Own E p g) k (sort rank l)
+        (all-perm (Own E p g) (Permᴰ·symm (sort-is-perm rank l))
+        (own-places E L p home g (range 0 tiles) (filled E g ag (range 0 tiles) (below E)))) in
+        let e : placeAt E p g (t * slots + slot) ≡ some now = all-mem (Own E p g) h m in
         let c = slot-small in
         let d : (t * slots + slot) / slots ≡ t = omega arith in
         let r : (t * slots + slot) % slots ≡ slot = omega arith in
@@ -273,13 +274,13 @@ module _ (G : Plan) where
     }
 
   -- A tile that the walk asks for has such a filling.
-  pub asked-differs : (InO : Stop → Type 0) (L : Lawful G InO) (p : Stop) → InO p → (g : Town G) → Agrees G g → (t : ℕ)
-      → List·Memᴰ t (walk G (λ u. accepted (g u)) p (queue G p) [] .asked) → Differs p g t
-  asked-differs InO L p home g ag t m =
-      let a = asked-short p g (queue G p) [] t m in
-      let short = short-town InO L p home g ag t (short-queue InO L p home g ag t (a .sooner) (a .later) (a .split) (a .few)) in
-      let c = all-mem (Chosen G) (asked-all G (Chosen G) (λ u. accepted (g u)) p (queue G p) [] (queue-chosen G p)) m in
+  pub asked-differs : (L : Lawful E O) (p : Stop) → Within O p → (g : Town G) → Agrees E g → (t : ℕ)
+      → List·Memᴰ t (walk E k (λ u. accepted (g u)) p (queue E O k p) [] .asked) → Differs p g t
+  asked-differs L p home g ag t m =
+      let a = asked-short p g (queue E O k p) [] t m in
+      let short = short-town L p home g ag t (short-queue L p home g ag t (a .sooner) (a .later) (a .split) (a .few)) in
+      let c = all-mem (Chosen E O k) (asked-all E k (Chosen E O k) (λ u. accepted (g u)) p (queue E O k p) [] (queue-chosen E O k p)) m in
       let ht = c .0 in
-      let n = candidate-some G t (c .1) in
-      let e = ranked-count G t (g t) (ag t ht) in
-      changed InO L p home g ag t ht (first (g t) (omega arith)) short
+      let n = candidate-some E O k t (c .1) in
+      let e = ranked-count E t (g t) (ag t ht) in
+      changed L p home g ag t ht (first (g t) (omega arith)) short

@@ -11,40 +11,41 @@ use borrow.Author.Tests.{eqb-true, eq-eqb}
 use Rattle.base.proofs.Tests.{by-test}
 use Rattle.search.specs.FullSearch.{refill}
 use Rattle.search.specs.Lists.{count, All}
-use Rattle.search.specs.Plan.{Plan, Lawful, ranks, ranked, Town, Fills, Agrees}
+use Rattle.search.specs.Plan.{Geometry, Directory, Lawful, ranks, ranked, Town, Fills, Agrees}
 use Rattle.search.proofs.Lists.{all-any, all-append, all-left, all-right, count-all}
 
 all-replicate : {A : Type 0} (P : A → Type 0) (n : ℕ) (x : A) → P x → All P (replicate n x)
 all-replicate P zero x h = tt
 all-replicate P (suc n) x h = (h, all-replicate P n x h)
 
-module _ (G : Plan) where
-  open Plan G using (Site, Stop, D, cue, minDist, Inside, tiles, box, size)
+module _ {G : Geometry} (E : Directory G) where
+  open Geometry G using (Site, Stop, cue, Inside, Within, D, minDist)
+  open Directory E using (tiles, box, size)
 
   all-rank : (s : Site) → ranks G s ≡ true
   unfolding ranks
   all-rank s = refl
 
-  pub ranked-count : (t : ℕ) (f : List Site) → Fills G t f → count (ranks G) f ≡ ranked G t
+  pub ranked-count : (t : ℕ) (f : List Site) → Fills E t f → count (ranks G) f ≡ ranked E t
   unfolding ranked
   ranked-count t f h = count-all (ranks G) f (all-any (λ s. ranks G s ≡ true) f all-rank) ∙ h .counted
 
   -- another site that ranks in the slot of one
-  pub refit : (t : ℕ) (a b : List Site) (s q : Site) → Fills G t (a ++ s ∷ b) → ranks G s ≡ true → ranks G q ≡ true
-      → Inside (box t) q → Fills G t (a ++ q ∷ b)
+  pub refit : (t : ℕ) (a b : List Site) (s q : Site) → Fills E t (a ++ s ∷ b) → ranks G s ≡ true → ranks G q ≡ true
+      → Inside (box t) q → Fills E t (a ++ q ∷ b)
   refit t a b s q h rs rq i = record {
     counted = let u = h .counted in let v = length-append a (s ∷ b) in let w = length-append a (q ∷ b) in omega arith;
     inside = all-append (Inside (box t)) a (q ∷ b) (all-left (Inside (box t)) a (s ∷ b) (h .inside))
         (i, all-right (Inside (box t)) a (s ∷ b) (h .inside) .1);
   }
 
-  module _ (InO : Stop → Type 0) (L : Lawful G InO) (p : Stop) (home : InO p) (t : ℕ) (ht : t < tiles) where
+  module _ {O : G .Box} (L : Lawful E O) (p : Stop) (home : Within O p) (t : ℕ) (ht : t < tiles) where
     -- a site at the least distance that ranks, with another cue
     pub another-site : (c : ℕ) → (q : Site) × Inside (box t) q × (D p q ≡ minDist p (box t)) × (cue q ≡ c → ⊥) ×
         (ranks G q ≡ true)
     another-site c = let r = L .min-dist-reached p t c home ht in (r .0, r .1, r .2, r .3, all-rank (r .0))
 
-    pub some-filling : (f : List Site) × Fills G t f
+    pub some-filling : (f : List Site) × Fills E t f
     some-filling =
         let q = L .min-dist-reached p t 0 home ht in (
           replicate (size t) (q .0),
@@ -65,7 +66,7 @@ module _ (G : Plan) where
   unfolding refill
   refill-there g t f u e = rw e
 
-  pub refill-agrees : (g : Town G) (t : ℕ) (f : List Site) → Agrees G g → Fills G t f → Agrees G (refill G g t f)
+  pub refill-agrees : (g : Town G) (t : ℕ) (f : List Site) → Agrees E g → Fills E t f → Agrees E (refill G g t f)
   refill-agrees g t f ag h u hu = by-test (eqb u t)
       (λ i. let j = eqb-true u t i in rw (j, refill-here g t f) h)
       (λ i. rw (refill-there g t f u i) (ag u hu))

@@ -11,9 +11,9 @@ use lib.ListN.{length, take, getD, replicate, length-append, length-take, length
 use lib.Seq.{getD-append-add}
 use Rattle.base.proofs.Tests.{clash, by-test}
 use Rattle.search.specs.Lists.{range, count, filter, member, All, Distinct}
-use Rattle.search.specs.Plan.{Plan}
+use Rattle.search.specs.Plan.{Geometry, Directory}
 use Rattle.search.specs.Pruning.{pruned, prunedCount}
-use Rattle.search.specs.Run.{Place, noPlace, padded, slices, mark, marks, openedCount}
+use Rattle.search.specs.Run.{Place, noPlace, padded, slices, mark, marks}
 use Rattle.search.proofs.Lists.{all-any, all-mem, count-all, count-perm, filter-passes, filter-mem, filter-distinct, range-mem, range-distinct, member-mem, mem-member, same-elements}
 
 count-map : {A B : Type 0} (p : B → Bool) (f : A → B) (l : List A) → count p (map f l) ≡ count (λ x. p (f x)) l
@@ -59,59 +59,69 @@ count-members n l d h =
     λ m. count-all (λ t. true) m (all-any (λ t. true ≡ true) m (λ t. refl)) in
     count-filter q (range 0 n) ∙ sym (size f) ∙ count-perm (λ t. true) e ∙ size l
 
-module _ (G : Plan) where
-  open Plan G using (tiles, k)
+module _ {G : Geometry} (E : Directory G) (O : G .Box) (k : ℕ) where
+  open Directory E using (tiles)
 
   -- ---- marks
 
   module _ (opened : List ℕ) where
-    two : (t : ℕ) → eqb (mark G opened t) 2 ≡ member t opened
+    two : (t : ℕ) → eqb (mark E O k opened t) 2 ≡ member t opened
     unfolding mark
-    two t = by-test (member t opened) (λ e. rw e) (λ e. by-test (pruned G t) (λ s. rw (e, s)) (λ s. rw (e, s)))
+    two t = by-test (member t opened) (λ e. rw e) (λ e. by-test (pruned E O k t) (λ s. rw (e, s)) (λ s. rw (e, s)))
 
-    pub marks-at : (t : ℕ) → t < tiles → getD (marks G opened) t 0 ≡ mark G opened t
+    pub marks-at : (t : ℕ) → t < tiles → getD (marks E O k opened) t 0 ≡ mark E O k opened t
     unfolding marks
-    marks-at t h = getD-map-lt (mark G opened) (range 0 tiles) t 0 0 (rw range-length h)
-        ∙ ap (mark G opened) (range-getD 0 tiles t h ∙ zero-add t)
+    marks-at t h = getD-map-lt (mark E O k opened) (range 0 tiles) t 0 0 (rw range-length h)
+        ∙ ap (mark E O k opened) (range-getD 0 tiles t h ∙ zero-add t)
 
-    pub mark-opened : (t : ℕ) → (mark G opened t ≡ 2) ↔ (member t opened ≡ true)
+    pub mark-opened : (t : ℕ) → (mark E O k opened t ≡ 2) ↔ (member t opened ≡ true)
     unfolding mark
     mark-opened t = (λ h. sym (two t) ∙ rw h, λ h. rw h)
 
     pub marks-opened : Distinct opened → All (λ t. t < tiles) opened
-        → count (λ m. eqb m 2) (marks G opened) ≡ openedCount G opened
-    unfolding marks openedCount
+        → count (λ m. eqb m 2) (marks E O k opened) ≡ length opened
+    unfolding marks
     marks-opened d h =
-        count-map (λ m. eqb m 2) (mark G opened) (range 0 tiles)
-        ∙ count-same (λ t. eqb (mark G opened t) 2) (λ t. member t opened) (range 0 tiles)
-        (all-any (λ t. eqb (mark G opened t) 2 ≡ member t opened) (range 0 tiles) two)
+        count-map (λ m. eqb m 2) (mark E O k opened) (range 0 tiles)
+        ∙ count-same (λ t. eqb (mark E O k opened t) 2) (λ t. member t opened) (range 0 tiles)
+        (all-any (λ t. eqb (mark E O k opened t) 2 ≡ member t opened) (range 0 tiles) two)
         ∙ count-members tiles opened d h
 
-    module _ (unpruned : All (λ t. pruned G t ≡ false) opened) where
-      one : (t : ℕ) → eqb (mark G opened t) 1 ≡ pruned G t
+    module _ (unpruned : All (λ t. pruned E O k t ≡ false) opened) where
+      one : (t : ℕ) → eqb (mark E O k opened t) 1 ≡ pruned E O k t
       unfolding mark
       one t = by-test (member t opened)
-          (λ e. rw (e, all-mem (λ u. pruned G u ≡ false) unpruned (member-mem t opened e)))
-          (λ e. by-test (pruned G t) (λ s. rw (e, s)) (λ s. rw (e, s)))
+          (λ e. rw (e, all-mem (λ u. pruned E O k u ≡ false) unpruned (member-mem t opened e)))
+          (λ e. by-test (pruned E O k t) (λ s. rw (e, s)) (λ s. rw (e, s)))
 
-      pub mark-pruned : (t : ℕ) → (mark G opened t ≡ 1) ↔ (pruned G t ≡ true)
+      pub mark-pruned : (t : ℕ) → (mark E O k opened t ≡ 1) ↔ (pruned E O k t ≡ true)
       unfolding mark
       mark-pruned t = (
         λ h. sym (one t) ∙ rw h,
-        λ h. by-test (member t opened) (λ e. clash h (all-mem (λ u. pruned G u ≡ false) unpruned (member-mem t opened e)))
+        λ h. by-test (member t opened) (λ e. clash h (all-mem (λ u. pruned E O k u ≡ false) unpruned (member-mem t opened e)))
             (λ e. rw (e, h)),
       )
 
-      pub marks-pruned : count (λ m. eqb m 1) (marks G opened) ≡ prunedCount G
+      pub marks-pruned : count (λ m. eqb m 1) (marks E O k opened) ≡ prunedCount E O k
       unfolding marks prunedCount
       marks-pruned =
-          count-map (λ m. eqb m 1) (mark G opened) (range 0 tiles)
-          ∙ count-same (λ t. eqb (mark G opened t) 1) (pruned G) (range 0 tiles)
-          (all-any (λ t. eqb (mark G opened t) 1 ≡ pruned G t) (range 0 tiles) one)
+          count-map (λ m. eqb m 1) (mark E O k opened) (range 0 tiles)
+          ∙ count-same (λ t. eqb (mark E O k opened t) 1) (pruned E O k) (range 0 tiles)
+          (all-any (λ t. eqb (mark E O k opened t) 1 ≡ pruned E O k t) (range 0 tiles) one)
 
-  -- ---- places
+-- ---- places
 
-  pub padded-length : (l : List Place) → length (padded G l) ≡ k
+same-front : {A : Type 0} (a b c d : List A) (n : ℕ) → length a ≡ length b → length a ≤ n
+    → take n (a ++ c) ≡ take n (b ++ d) → a ≡ b
+same-front [] [] c d n l h e = refl
+same-front [] (y ∷ b) c d n l h e = absurd (omega arith)
+same-front (x ∷ a) [] c d n l h e = absurd (omega arith)
+same-front (x ∷ a) (y ∷ b) c d zero l h e = absurd (omega arith)
+same-front (x ∷ a) (y ∷ b) c d (suc n) l h e =
+    rw (head-eq-of-cons-eq e, same-front a b c d n (omega arith) (omega arith) (tail-eq-of-cons-eq e))
+
+module _ (k : ℕ) where
+  pub padded-length : (l : List Place) → length (padded k l) ≡ k
   unfolding padded
   padded-length l =
       let zeros : List Place = replicate k noPlace in
@@ -120,41 +130,32 @@ module _ (G : Plan) where
       let c = length-replicate {A = Place} k noPlace in
       omega arith
 
-  same-front : {A : Type 0} (a b c d : List A) (n : ℕ) → length a ≡ length b → length a ≤ n
-      → take n (a ++ c) ≡ take n (b ++ d) → a ≡ b
-  same-front [] [] c d n l h e = refl
-  same-front [] (y ∷ b) c d n l h e = absurd (omega arith)
-  same-front (x ∷ a) [] c d n l h e = absurd (omega arith)
-  same-front (x ∷ a) (y ∷ b) c d zero l h e = absurd (omega arith)
-  same-front (x ∷ a) (y ∷ b) c d (suc n) l h e =
-      rw (head-eq-of-cons-eq e, same-front a b c d n (omega arith) (omega arith) (tail-eq-of-cons-eq e))
-
   -- padding loses nothing of lists of one length
-  pub unpad : (a b : List Place) → length a ≡ length b → length a ≤ k → padded G a ≡ padded G b → a ≡ b
+  pub unpad : (a b : List Place) → length a ≡ length b → length a ≤ k → padded k a ≡ padded k b → a ≡ b
   unfolding padded
   unpad a b l h e = same-front a b (replicate k _) (replicate k _) k l h e
 
   -- place j of stop i
   pub slices-at : (ls : List (List Place)) (i j : ℕ) (d : Place) → i < length ls → j < k
-      → getD (slices G ls) (i * k + j) d ≡ getD (padded G (getD ls i [])) j d
+      → getD (slices k ls) (i * k + j) d ≡ getD (padded k (getD ls i [])) j d
   unfolding slices
   slices-at [] i j d h g = absurd (omega arith)
   slices-at (l ∷ ls) zero j d h g =
       let e : 0 * k + j ≡ j = ap (λ (n : ℕ). n + j) (zero-mul k) ∙ zero-add j in
       let f = padded-length l in
-      rw e (List·getD-append (padded G l) (slices G ls) d j (omega arith))
+      rw e (List·getD-append (padded k l) (slices k ls) d j (omega arith))
   slices-at (l ∷ ls) (suc i) j d h g =
       let f = padded-length l in
       let m = suc-mul i k in
-      let e : suc i * k + j ≡ length (padded G l) + (i * k + j) = omega arith in
-      rw e (getD-append-add (padded G l) (slices G ls) (i * k + j) d ∙ slices-at ls i j d (omega arith) g)
+      let e : suc i * k + j ≡ length (padded k l) + (i * k + j) = omega arith in
+      rw e (getD-append-add (padded k l) (slices k ls) (i * k + j) d ∙ slices-at ls i j d (omega arith) g)
 
-  pub slices-length : (ls : List (List Place)) → length (slices G ls) ≡ length ls * k
+  pub slices-length : (ls : List (List Place)) → length (slices k ls) ≡ length ls * k
   unfolding slices
   slices-length [] = sym (zero-mul k)
   slices-length (l ∷ ls) =
       let ih = slices-length ls in
       let f = padded-length l in
       let m = suc-mul (length ls) k in
-      let e = length-append (padded G l) (slices G ls) in
+      let e = length-append (padded k l) (slices k ls) in
       omega arith

@@ -10,7 +10,7 @@ use lib.ListN.{length, take, getElem?, length-append}
 use Rattle.base.proofs.Tests.{by-test}
 use Rattle.search.specs.Lists.{count, total, All}
 use Rattle.search.specs.Order.{sort}
-use Rattle.search.specs.Plan.{Plan, Lawful, slots, ranks, ranked, Town, Fills}
+use Rattle.search.specs.Plan.{Geometry, Directory, Lawful, slots, ranks, ranked, Town, Fills}
 use Rattle.search.specs.Run.{tilePlaces, Place, rank, aheadOf, listing, placesOf, nearest, byKey, ahead}
 use Rattle.search.proofs.Fillings.{ranked-count}
 use Rattle.search.proofs.Lists.{all-map, all-any, all-both, all-append, count-le}
@@ -27,10 +27,11 @@ rank-order = record {
 front : {A : Type 0} (a b c : List A) → List·Permᴰ (a ++ (b ++ c)) (b ++ (a ++ c))
 front a b c = rw (← (append-assoc a b c), ← (append-assoc b a c)) (Permᴰ·append-right c (List·Permᴰ·append-comm a b))
 
-module _ (G : Plan) where
-  open Plan G using (Site, Stop, cue, Inside, D, minDist, tiles, box, k)
+module _ {G : Geometry} (E : Directory G) where
+  open Geometry G using (Site, Stop, cue, Inside, Within, D, minDist)
+  open Directory E using (tiles, box)
 
-  pub by-key-order : (p : Stop) → Order (byKey G p)
+  pub by-key-order : (p : Stop) → Order (byKey E p)
   unfolding byKey
   by-key-order p = record {
     asym = λ a b. lex-asym (minDist p (box a)) a (minDist p (box b)) b;
@@ -87,13 +88,13 @@ module _ (G : Plan) where
 
   -- a tile of the directory, filled as its entry says
   abbrev pub Filled : Town G → ℕ → Type 0
-  Filled g t = (t < tiles) × Fills G t (g t)
+  Filled g t = (t < tiles) × Fills E t (g t)
 
-  pub tile-length : (p : Stop) (g : Town G) (t : ℕ) → Fills G t (g t) → length (tilePlaces G p t (g t)) ≡ ranked G t
-  tile-length p g t h = listing-length p (t * slots) (g t) ∙ ranked-count G t (g t) h
+  pub tile-length : (p : Stop) (g : Town G) (t : ℕ) → Fills E t (g t) → length (tilePlaces G p t (g t)) ≡ ranked E t
+  tile-length p g t h = listing-length p (t * slots) (g t) ∙ ranked-count E t (g t) h
 
   pub placesOf-length : (p : Stop) (g : Town G) (ts : List ℕ) → All (Filled g) ts
-      → length (placesOf G p g ts) ≡ total (λ t. true) (ranked G) ts
+      → length (placesOf G p g ts) ≡ total (λ t. true) (ranked E) ts
   unfolding placesOf total
   placesOf-length p g [] h = refl
   placesOf-length p g (t ∷ ts) h =
@@ -132,7 +133,7 @@ module _ (G : Plan) where
     pub at-dist : a .dist ≡ D p at
     pub least : minDist p (box t) ≤ a .dist
 
-  module _ (InO : Stop → Type 0) (L : Lawful G InO) (p : Stop) (home : InO p) (g : Town G) where
+  module _ {O : G .Box} (L : Lawful E O) (p : Stop) (home : Within O p) (g : Town G) where
     known-from : (t j a : ℕ) (f : List Site) → t < tiles → a ≡ t * slots + j → j + length f ≤ slots
         → ((i : ℕ) → getElem? (g t) (j + i) ≡ getElem? f i) → All (Inside (box t)) f → All (Known p g t) (listing G p a f)
     unfolding listing placeAt Own
@@ -178,36 +179,36 @@ module _ (G : Plan) where
     -- ---- places against keys
 
     -- no place of a tile whose key is not sooner is ahead of a key
-    pub not-ahead : (t u : ℕ) (y : Place) → byKey G p u t ≡ false → Known p g u y → ahead G p t y ≡ false
+    pub not-ahead : (t u : ℕ) (y : Place) → byKey E p u t ≡ false → Known p g u y → ahead E p t y ≡ false
     unfolding ahead aheadOf byKey
     not-ahead t u y f i =
         lex-negtrans (y .dist) (y .site / slots) (minDist p (box u)) u (minDist p (box t)) t
         (rw (i .tile) (lex-not-less (i .least) (omega arith))) f
 
-    pub later-none : (t : ℕ) (ts : List ℕ) → All (Filled g) ts → All (λ u. byKey G p u t ≡ false) ts
-        → All (λ y. ahead G p t y ≡ false) (placesOf G p g ts)
-    later-none t ts h late = placesOf-known _ (λ u. byKey G p u t ≡ false) ts h late (λ u y s i. not-ahead t u y s i)
+    pub later-none : (t : ℕ) (ts : List ℕ) → All (Filled g) ts → All (λ u. byKey E p u t ≡ false) ts
+        → All (λ y. ahead E p t y ≡ false) (placesOf G p g ts)
+    later-none t ts h late = placesOf-known _ (λ u. byKey E p u t ≡ false) ts h late (λ u y s i. not-ahead t u y s i)
 
     -- what is ahead of a key is ahead of the places of a tile whose key is not sooner
-    ahead-rank : (t u : ℕ) (x y : Place) → ahead G p t x ≡ true → byKey G p u t ≡ false → Known p g u y → rank x y ≡ true
+    ahead-rank : (t u : ℕ) (x y : Place) → ahead E p t x ≡ true → byKey E p u t ≡ false → Known p g u y → rank x y ≡ true
     unfolding ahead aheadOf rank
     ahead-rank t u x y e f i =
         lex-fine (x .dist) (x .site) (y .dist) (y .site)
         (lex-trans (x .dist) (x .site / slots) (minDist p (box t)) t (y .dist) (y .site / slots) e (not-ahead t u y f i))
 
-    pub later-behind : (t : ℕ) (ts : List ℕ) (l : List Place) → All (Filled g) ts → All (λ u. byKey G p u t ≡ false) ts
-        → k ≤ count (ahead G p t) l → All (λ y. k ≤ count (λ x. rank x y) l) (placesOf G p g ts)
-    later-behind t ts l h late e =
-        let more : (u : ℕ) (y : Place) → byKey G p u t ≡ false → Known p g u y
-        → count (ahead G p t) l ≤ count (λ x. rank x y) l =
-        λ u y s i. count-le (ahead G p t) (λ x. rank x y) l (all-any _ l (λ x a. ahead-rank t u x y a s i)) in
-        placesOf-known _ (λ u. byKey G p u t ≡ false) ts h late (λ u y s i. let m = more u y s i in omega arith)
+    pub later-behind : (k t : ℕ) (ts : List ℕ) (l : List Place) → All (Filled g) ts → All (λ u. byKey E p u t ≡ false) ts
+        → k ≤ count (ahead E p t) l → All (λ y. k ≤ count (λ x. rank x y) l) (placesOf G p g ts)
+    later-behind k t ts l h late e =
+        let more : (u : ℕ) (y : Place) → byKey E p u t ≡ false → Known p g u y
+        → count (ahead E p t) l ≤ count (λ x. rank x y) l =
+        λ u y s i. count-le (ahead E p t) (λ x. rank x y) l (all-any _ l (λ x a. ahead-rank t u x y a s i)) in
+        placesOf-known _ (λ u. byKey E p u t ≡ false) ts h late (λ u y s i. let m = more u y s i in omega arith)
 
     -- tiles whose places are all behind k places of the others decide nothing
-    pub nearest-front : (ts pre rest : List ℕ) → List·Permᴰ ts (pre ++ rest) → All (Filled g) ts
-        → All (λ y. k ≤ count (λ x. rank x y) (placesOf G p g pre)) (placesOf G p g rest) → nearest G p g ts ≡ nearest G p g pre
+    pub nearest-front : (k : ℕ) (ts pre rest : List ℕ) → List·Permᴰ ts (pre ++ rest) → All (Filled g) ts
+        → All (λ y. k ≤ count (λ x. rank x y) (placesOf G p g pre)) (placesOf G p g rest) → nearest G k p g ts ≡ nearest G k p g pre
     unfolding nearest
-    nearest-front ts pre rest d h b =
+    nearest-front k ts pre rest d h b =
         let q = List·Permᴰ·trans d (List·Permᴰ·append-comm pre rest) in
         ap (take k) (sort-perm rank rank-order (Own p g) (own-tight p g) (placesOf-perm p g q) (own-places ts h))
         ∙ ap (λ l. take k (sort rank l)) (placesOf-append p g rest pre)

@@ -12,7 +12,7 @@ use Rattle.base.proofs.Tests.{clash, by-test}
 use Rattle.search.specs.FullSearch.{firstOf, SiteOf}
 use Rattle.search.specs.Lists.{range, All, Distinct}
 use Rattle.search.specs.Order.{sort, Strict}
-use Rattle.search.specs.Plan.{Plan, Lawful, slots, ranks, Town, Agrees}
+use Rattle.search.specs.Plan.{Geometry, Directory, Lawful, slots, ranks, Town, Agrees}
 use Rattle.search.specs.Run.{tilePlaces, Place, rank, listing, placesOf, nearest, placesUsed}
 use Rattle.search.proofs.Lists.{all-map, all-append, all-left, all-mem, all-perm, mem-perm, range-below, range-above, range-mem, distinct-perm}
 use Rattle.search.proofs.Places.{rank-order, placesOf-all, placesOf-length, known, listing-from, placesOf-known, placeAt, Own, own-tight, own-places}
@@ -35,14 +35,15 @@ strict-across lt l m {x} {y} s (List·Memᴰ·head {x = z} {xs = k} e) n =
     rw e (all-mem (λ w. lt z w ≡ true) (s .0) (Memᴰ·append-right k n))
 strict-across lt l m s (List·Memᴰ·tail {xs = k} h) n = strict-across lt k m (s .1) h n
 
-module _ (G : Plan) where
-  open Plan G using (Site, Stop, D, cue, tiles, k)
+module _ {G : Geometry} (E : Directory G) (k : ℕ) where
+  open Geometry G using (Site, Stop, cue, Within, D)
+  open Directory E using (tiles)
 
   -- ---- the places are the town's sites that rank
 
   module _ (p : Stop) (g : Town G) where
     listing-sites : (t j a : ℕ) (f : List Site) → t < tiles → a ≡ t * slots + j
-        → ((i : ℕ) → getElem? (g t) (j + i) ≡ getElem? f i) → All (SiteOf G p g) (listing G p a f)
+        → ((i : ℕ) → getElem? (g t) (j + i) ≡ getElem? f i) → All (SiteOf E p g) (listing G p a f)
     unfolding listing
     listing-sites t j a [] ht e same = tt
     listing-sites t j a (s ∷ f) ht e same =
@@ -63,12 +64,12 @@ module _ (G : Plan) where
         ))
         (λ y. rw y rest)
 
-    places-sites : All (SiteOf G p g) (placesOf G p g (range 0 tiles))
-    places-sites = placesOf-all G (SiteOf G p g) p g (range 0 tiles)
+    places-sites : All (SiteOf E p g) (placesOf G p g (range 0 tiles))
+    places-sites = placesOf-all E (SiteOf E p g) p g (range 0 tiles)
         (all-map (range 0 tiles) (λ t ht. listing-sites t 0 (t * slots) (g t) ht (omega arith)
-        (λ i. ap (getElem? (g t)) (zero-add i))) (below G))
+        (λ i. ap (getElem? (g t)) (zero-add i))) (below E))
 
-    pub first-short : length (firstOf G p g) ≤ k
+    pub first-short : length (firstOf E k p g) ≤ k
     unfolding firstOf nearest
     first-short = let e = length-take k (sort rank (placesOf G p g (range 0 tiles))) in omega arith
 
@@ -89,7 +90,7 @@ module _ (G : Plan) where
     placesOf-mem a t ts (List·Memᴰ·tail {x = u} {xs = us} m) h =
         Memᴰ·append-right (tilePlaces G p u (g u)) (placesOf-mem a t us m h)
 
-    site-placed : (a : Place) → SiteOf G p g a → List·Memᴰ a (placesOf G p g (range 0 tiles))
+    site-placed : (a : Place) → SiteOf E p g a → List·Memᴰ a (placesOf G p g (range 0 tiles))
     site-placed a s =
         rw (s .place) (placesOf-mem _ (s .tile) (range 0 tiles)
         (range-mem (s .tile) 0 tiles (omega arith) (let h = s .below in omega arith))
@@ -103,16 +104,16 @@ module _ (G : Plan) where
     listing-distinct a (s ∷ f) = by-test (ranks G s)
         (λ e. rw e (
           all-map (listing G p (suc a) f) (λ y h i. let j = ap (λ (z : Place). z .site) i in omega arith)
-              (listing-from G p (suc a) f),
+              (listing-from E p (suc a) f),
           listing-distinct (suc a) f,
         ))
         (λ e. rw e (listing-distinct (suc a) f))
 
-  module _ (InO : Stop → Type 0) (L : Lawful G InO) (p : Stop) (home : InO p) (g : Town G) (ag : Agrees G g) where
+  module _ {O : G .Box} (L : Lawful E O) (p : Stop) (home : Within O p) (g : Town G) (ag : Agrees E g) where
     later-tiles : (a n : ℕ) → a + n ≤ tiles → All (λ y. a ≤ y .site / slots) (placesOf G p g (range a n))
     later-tiles a n h =
-        placesOf-known G InO L p home g (λ y. a ≤ y .site / slots) (λ t. a ≤ t) (range a n)
-        (filled G g ag (range a n) (range-below a n tiles h))
+        placesOf-known E L p home g (λ y. a ≤ y .site / slots) (λ t. a ≤ t) (range a n)
+        (filled E g ag (range a n) (range-below a n tiles h))
         (range-above a n a (omega arith)) (λ t y l i. let e = i .tile in omega arith)
 
     places-distinct : (a n : ℕ) → a + n ≤ tiles → Distinct (placesOf G p g (range a n))
@@ -127,7 +128,7 @@ module _ (G : Plan) where
         (λ x i. all-map (placesOf G p g (range (suc a) n))
         (λ y l e. let v = i .tile in let w = ap (λ (z : Place). z .site) e in absurd (clear (x .site) (y .site) a v w l))
         (later-tiles (suc a) n (omega arith)))
-        (known G InO L p home g a (u, ag a u)))
+        (known E L p home g a (u, ag a u)))
       where
         clear : (x y a : ℕ) → x / slots ≡ a → y ≡ x → suc a ≤ y / slots → ⊥
         clear x y a v w l = let q : y / slots ≡ x / slots = ap (λ (n : ℕ). n / slots) w in omega arith
@@ -135,63 +136,63 @@ module _ (G : Plan) where
     abbrev sorted : List Place
     sorted = sort rank (placesOf G p g (range 0 tiles))
 
-    sorted-own : All (Own G p g) sorted
-    sorted-own = all-perm (Own G p g) (Permᴰ·symm (sort-is-perm rank (placesOf G p g (range 0 tiles))))
-        (own-places G InO L p home g (range 0 tiles) (filled G g ag (range 0 tiles) (below G)))
+    sorted-own : All (Own E p g) sorted
+    sorted-own = all-perm (Own E p g) (Permᴰ·symm (sort-is-perm rank (placesOf G p g (range 0 tiles))))
+        (own-places E L p home g (range 0 tiles) (filled E g ag (range 0 tiles) (below E)))
 
     sorted-strict : Strict rank sorted
-    sorted-strict = strictly rank rank-order (Own G p g) (own-tight G p g) sorted sorted-own
+    sorted-strict = strictly rank rank-order (Own E p g) (own-tight E p g) sorted sorted-own
         (sort-sorted rank rank-order (placesOf G p g (range 0 tiles)))
         (distinct-perm (Permᴰ·symm (sort-is-perm rank (placesOf G p g (range 0 tiles))))
         (places-distinct 0 tiles (omega arith)))
 
-    parts : firstOf G p g ++ drop k sorted ≡ sorted
+    parts : firstOf E k p g ++ drop k sorted ≡ sorted
     unfolding firstOf nearest
     parts = take-append-drop k sorted
 
     -- ---- what a reader wants of it
 
-    pub first-strict : Strict rank (firstOf G p g)
-    first-strict = strict-left rank (firstOf G p g) (drop k sorted) (rw parts sorted-strict)
+    pub first-strict : Strict rank (firstOf E k p g)
+    first-strict = strict-left rank (firstOf E k p g) (drop k sorted) (rw parts sorted-strict)
 
-    pub first-sites : All (SiteOf G p g) (firstOf G p g)
-    first-sites = all-left (SiteOf G p g) (firstOf G p g) (drop k sorted)
-        (rw parts (all-perm (SiteOf G p g) (Permᴰ·symm (sort-is-perm rank (placesOf G p g (range 0 tiles))))
+    pub first-sites : All (SiteOf E p g) (firstOf E k p g)
+    first-sites = all-left (SiteOf E p g) (firstOf E k p g) (drop k sorted)
+        (rw parts (all-perm (SiteOf E p g) (Permᴰ·symm (sort-is-perm rank (placesOf G p g (range 0 tiles))))
         (places-sites p g)))
 
-    pub first-rest : (a b : Place) → List·Memᴰ a (firstOf G p g) → SiteOf G p g b → (List·Memᴰ b (firstOf G p g) → ⊥)
+    pub first-rest : (a b : Place) → List·Memᴰ a (firstOf E k p g) → SiteOf E p g b → (List·Memᴰ b (firstOf E k p g) → ⊥)
         → rank a b ≡ true
-    first-rest a b m s out = go (List·Memᴰ·append-cases (firstOf G p g)
+    first-rest a b m s out = go (List·Memᴰ·append-cases (firstOf E k p g)
         (rw parts (mem-perm b (Permᴰ·symm (sort-is-perm rank (placesOf G p g (range 0 tiles)))) (site-placed p g b s))))
       where
-        go : List·Memᴰ b (firstOf G p g) ⊎ List·Memᴰ b (drop k sorted) → rank a b ≡ true
+        go : List·Memᴰ b (firstOf E k p g) ⊎ List·Memᴰ b (drop k sorted) → rank a b ≡ true
         go (inl h) = absurd (out h)
-        go (inr h) = strict-across rank (firstOf G p g) (drop k sorted) (rw parts sorted-strict) m h
+        go (inr h) = strict-across rank (firstOf E k p g) (drop k sorted) (rw parts sorted-strict) m h
 
     -- no site number twice
-    one-number : (x y : Place) → Own G p g x → Own G p g y → y .site ≡ x .site → rank x y ≡ false
+    one-number : (x y : Place) → Own E p g x → Own E p g y → y .site ≡ x .site → rank x y ≡ false
     unfolding Own
     one-number x y hx hy e =
-        let i : some y ≡ some x = sym hy ∙ ap (placeAt G p g) e ∙ hx in
+        let i : some y ≡ some x = sym hy ∙ ap (placeAt E p g) e ∙ hx in
         let j : y ≡ x = cc in
         rw j (order-irrefl rank rank-order x)
 
-    apart : (x : Place) (l : List Place) → Own G p g x → All (Own G p g) l → All (λ y. rank x y ≡ true) l
+    apart : (x : Place) (l : List Place) → Own E p g x → All (Own E p g) l → All (λ y. rank x y ≡ true) l
         → All (λ n. n ≡ x .site → ⊥) (map (λ a. a .site) l)
     apart x [] h o r = tt
     apart x (y ∷ l) h o r = (λ e. clash (r .0) (one-number x y h (o .0) e), apart x l h (o .1) (r .1))
 
-    numbers : (l : List Place) → All (Own G p g) l → Strict rank l → Distinct (map (λ a. a .site) l)
+    numbers : (l : List Place) → All (Own E p g) l → Strict rank l → Distinct (map (λ a. a .site) l)
     numbers [] o s = tt
     numbers (x ∷ l) o s = (apart x l (o .0) (o .1) (s .0), numbers l (o .1) (s .1))
 
-    pub first-once : Distinct (map (λ a. a .site) (firstOf G p g))
-    first-once = numbers (firstOf G p g)
-        (all-left (Own G p g) (firstOf G p g) (drop k sorted) (rw parts sorted-own)) first-strict
+    pub first-once : Distinct (map (λ a. a .site) (firstOf E k p g))
+    first-once = numbers (firstOf E k p g)
+        (all-left (Own E p g) (firstOf E k p g) (drop k sorted) (rw parts sorted-own)) first-strict
 
-    pub first-length : length (firstOf G p g) ≡ placesUsed G
+    pub first-length : length (firstOf E k p g) ≡ placesUsed E k
     unfolding firstOf nearest placesUsed
     first-length =
         length-take k sorted
         ∙ ap (min k) (sort-length rank (placesOf G p g (range 0 tiles))
-        ∙ placesOf-length G p g (range 0 tiles) (filled G g ag (range 0 tiles) (below G)))
+        ∙ placesOf-length E p g (range 0 tiles) (filled E g ag (range 0 tiles) (below E)))

@@ -7,15 +7,15 @@ use native.Mathlib.Omega.{arith}
 use Rattle.base.specs.Refusal.{accepted, refused, andThen}
 use Rattle.base.proofs.Tests.{by-test}
 use Rattle.search.specs.Lists.{member, All, Distinct}
-use Rattle.search.specs.Plan.{Plan}
+use Rattle.search.specs.Plan.{Geometry, Directory}
 use Rattle.search.specs.Run.{answer, Reading, Place, Run, placesOf, nearest, queue, enough, contents, opening, serve, follow, run, join}
 use Rattle.search.proofs.Lists.{all-map, all-append, all-left, all-right, distinct-snoc}
 use Rattle.search.proofs.Places.{placesOf-same}
 use Rattle.search.proofs.Queue.{Chosen, queue-chosen}
 use Rattle.search.proofs.Walk.{by-outcome}
 
-module _ (G : Plan) where
-  open Plan G using (Site, Stop)
+module _ {G : Geometry} (E : Directory G) (k : ℕ) where
+  open Geometry G using (Site, Stop)
 
   pub contents-accepted : (read : Reading G) (t : ℕ) (f : List Site) → read t ≡ accepted f → contents G read t ≡ f
   unfolding contents
@@ -27,12 +27,12 @@ module _ (G : Plan) where
 
   module _ (read : Reading G) where
     abbrev pub enoughFor : Stop → ℕ → List ℕ → Bool
-    enoughFor p t opened = enough G p t (placesOf G p (contents G read) opened)
+    enoughFor p t opened = enough E k p t (placesOf G p (contents G read) opened)
 
     -- how a stop goes: the tiles that wait, those opened so far, and what it comes to
     pub data Served (p : Stop) : List ℕ → List ℕ → Run (List Place) → Type 0 where
-      none : {opened : List ℕ} → Served p [] opened (answer G read p opened)
-      ends : {t : ℕ} {ts opened : List ℕ} → enoughFor p t opened ≡ true → Served p (t ∷ ts) opened (answer G read p opened)
+      none : {opened : List ℕ} → Served p [] opened (answer E k read p opened)
+      ends : {t : ℕ} {ts opened : List ℕ} → enoughFor p t opened ≡ true → Served p (t ∷ ts) opened (answer E k read p opened)
       again : {t : ℕ} {ts opened : List ℕ} {r : Run (List Place)} → enoughFor p t opened ≡ false → member t opened ≡ true
           → Served p ts opened r → Served p (t ∷ ts) opened r
       opens : {t : ℕ} {ts opened : List ℕ} {f : List Site} {r : Run (List Place)} → enoughFor p t opened ≡ false
@@ -41,7 +41,7 @@ module _ (G : Plan) where
           → read t ≡ refused n b
           → Served p (t ∷ ts) opened (record { openings = opened ++ t ∷ []; outcome = refused n b })
 
-    pub served : (p : Stop) (ts opened : List ℕ) → Served p ts opened (serve G read p ts opened)
+    pub served : (p : Stop) (ts opened : List ℕ) → Served p ts opened (serve E k read p ts opened)
     unfolding serve opening
     served p [] opened = none
     served p (t ∷ ts) opened = by-test (enoughFor p t opened)
@@ -52,25 +52,6 @@ module _ (G : Plan) where
         (λ f r. rw (e, m, r) (opens e m r (served p ts (opened ++ t ∷ []))))
         (λ n b r. rw (e, m, r) (refuses e m r))))
 
-    -- how a run goes
-    pub data Ran : List Stop → List ℕ → Run (List (List Place)) → Type 0 where
-      done : {opened : List ℕ} → Ran [] opened (record { openings = opened; outcome = accepted [] })
-      answers : {p : Stop} {ps : List Stop} {opened : List ℕ} {l : List Place} {r : Run (List (List Place))}
-          → serve G read p (queue G p) opened .outcome ≡ accepted l → Ran ps (serve G read p (queue G p) opened .openings) r
-          → Ran (p ∷ ps) opened (record { openings = r .openings; outcome = andThen (r .outcome) (λ ls. accepted (l ∷ ls)) })
-      breaks : {p : Stop} {ps : List Stop} {opened : List ℕ} {n b : ℕ}
-          → serve G read p (queue G p) opened .outcome ≡ refused n b
-          → Ran (p ∷ ps) opened (record { openings = serve G read p (queue G p) opened .openings; outcome = refused n b })
-
-    pub ran : (ps : List Stop) (opened : List ℕ) → Ran ps opened (run G read ps opened)
-    unfolding run follow
-    ran [] opened = done
-    ran (p ∷ ps) opened = by-outcome (serve G read p (queue G p) opened .outcome)
-        (λ l e. rw e (answers e (ran ps (serve G read p (queue G p) opened .openings))))
-        (λ n b e. rw e (breaks e))
-
-    -- ---- what holds of all openings, refused ones too
-
     pub served-all : (P : ℕ → Type 0) {p : Stop} {ts opened : List ℕ} {r : Run (List Place)} → Served p ts opened r → All P ts
         → All P opened → All P (r .openings)
     served-all P none g h = h
@@ -78,18 +59,6 @@ module _ (G : Plan) where
     served-all P (again e m s) g h = served-all P s (g .1) h
     served-all P (opens {t = t} {opened = o} e m a s) g h = served-all P s (g .1) (all-append P o (t ∷ []) h (g .0, tt))
     served-all P (refuses {t = t} {opened = o} e m a) g h = all-append P o (t ∷ []) h (g .0, tt)
-
-    ran-all : (P : ℕ → Type 0) → ((p : Stop) → All P (queue G p))
-        → {ps : List Stop} {opened : List ℕ} {r : Run (List (List Place))}
-        → Ran ps opened r → All P opened → All P (r .openings)
-    ran-all P q done h = h
-    ran-all P q (answers {p = p} {opened = o} e s) h = ran-all P q s (served-all P (served p (queue G p) o) (q p) h)
-    ran-all P q (breaks {p = p} {opened = o} e) h = served-all P (served p (queue G p) o) (q p) h
-
-    -- Only tiles of the directory that are not pruned and not empty are opened.
-    pub join-chosen : (ps : List Stop) → All (Chosen G) (join G read ps .openings)
-    unfolding join
-    join-chosen ps = ran-all (Chosen G) (queue-chosen G) (ran ps []) tt
 
     pub served-distinct : {p : Stop} {ts opened : List ℕ} {r : Run (List Place)} → Served p ts opened r → Distinct opened
         → Distinct (r .openings)
@@ -99,17 +68,6 @@ module _ (G : Plan) where
     served-distinct (opens {t = t} {opened = o} e m a s) d = served-distinct s (distinct-snoc o t d m)
     served-distinct (refuses {t = t} {opened = o} e m a) d = distinct-snoc o t d m
 
-    ran-distinct : {ps : List Stop} {opened : List ℕ} {r : Run (List (List Place))} → Ran ps opened r → Distinct opened
-        → Distinct (r .openings)
-    ran-distinct done d = d
-    ran-distinct (answers {p = p} {opened = o} e s) d = ran-distinct s (served-distinct (served p (queue G p) o) d)
-    ran-distinct (breaks {p = p} {opened = o} e) d = served-distinct (served p (queue G p) o) d
-
-    -- Each tile is opened once.
-    pub join-once : (ps : List Stop) → Distinct (join G read ps .openings)
-    unfolding join
-    join-once ps = ran-distinct (ran ps []) tt
-
     -- what holds of all openings holds of those so far
     served-back : (P : ℕ → Type 0) {p : Stop} {ts opened : List ℕ} {r : Run (List Place)} → Served p ts opened r
         → All P (r .openings) → All P opened
@@ -118,12 +76,6 @@ module _ (G : Plan) where
     served-back P (again e m s) h = served-back P s h
     served-back P (opens {t = t} {opened = o} e m a s) h = all-left P o (t ∷ []) (served-back P s h)
     served-back P (refuses {t = t} {opened = o} e m a) h = all-left P o (t ∷ []) h
-
-    ran-back : (P : ℕ → Type 0) {ps : List Stop} {opened : List ℕ} {r : Run (List (List Place))} → Ran ps opened r
-        → All P (r .openings) → All P opened
-    ran-back P done h = h
-    ran-back P (answers {p = p} {opened = o} e s) h = served-back P (served p (queue G p) o) (ran-back P s h)
-    ran-back P (breaks {p = p} {opened = o} e) h = served-back P (served p (queue G p) o) h
 
     -- ---- in a run that answers each opening was accepted
 
@@ -139,18 +91,52 @@ module _ (G : Plan) where
         served-good s l e (all-append Opens u (t ∷ []) h ((f, a), tt))
     served-good (refuses n m a) l e h = absurd (let z : _≡_ {A = ℕ} 0 1 = cc in omega arith)
 
+  -- ---- the stops in turn, each over its tiles
+
+  module _ (tilesOf : Stop → List ℕ) (read : Reading G) where
+    -- how a run goes
+    pub data Ran : List Stop → List ℕ → Run (List (List Place)) → Type 0 where
+      done : {opened : List ℕ} → Ran [] opened (record { openings = opened; outcome = accepted [] })
+      answers : {p : Stop} {ps : List Stop} {opened : List ℕ} {l : List Place} {r : Run (List (List Place))}
+          → serve E k read p (tilesOf p) opened .outcome ≡ accepted l → Ran ps (serve E k read p (tilesOf p) opened .openings) r
+          → Ran (p ∷ ps) opened (record { openings = r .openings; outcome = andThen (r .outcome) (λ ls. accepted (l ∷ ls)) })
+      breaks : {p : Stop} {ps : List Stop} {opened : List ℕ} {n b : ℕ}
+          → serve E k read p (tilesOf p) opened .outcome ≡ refused n b
+          → Ran (p ∷ ps) opened (record { openings = serve E k read p (tilesOf p) opened .openings; outcome = refused n b })
+
+    pub ran : (ps : List Stop) (opened : List ℕ) → Ran ps opened (run E k tilesOf read ps opened)
+    unfolding run follow
+    ran [] opened = done
+    ran (p ∷ ps) opened = by-outcome (serve E k read p (tilesOf p) opened .outcome)
+        (λ l e. rw e (answers e (ran ps (serve E k read p (tilesOf p) opened .openings))))
+        (λ n b e. rw e (breaks e))
+
+    ran-all : (P : ℕ → Type 0) → ((p : Stop) → All P (tilesOf p))
+        → {ps : List Stop} {opened : List ℕ} {r : Run (List (List Place))}
+        → Ran ps opened r → All P opened → All P (r .openings)
+    ran-all P q done h = h
+    ran-all P q (answers {p = p} {opened = o} e s) h = ran-all P q s (served-all read P (served read p (tilesOf p) o) (q p) h)
+    ran-all P q (breaks {p = p} {opened = o} e) h = served-all read P (served read p (tilesOf p) o) (q p) h
+
+    ran-distinct : {ps : List Stop} {opened : List ℕ} {r : Run (List (List Place))} → Ran ps opened r → Distinct opened
+        → Distinct (r .openings)
+    ran-distinct done d = d
+    ran-distinct (answers {p = p} {opened = o} e s) d = ran-distinct s (served-distinct read (served read p (tilesOf p) o) d)
+    ran-distinct (breaks {p = p} {opened = o} e) d = served-distinct read (served read p (tilesOf p) o) d
+
+    ran-back : (P : ℕ → Type 0) {ps : List Stop} {opened : List ℕ} {r : Run (List (List Place))} → Ran ps opened r
+        → All P (r .openings) → All P opened
+    ran-back P done h = h
+    ran-back P (answers {p = p} {opened = o} e s) h = served-back read P (served read p (tilesOf p) o) (ran-back P s h)
+    ran-back P (breaks {p = p} {opened = o} e) h = served-back read P (served read p (tilesOf p) o) h
+
     ran-good : {ps : List Stop} {opened : List ℕ} {r : Run (List (List Place))} → Ran ps opened r → (ls : List (List Place))
-        → r .outcome ≡ accepted ls → All Opens opened → All Opens (r .openings)
+        → r .outcome ≡ accepted ls → All (Opens read) opened → All (Opens read) (r .openings)
     ran-good done ls e h = h
     ran-good (answers {p = p} {opened = u} {l = l} {r = r} e s) ls f h = by-outcome (r .outcome)
-        (λ ms q. ran-good s ms q (served-good (served p (queue G p) u) l e h))
+        (λ ms q. ran-good s ms q (served-good read (served read p (tilesOf p) u) l e h))
         (λ n b q. absurd (let z : _≡_ {A = ℕ} 0 1 = let v = rw q at f in cc in omega arith))
     ran-good (breaks e) ls f h = absurd (let z : _≡_ {A = ℕ} 0 1 = cc in omega arith)
-
-    pub join-good : (ps : List Stop) (ls : List (List Place)) → join G read ps .outcome ≡ accepted ls
-        → All Opens (join G read ps .openings)
-    unfolding join
-    join-good ps ls e = ran-good (ran ps []) ls e tt
 
   -- ---- the opened tiles decide the run
 
@@ -161,10 +147,10 @@ module _ (G : Plan) where
     same-places : (p : Stop) (opened : List ℕ) → All Same opened
         → placesOf G p (contents G read′) opened ≡ placesOf G p (contents G read) opened
     same-places p opened h =
-        placesOf-same G p (contents G read′) (contents G read) opened (all-map opened (λ t e. contents-same read read′ t e) h)
+        placesOf-same E p (contents G read′) (contents G read) opened (all-map opened (λ t e. contents-same read read′ t e) h)
 
     serve-same : {p : Stop} {ts opened : List ℕ} {r : Run (List Place)} → Served read p ts opened r → All Same (r .openings)
-        → serve G read′ p ts opened ≡ r
+        → serve E k read′ p ts opened ≡ r
     unfolding serve opening nearest
     serve-same {p} (none {opened = o}) h = rw (same-places p o h)
     serve-same {p} (ends {opened = o} e) h = rw (same-places p o h, e)
@@ -175,15 +161,38 @@ module _ (G : Plan) where
     serve-same {p} (refuses {t = t} {opened = o} e m a) h =
         rw (same-places p o (all-left Same o (t ∷ []) h), e, m, all-right Same o (t ∷ []) h .0 ∙ a)
 
-    run-same : {ps : List Stop} {opened : List ℕ} {r : Run (List (List Place))} → Ran read ps opened r → All Same (r .openings)
-        → run G read′ ps opened ≡ r
-    unfolding run follow
-    run-same done h = refl
-    run-same (answers {p = p} {opened = o} e s) h =
-        rw (serve-same (served read p (queue G p) o) (ran-back read Same s h), e, run-same s h)
-    run-same (breaks {p = p} {opened = o} e) h = rw (serve-same (served read p (queue G p) o) h, e)
+    module _ (tilesOf : Stop → List ℕ) where
+      run-same : {ps : List Stop} {opened : List ℕ} {r : Run (List (List Place))} → Ran tilesOf read ps opened r → All Same (r .openings)
+          → run E k tilesOf read′ ps opened ≡ r
+      unfolding run follow
+      run-same done h = refl
+      run-same (answers {p = p} {opened = o} e s) h =
+          rw (serve-same (served read p (tilesOf p) o) (ran-back tilesOf read Same s h), e, run-same s h)
+      run-same (breaks {p = p} {opened = o} e) h = rw (serve-same (served read p (tilesOf p) o) h, e)
 
-    -- A reading that agrees on the openings, a refused one included, gives the same run.
-    pub join-same : (ps : List Stop) → All (λ t. read′ t ≡ read t) (join G read ps .openings) → join G read′ ps ≡ join G read ps
-    unfolding join
-    join-same ps h = run-same (ran read ps []) h
+-- ---- the join
+
+module _ {G : Geometry} (E : Directory G) (O : G .Box) (k : ℕ) where
+  open Geometry G using (Stop)
+
+  -- Only tiles of the directory that are not pruned and not empty are opened.
+  pub join-chosen : (read : Reading G) (ps : List Stop) → All (Chosen E O k) (join E O k read ps .openings)
+  unfolding join
+  join-chosen read ps =
+      ran-all E k (queue E O k) read (Chosen E O k) (queue-chosen E O k) (ran E k (queue E O k) read ps []) tt
+
+  -- Each tile is opened once.
+  pub join-once : (read : Reading G) (ps : List Stop) → Distinct (join E O k read ps .openings)
+  unfolding join
+  join-once read ps = ran-distinct E k (queue E O k) read (ran E k (queue E O k) read ps []) tt
+
+  pub join-good : (read : Reading G) (ps : List Stop) (ls : List (List Place)) → join E O k read ps .outcome ≡ accepted ls
+      → All (Opens E k read) (join E O k read ps .openings)
+  unfolding join
+  join-good read ps ls e = ran-good E k (queue E O k) read (ran E k (queue E O k) read ps []) ls e tt
+
+  -- A reading that agrees on the openings, a refused one included, gives the same run.
+  pub join-same : (read read′ : Reading G) (ps : List Stop) → All (λ t. read′ t ≡ read t) (join E O k read ps .openings)
+      → join E O k read′ ps ≡ join E O k read ps
+  unfolding join
+  join-same read read′ ps h = run-same E k read read′ (queue E O k) (ran E k (queue E O k) read ps []) h

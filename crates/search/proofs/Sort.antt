@@ -8,6 +8,7 @@ use native.Mathlib.Omega.{arith}
 use lib.ListN.{length, take}
 use Rattle.base.proofs.Tests.{clash, by-test}
 use Rattle.search.specs.Lists.{bit, count, All, Distinct}
+use Rattle.search.specs.Inner.Cut.{Sorted}
 use Rattle.search.specs.Order.{insert, sort, Strict}
 use Rattle.search.proofs.Lists.{all-map, all-both, all-mem, all-perm, mem-perm, count-append, count-none}
 
@@ -18,11 +19,6 @@ pub record Order {A : Type 0} (lt : A → A → Bool) : Type 0 where
 
 abbrev pub Tight : {A : Type 0} → (A → A → Bool) → (A → Type 0) → Type 0
 Tight {A} lt P = (a b : A) → P a → P b → lt a b ≡ false → lt b a ≡ false → a ≡ b
-
--- nothing later in the list is ahead of something earlier
-abbrev pub Sorted : {A : Type 0} → (A → A → Bool) → List A → Type 0
-Sorted lt [] = Unit {0}
-Sorted lt (x ∷ l) = All (λ z. lt z x ≡ false) l × Sorted lt l
 
 take-cons-take : {A : Type 0} (k : ℕ) (y : A) (l : List A) → take k (y ∷ take k l) ≡ take k (y ∷ l)
 take-cons-take zero y l = refl

@@ -8,63 +8,52 @@ use lib.ListN.{take}
 use borrow.Author.Tests.{leb-true}
 use Rattle.base.specs.Refusal.{Outcome, accepted, refused, andThen}
 use Rattle.base.proofs.Tests.{by-test}
+use Rattle.search.specs.Inner.Walk.{Trace, enter, both}
 use Rattle.search.specs.Lists.{count, All}
 use Rattle.search.specs.Order.{sort}
-use Rattle.search.specs.Plan.{Plan, Town}
-use Rattle.search.specs.Run.{tilePlaces, Reading, Place, rank, placesOf, queue, ahead, enough}
+use Rattle.search.specs.Plan.{Geometry, Directory, Town}
+use Rattle.search.specs.Run.{tilePlaces, Reading, Place, rank, placesOf, ahead, enough}
 
 pub by-outcome : {X Y : Type 0} (o : Outcome X) → ((x : X) → o ≡ accepted x → Y) → ((n b : ℕ) → o ≡ refused n b → Y) → Y
 by-outcome (accepted x) f g = f x refl
 by-outcome (refused n b) f g = g n b refl
 
--- the tiles asked for, in turn, and what it comes to
-pub record Trace (X : Type 0) : Type 0 where
-  pub asked : List ℕ
-  pub out : Outcome X
+-- the first k of what was found
+unfoldable pub cut : ℕ → List Place → List Place
+cut k found = take k (sort rank found)
 
-module _ (G : Plan) where
-  open Plan G using (Site, Stop, k)
+abbrev pub cutOut : ℕ → Outcome (List Place) → Outcome (List Place)
+cutOut k o = andThen o (λ found. accepted (cut k found))
 
-  unfoldable pub enter : {X : Type 0} → ℕ → Outcome (List Site) → (List Site → Trace X) → Trace X
-  enter t (accepted f) rest = record { asked = t ∷ rest f .asked; out = rest f .out }
-  enter t (refused n b) rest = record { asked = t ∷ []; out = refused n b }
+module _ {G : Geometry} (E : Directory G) (k : ℕ) where
+  open Geometry G using (Site, Stop)
 
   unfoldable pub walk : Reading G → Stop → List ℕ → List Place → Trace (List Place)
   walk read p [] found = record { asked = []; out = accepted found }
   walk read p (t ∷ ts) found =
-      cond (enough G p t found)
+      cond (enough E k p t found)
       (record { asked = []; out = accepted found })
       (enter t (read t) (λ f. walk read p ts (found ++ tilePlaces G p t f)))
 
-  -- the first k of what was found
-  unfoldable pub cut : List Place → List Place
-  cut found = take k (sort rank found)
-
-  abbrev pub cutOut : Outcome (List Place) → Outcome (List Place)
-  cutOut o = andThen o (λ found. accepted (cut found))
-
-  -- a stop's list before those of the later stops, unless it is refused
-  unfoldable pub both : List ℕ → Outcome (List Place) → Trace (List (List Place)) → Trace (List (List Place))
-  both ts (accepted l) rest = record { asked = ts ++ rest .asked; out = andThen (rest .out) (λ ls. accepted (l ∷ ls)) }
-  both ts (refused n b) rest = record { asked = ts; out = refused n b }
-
-  unfoldable pub walks : Reading G → List Stop → Trace (List (List Place))
-  walks read [] = record { asked = []; out = accepted [] }
-  walks read (p ∷ ps) = let w = walk read p (queue G p) [] in both (w .asked) (cutOut (w .out)) (walks read ps)
+  unfoldable pub walks : (Stop → List ℕ) → Reading G → List Stop → Trace (List (List Place))
+  walks tilesOf read [] = record { asked = []; out = accepted [] }
+  walks tilesOf read (p ∷ ps) =
+      let w = walk read p (tilesOf p) [] in
+      both (w .asked) (cutOut k (w .out)) (walks tilesOf read ps)
 
   -- ---- the clauses of a walk
 
   module _ (read : Reading G) (p : Stop) (t : ℕ) (ts : List ℕ) (found : List Place) where
-    pub walk-ends : enough G p t found ≡ true → walk read p (t ∷ ts) found ≡ record { asked = []; out = accepted found }
+    pub walk-ends : enough E k p t found ≡ true → walk read p (t ∷ ts) found ≡ record { asked = []; out = accepted found }
     unfolding walk
     walk-ends e = rw e
 
-    pub walk-refused : (n b : ℕ) → enough G p t found ≡ false → read t ≡ refused n b
+    pub walk-refused : (n b : ℕ) → enough E k p t found ≡ false → read t ≡ refused n b
         → walk read p (t ∷ ts) found ≡ record { asked = t ∷ []; out = refused n b }
     unfolding walk enter
     walk-refused n b e r = rw (e, r)
 
-    pub walk-opens : (f : List Site) → enough G p t found ≡ false → read t ≡ accepted f → walk read p (t ∷ ts) found
+    pub walk-opens : (f : List Site) → enough E k p t found ≡ false → read t ≡ accepted f → walk read p (t ∷ ts) found
         ≡ record {
           asked = t ∷ walk read p ts (found ++ tilePlaces G p t f) .asked;
           out = walk read p ts (found ++ tilePlaces G p t f) .out;
@@ -77,7 +66,7 @@ module _ (G : Plan) where
       → All P (walk read p ts found .asked)
   unfolding walk
   asked-all P read p [] found h = tt
-  asked-all P read p (t ∷ ts) found h = by-test (enough G p t found)
+  asked-all P read p (t ∷ ts) found h = by-test (enough E k p t found)
       (λ e. rw (walk-ends read p t ts found e) tt)
       (λ e. by-outcome (read t)
       (λ f r. rw (walk-opens read p t ts found f e r) (h .0, asked-all P read p ts (found ++ tilePlaces G p t f) (h .1)))
@@ -88,7 +77,7 @@ module _ (G : Plan) where
   -- k places are ahead of the next key, if a tile remains
   abbrev pub Enough : Stop → List ℕ → List Place → Type 0
   Enough p [] l = Unit {0}
-  Enough p (t ∷ ts) l = k ≤ count (ahead G p t) l
+  Enough p (t ∷ ts) l = k ≤ count (ahead E p t) l
 
   pub record Walked (p : Stop) (g : Town G) (ts : List ℕ) (found : List Place) : Type 0 where
     pub pre : List ℕ
@@ -100,7 +89,7 @@ module _ (G : Plan) where
   pub walked : (p : Stop) (g : Town G) (ts : List ℕ) (found : List Place) → Walked p g ts found
   unfolding walk placesOf enough
   walked p g [] found = record { pre = []; rest = []; split = refl; trace = rw append-nil; filled = tt }
-  walked p g (t ∷ ts) found = by-test (enough G p t found)
+  walked p g (t ∷ ts) found = by-test (enough E k p t found)
       (λ e. record {
         pre = [];
         rest = t ∷ ts;

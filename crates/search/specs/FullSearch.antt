@@ -8,19 +8,16 @@ use lib.Dec.{eqb}
 use lib.ListN.{getElem?}
 use Rattle.base.specs.Refusal.{accepted}
 use Rattle.search.specs.Lists.{range, All}
-use Rattle.search.specs.Plan.{Plan, slots, ranks, Town, Agrees}
+use Rattle.search.specs.Plan.{Geometry, Directory, slots, ranks, Town, Agrees}
 use Rattle.search.specs.Run.{Place, Reading, nearest, padded}
 
-module _ (G : Plan) where
-  open Plan G using (Site, Stop, D, cue, tiles)
+-- tile t filled otherwise, "with nothing else changed"
+unfoldable pub refill : (G : Geometry) → Town G → ℕ → List (G .Site) → Town G
+refill G g t f u = cond (eqb u t) f (g u)
 
-  -- "the town's sites in their ranking, cut after k of them"
-  unfoldable pub firstOf : Stop → Town G → List Place
-  firstOf p g = nearest G p g (range 0 tiles)
-
-  -- "places left over up to k are 0"
-  unfoldable pub fullSearch : Stop → Town G → List Place
-  fullSearch p g = padded G (firstOf p g)
+module _ {G : Geometry} (E : Directory G) where
+  open Geometry G using (Site, Stop, D, cue)
+  open Directory E using (tiles)
 
   -- a is the place of a site of the town: "each place with D, tile × 40 + slot, and cue"
   pub record SiteOf (p : Stop) (g : Town G) (a : Place) : Type 0 where
@@ -34,19 +31,24 @@ module _ (G : Plan) where
 
   -- a town "that agrees with the directory and the opened tiles": it "has the sites of that block there, slot for slot"
   pub record Fits (read : Reading G) (opened : List ℕ) (g : Town G) : Type 0 where
-    pub directory : Agrees G g
+    pub directory : Agrees E g
     pub blocks : All (λ t. read t ≡ accepted (g t)) opened
 
-  -- tile t filled otherwise, "with nothing else changed"
-  unfoldable pub refill : Town G → ℕ → List Site → Town G
-  refill g t f u = cond (eqb u t) f (g u)
+  module _ (k : ℕ) where
+    -- "the town's sites in their ranking, cut after k of them"
+    unfoldable pub firstOf : Stop → Town G → List Place
+    firstOf p g = nearest G k p g (range 0 tiles)
 
-  -- "some other filling of it, agreeing with the directory and put into that town with nothing else changed, changes what
-  -- the full search gives for at least one stop, in a distance, a site or a cue"
-  pub record Changes (g : Town G) (ps : List Stop) (t : ℕ) : Type 0 where
-    pub filling : List Site
-    pub another : filling ≡ g t → ⊥
-    pub agrees : Agrees G (refill g t filling)
-    pub stop : Stop
-    pub served : List·Memᴰ stop ps
-    pub differs : fullSearch stop (refill g t filling) ≡ fullSearch stop g → ⊥
+    -- "places left over up to k are 0"
+    unfoldable pub fullSearch : Stop → Town G → List Place
+    fullSearch p g = padded k (firstOf p g)
+
+    -- "some other filling of it, agreeing with the directory and put into that town with nothing else changed, changes what
+    -- the full search gives for at least one stop, in a distance, a site or a cue"
+    pub record Changes (g : Town G) (ps : List Stop) (t : ℕ) : Type 0 where
+      pub filling : List Site
+      pub another : filling ≡ g t → ⊥
+      pub agrees : Agrees E (refill G g t filling)
+      pub stop : Stop
+      pub served : List·Memᴰ stop ps
+      pub differs : fullSearch stop (refill G g t filling) ≡ fullSearch stop g → ⊥

@@ -4,3 +4,5 @@ pub mod Plan
 pub mod Pruning
 pub mod Run
 pub mod FullSearch
+pub mod Claims
+pub mod Inner

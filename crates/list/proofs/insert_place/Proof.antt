@@ -7,14 +7,13 @@ use Rattle.list.proofs.insert_place.Tie as tie
 
 put-place-requires : tie.Need-put-place-requires
 put-place-requires c κs =
-    let r = c .before .before .before .before .before .before .before .pre in
+    let s : tie.Start = search in
+    let l = s .pre .long in
     record {
       some = omega arith;
       few = omega arith;
-      d = omega (arith, r .d);
-      s = omega (arith, r .s);
-      c = omega (arith, r .c);
-      sorted = r .sorted;
+      long = (omega arith, (omega arith, omega arith));
+      sorted = s .pre .sorted;
     }
 
 add-result : tie.Need-add-result
@@ -31,9 +30,10 @@ same-length-3 c = search needs
 
 returns : tie.Need-returns
 returns c =
-    let put = c .before .before .before .before .before .before in
-    let s = put .before .before .before .before .before .before .before .before in
-    put-room (s .pre) (s .args .x) (put .before .before .before .before .if1 .taken) (put .put-place .ensures)
+    let s : tie.Start = search in
+    let i : tie.Then1 = search in
+    let put : tie.After-put-place = search in
+    put-room (s .pre) (s .args .x) (i .if1 .taken) (put .put-place .ensures)
 
 sub-others : tie.Need-sub-others
 sub-others c = search needs
@@ -58,15 +58,18 @@ same-length-6 c = search needs
 
 returns-2 : tie.Need-returns-2
 returns-2 c =
-    let y = c .before .before in
-    let s = y .before .before .before .before .before .before .before .before in
-    let ahead = sym (c .before .ranks-before .ensures) ∙ c .if2 .taken in
-    put-none (s .pre) (s .args .x) (y .before .before .before .before .if1 .left) (y .place-at .result) (y .place-at .ensures) ahead
+    let s : tie.Start = search in
+    let full : tie.Else1 = search in
+    let y : tie.After-place-at = search in
+    let r : tie.After-ranks-before = search in
+    let ahead = sym (r .ranks-before .ensures) ∙ c .if2 .taken in
+    put-none (s .pre) (s .args .x) (full .if1 .left) (y .place-at .result) (y .place-at .ensures) ahead
 
 put-place-requires-2 : tie.Need-put-place-requires-2
 put-place-requires-2 c κs =
-    let full = c .before .before .before .before .before .before .before .before .before in
-    first-ready (full .before .before .before .before .pre) (full .if1 .left)
+    let s : tie.Start = search in
+    let full : tie.Else1 = search in
+    first-ready (s .pre) (full .if1 .left)
 
 same-length-7 : tie.Need-same-length-7
 same-length-7 c = search needs
@@ -79,11 +82,11 @@ same-length-9 c = search needs
 
 returns-3 : tie.Need-returns-3
 returns-3 c =
-    let put = c .before .before .before .before .before .before in
-    let tested = put .before .before .before .before in
-    let y = tested .before .before in
-    let full = y .before .before .before .before in
-    let s = full .before .before .before .before in
+    let put : tie.After-put-place2 = search in
+    let tested : tie.Else2 = search in
+    let y : tie.After-place-at = search in
+    let full : tie.Else1 = search in
+    let s : tie.Start = search in
     let behind = sym (tested .before .ranks-before .ensures) ∙ tested .if2 .left in
     put-full (s .pre) (s .args .x) (full .if1 .left) (y .place-at .result) (y .place-at .ensures) behind (put .put-place2 .ensures)
 

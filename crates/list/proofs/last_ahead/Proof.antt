@@ -1,15 +1,17 @@
-use mathlib.Core.Path.{_≡_, _∙_}
+use mathlib.Core.Path.{_≡_, sym, _∙_}
 use native.Mathlib.Omega.{arith}
 use borrow.Author.Needs.{needs}
 use Rattle.search.specs.Run.{aheadOf}
+use Rattle.list.specs.Lists.{lists}
 use Rattle.list.proofs.Full.{not-full, full-last}
 use Rattle.list.proofs.last_ahead.Statement.{statement}
 use Rattle.list.proofs.last_ahead.Tie as tie
 
 returns : tie.Need-returns
 returns c =
-    let a = c .before .before .before .args in
-    λ cs. not-full (a .dist .now) (a .site .now) cs (a .at) (a .used) (a .k) (a .least) (a .tile) (c .if1 .taken)
+    let s : tie.Start = search in
+    let a = s .args in
+    λ cs. sym (not-full (lists (a .dist .now) (a .site .now) cs) (a .at) (a .used) (a .k) (a .least) (a .tile) (c .if1 .taken))
 
 sub-last : tie.Need-sub-last
 sub-last c = search needs
@@ -35,11 +37,11 @@ ahead-of-key-requires c κs = search needs
 returns-2 : tie.Need-returns-2
 unfolding aheadOf
 returns-2 c =
-    let s = c .before .before .before .before .before .before in
+    let s : tie.Start = search in
     let a = s .args in
     let full : a .used ≡ a .k = omega (arith, s .pre .1) in
     λ cs. c .ahead-of-key .ensures
-    ∙ full-last (a .dist .now) (a .site .now) cs (a .at) (a .used) (a .k) (a .least) (a .tile) (s .pre .0) full
+    ∙ sym (full-last (lists (a .dist .now) (a .site .now) cs) (a .at) (a .used) (a .k) (a .least) (a .tile) (s .pre .0) full)
 
 pub last-ahead-spec : {M : Type 1} → statement M
 last-ahead-spec =

@@ -1,17 +1,19 @@
 use mathlib.Core.Path.{sym, _∙_}
 use borrow.Author.Needs.{needs}
+use Rattle.list.specs.Lists.{lists}
 use Rattle.list.proofs.Gap.{Gap, gap-starts, gap-turn, gap-stop, gap-bottom}
 use Rattle.list.proofs.make_gap.Statement.{statement}
 use Rattle.list.proofs.make_gap.Tie as tie
 
 abbrev Inv-loop : tie.InvT-loop
-Inv-loop dist₀ site₀ cue₀ at n x left₀ dist site cue left = Gap dist₀ site₀ cue₀ at n x dist site cue left
+Inv-loop dist₀ site₀ cue₀ at n x left₀ dist site cue left =
+    Gap (lists dist₀ site₀ cue₀) at n x (lists dist site cue) left
 
 abbrev μ-loop : tie.MeasureT-loop
 μ-loop dist₀ site₀ cue₀ at n x left₀ dist site cue left = left
 
 loop-holds : tie.Need-loop-holds Inv-loop μ-loop
-loop-holds c = let s = c .before .before .before in gap-starts (s .args .x) (s .pre)
+loop-holds c = let s : tie.Start Inv-loop μ-loop = search in gap-starts (s .args .x) (s .pre)
 
 add-i : tie.Need-add-i Inv-loop μ-loop
 add-i c = search needs
@@ -36,10 +38,12 @@ same-length-3 c = search needs
 
 returns : tie.Need-returns Inv-loop μ-loop
 returns c =
-    let y = c .before .before in
-    let g = y .before .before .before .before .before .loop .inv in
-    let ahead = sym (c .before .ranks-before .ensures) ∙ c .if1 .taken in
-    (g .few, gap-stop g (y .before .before .before .before .loop-test .taken) (y .place-at .result) (y .place-at .ensures) ahead)
+    let l : tie.In-loop Inv-loop μ-loop = search in
+    let y : tie.After-place-at Inv-loop μ-loop = search in
+    let r : tie.After-ranks-before Inv-loop μ-loop = search in
+    let g = l .before .loop .inv in
+    let ahead = sym (r .ranks-before .ensures) ∙ c .if1 .taken in
+    (g .few, gap-stop g (l .loop-test .taken) (y .place-at .result) (y .place-at .ensures) ahead)
 
 mul-dist : tie.Need-mul-dist Inv-loop μ-loop
 mul-dist c = search needs
@@ -67,10 +71,11 @@ loop-less c = search needs
 
 loop-again : tie.Need-loop-again Inv-loop μ-loop
 loop-again c =
-    let y = c .before .before in
-    let behind = sym (c .before .ranks-before .ensures) ∙ c .if1 .left in
-    let test = y .before .before .before .before in
-    gap-turn (test .before .loop .inv) (test .loop-test .taken) (y .place-at .result) (y .place-at .ensures) behind
+    let l : tie.In-loop Inv-loop μ-loop = search in
+    let y : tie.After-place-at Inv-loop μ-loop = search in
+    let r : tie.After-ranks-before Inv-loop μ-loop = search in
+    let behind = sym (r .ranks-before .ensures) ∙ c .if1 .left in
+    gap-turn (l .before .loop .inv) (l .loop-test .taken) (y .place-at .result) (y .place-at .ensures) behind
 
 same-length-4 : tie.Need-same-length-4 Inv-loop μ-loop
 same-length-4 c = search needs

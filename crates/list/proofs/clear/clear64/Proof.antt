@@ -1,8 +1,8 @@
 use Prim.Native.Nat.{_-_}
 use borrow.Author.Needs.{needs}
-use Rattle.places.proofs.Clearing.{Clearing, clearing-starts, clearing-turn, clearing-done}
-use Rattle.places.proofs.clear.clear32.Statement.{statement}
-use Rattle.places.proofs.clear.clear32.Tie as tie
+use Rattle.list.proofs.Clearing.{Clearing, clearing-starts, clearing-turn, clearing-done}
+use Rattle.list.proofs.clear.clear64.Statement.{statement}
+use Rattle.list.proofs.clear.clear64.Tie as tie
 
 abbrev Inv-loop : tie.InvT-loop
 Inv-loop d₀ n i₀ d i = Clearing d₀ n d i
@@ -34,8 +34,8 @@ same-length c = search needs
 returns : tie.Need-returns Inv-loop μ-loop
 returns c = clearing-done (c .before .loop .inv) (c .loop-test .left)
 
-pub clear32-spec : {M : Type 1} → statement M
-clear32-spec =
+pub clear64-spec : {M : Type 1} → statement M
+clear64-spec =
     tie.close
     (tie.spec
     Inv-loop

@@ -1,8 +1,8 @@
 use Prim.Native.Nat.{_-_}
 use borrow.Author.Needs.{needs}
-use Rattle.places.proofs.Clearing.{Clearing, clearing-starts, clearing-turn, clearing-done}
-use Rattle.places.proofs.clear.clear64.Statement.{statement}
-use Rattle.places.proofs.clear.clear64.Tie as tie
+use Rattle.list.proofs.Clearing.{Clearing, clearing-starts, clearing-turn, clearing-done}
+use Rattle.list.proofs.clear.clear8.Statement.{statement}
+use Rattle.list.proofs.clear.clear8.Tie as tie
 
 abbrev Inv-loop : tie.InvT-loop
 Inv-loop d₀ n i₀ d i = Clearing d₀ n d i
@@ -12,9 +12,6 @@ abbrev μ-loop : tie.MeasureT-loop
 
 loop-holds : tie.Need-loop-holds Inv-loop μ-loop
 loop-holds c = clearing-starts (c .args .d .now) (c .args .n) (c .pre)
-
-mul-d : tie.Need-mul-d Inv-loop μ-loop
-mul-d c = search needs
 
 slice-write-d : tie.Need-slice-write-d Inv-loop μ-loop
 slice-write-d c = search needs
@@ -34,14 +31,13 @@ same-length c = search needs
 returns : tie.Need-returns Inv-loop μ-loop
 returns c = clearing-done (c .before .loop .inv) (c .loop-test .left)
 
-pub clear64-spec : {M : Type 1} → statement M
-clear64-spec =
+pub clear8-spec : {M : Type 1} → statement M
+clear8-spec =
     tie.close
     (tie.spec
     Inv-loop
     μ-loop
     loop-holds
-    mul-d
     slice-write-d
     add-i
     loop-less

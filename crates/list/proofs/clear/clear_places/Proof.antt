@@ -1,0 +1,54 @@
+use native.Mathlib.Omega.{arith}
+use borrow.Author.Needs.{needs}
+use Rattle.list.specs.Lists.{lists}
+use Rattle.list.proofs.Padding.{clear-lays}
+use Rattle.list.proofs.clear.clear_places.Statement.{statement}
+use Rattle.list.proofs.clear.clear_places.Tie as tie
+use Rattle.list.proofs.clear.clear32.Reads as clear32-reads
+use Rattle.list.proofs.clear.clear64.Reads as clear64-reads
+
+-- src/clear.rt:48:5
+clear64-requires : tie.Need-clear64-requires
+clear64-requires c κs = search needs
+
+-- src/clear.rt:49:5
+clear32-requires : tie.Need-clear32-requires
+clear32-requires c κs = search needs
+
+-- src/clear.rt:50:5
+clear32-requires-2 : tie.Need-clear32-requires-2
+clear32-requires-2 c κs = search needs
+
+-- src/clear.rt:43:1
+same-length : tie.Need-same-length
+same-length c = search needs
+
+-- src/clear.rt:43:1
+same-length-2 : tie.Need-same-length-2
+same-length-2 c = search needs
+
+-- src/clear.rt:43:1
+same-length-3 : tie.Need-same-length-3
+same-length-3 c = search needs
+
+-- src/clear.rt:43:1
+returns : tie.Need-returns
+returns c =
+    let a : tie.After-clear64 = search in
+    let b : tie.After-clear32 = search in
+    let d : tie.After-clear322 = search in
+    let s : tie.Start = search in
+    let o = lists (s .args .dist .now) (s .args .site .now) (s .args .cue .now) in
+    rw (a .clear64 .ensures, b .clear32 .ensures, d .clear322 .ensures) (clear-lays o (s .args .n))
+
+pub clear-places-spec : {M : Type 1} → statement M
+clear-places-spec =
+    tie.close
+    (tie.spec
+    clear64-requires
+    clear32-requires
+    clear32-requires-2
+    same-length
+    same-length-2
+    same-length-3
+    returns)
