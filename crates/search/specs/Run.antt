@@ -117,6 +117,14 @@ module _ {G : Geometry} (E : Directory G) where
 
 -- ---- the run
 
+-- a stop's list before those of the later stops, unless it is refused
+unfoldable pub follow : Run (List Place) → Run (List (List Place)) → Run (List (List Place))
+follow stop rest = go (stop .outcome)
+  where
+    go : Outcome (List Place) → Run (List (List Place))
+    go (accepted l) = record { openings = rest .openings; outcome = andThen (rest .outcome) (λ ls. accepted (l ∷ ls)) }
+    go (refused number block) = record { openings = stop .openings; outcome = refused number block }
+
 module _ {G : Geometry} (E : Directory G) (k : ℕ) where
   open Geometry G using (Stop)
   open Directory E using (tiles)
@@ -137,14 +145,6 @@ module _ {G : Geometry} (E : Directory G) (k : ℕ) where
       let more = opened ++ t ∷ [] in
       let next = cond (member t opened) (serve read p ts opened) (opening G (read t) more (serve read p ts more)) in
       cond (enough p t (placesOf G p (contents G read) opened)) (answer read p opened) next
-
-  -- a stop's list before those of the later stops, unless it is refused
-  unfoldable pub follow : Run (List Place) → Run (List (List Place)) → Run (List (List Place))
-  follow stop rest = go (stop .outcome)
-    where
-      go : Outcome (List Place) → Run (List (List Place))
-      go (accepted l) = record { openings = rest .openings; outcome = andThen (rest .outcome) (λ ls. accepted (l ∷ ls)) }
-      go (refused number block) = record { openings = stop .openings; outcome = refused number block }
 
   -- "Stops are taken in turn", each over the tiles of its queue.
   unfoldable pub run : (Stop → List ℕ) → Reading G → List Stop → List ℕ → Run (List (List Place))
