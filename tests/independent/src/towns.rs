@@ -9,13 +9,19 @@ pub enum Sort {
     Dense,
     /// Small boxes far apart, with few sites.
     Sparse,
+    /// The same over all that the limits allow.
+    FarApart,
     /// Boxes of a few centimetres that overlap: many equal distances.
     Ties,
+    /// Boxes and sites on a lattice of LATTICE: many equal distances, all of them large.
+    Lattice,
     /// Boxes of one point.
     Points,
-    /// A grid with few tiles that are not empty.
+    /// A grid, or boxes anywhere, with few tiles that are not empty.
     MostlyEmpty,
     AllEmpty,
+    /// At most 36 sites in all: places stay unused where k is larger.
+    FewSites,
     /// Boxes of any size over each other.
     Overlapping,
     /// Boxes far larger than what their sites take up.
@@ -28,19 +34,24 @@ pub enum Sort {
     Row,
 }
 
-pub const SORTS: [Sort; 11] = [
+pub const SORTS: [Sort; 14] = [
     Sort::Dense,
     Sort::Sparse,
+    Sort::FarApart,
     Sort::Ties,
+    Sort::Lattice,
     Sort::Points,
     Sort::MostlyEmpty,
     Sort::AllEmpty,
+    Sort::FewSites,
     Sort::Overlapping,
     Sort::Wide,
     Sort::Alike,
     Sort::Extreme,
     Sort::Row,
 ];
+
+const LATTICE: i32 = 100;
 
 /// Any cue, 0 and the largest among them.
 fn cue(rng: &mut Rng) -> u32 {
@@ -91,6 +102,18 @@ fn cluster(entry: &Entry, rng: &mut Rng) -> Vec<Site> {
     filling(&Entry { bounds: small, count: entry.count }, rng)
 }
 
+/// Sites on the lattice, in a box whose ends are.
+fn on_lattice(entry: &Entry, rng: &mut Rng) -> Vec<Site> {
+    let mut sites = filling(entry, rng);
+    sites.iter_mut().for_each(|site| site.at = site.at.map(lattice));
+    sites
+}
+
+/// The multiple of LATTICE at or below a coordinate.
+fn lattice(coordinate: i32) -> i32 {
+    coordinate.div_euclid(LATTICE) * LATTICE
+}
+
 fn cell(tile: usize, columns: usize, side: i32, corner: Point) -> Box2 {
     let low = [corner[0] + (tile % columns) as i32 * side, corner[1] + (tile / columns) as i32 * side];
     [[low[0], low[0] + side], [low[1], low[1] + side]]
@@ -101,6 +124,8 @@ pub fn town(sort: Sort, tiles: usize, rng: &mut Rng) -> Town {
     let side = rng.pick(&[3, 50, 1_000, 20_000]);
     let corner = [rng.range(-300_000, 100_000), rng.range(-300_000, 100_000)];
     let same: Box2 = [around(rng.range(-500, 500), rng.range(0, 300)), around(rng.range(-500, 500), rng.range(0, 300))];
+    let spread = rng.pick(&[10, 200]);
+    let in_grid = rng.chance(2);
     let mut row: Vec<usize> = (0..tiles).collect();
     for i in (1..tiles).rev() {
         row.swap(i, rng.below(i + 1));
@@ -113,18 +138,35 @@ pub fn town(sort: Sort, tiles: usize, rng: &mut Rng) -> Town {
                     let at = [rng.range(-100_000, 100_000), rng.range(-100_000, 100_000)];
                     ([around(at[0], rng.range(0, 900)), around(at[1], rng.range(0, 900))], rng.below(4))
                 }
+                Sort::FarApart => {
+                    let at = [rng.range(-LIMIT, LIMIT), rng.range(-LIMIT, LIMIT)];
+                    ([around(at[0], rng.range(0, 25_000)), around(at[1], rng.range(0, 25_000))], rng.below(4))
+                }
                 Sort::Ties => {
                     let ends = [-4, -3, -2, -1, 0, 1, 2, 3, 4];
                     ([range_among(&ends, rng), range_among(&ends, rng)], rng.below(9))
                 }
+                Sort::Lattice => {
+                    let low = [rng.range(-10, 4), rng.range(-10, 4)];
+                    let bounds = low.map(|low| [low * LATTICE, (low + rng.range(0, 2)) * LATTICE]);
+                    (bounds, rng.below(41))
+                }
                 Sort::Points => {
-                    let at = [rng.range(0, 10), rng.range(0, 10)];
+                    let at = [rng.range(0, spread), rng.range(0, spread)];
                     ([[at[0], at[0]], [at[1], at[1]]], rng.pick(&[0, 1, 1, 2, 3, 40]))
                 }
                 Sort::MostlyEmpty => {
-                    (cell(tile, columns, side, corner), if rng.chance(5) { 1 + rng.below(40) } else { 0 })
+                    let at = [rng.range(-100_000, 100_000), rng.range(-100_000, 100_000)];
+                    let anywhere = [around(at[0], rng.range(0, 10_000)), around(at[1], rng.range(0, 10_000))];
+                    let bounds = if in_grid { cell(tile, columns, side, corner) } else { anywhere };
+                    (bounds, if rng.chance(5) { 1 + rng.below(40) } else { 0 })
                 }
                 Sort::AllEmpty => (cell(tile, columns, side, corner), 0),
+                Sort::FewSites => {
+                    let at = [rng.range(-500_000, 500_000), rng.range(-500_000, 500_000)];
+                    let bounds = [around(at[0], rng.range(0, 5_000)), around(at[1], rng.range(0, 5_000))];
+                    (bounds, if row[tile] < 9 { rng.below(5) } else { 0 })
+                }
                 Sort::Overlapping => {
                     let at = [rng.range(-50_000, 50_000), rng.range(-50_000, 50_000)];
                     ([around(at[0], rng.range(0, 20_000)), around(at[1], rng.range(0, 20_000))], rng.below(41))
@@ -151,6 +193,7 @@ pub fn town(sort: Sort, tiles: usize, rng: &mut Rng) -> Town {
         .iter()
         .map(|entry| match sort {
             Sort::Wide => cluster(entry, rng),
+            Sort::Lattice => on_lattice(entry, rng),
             _ => filling(entry, rng),
         })
         .collect();
@@ -161,12 +204,12 @@ fn limited(coordinate: i64) -> i32 {
     coordinate.clamp(-LIMIT as i64, LIMIT as i64) as i32
 }
 
-/// n stops: close together, along a line, anywhere, all the same, at the limits, in boxes, on sites.
+/// n stops: close together, along a line, anywhere, all the same, at the limits, in boxes, on the lattice, on sites.
 pub fn stops(town: &Town, n: usize, rng: &mut Rng) -> Vec<Point> {
     let in_some_box = |rng: &mut Rng| point_in(town.entries[rng.below(town.entries.len())].bounds, rng);
     let (from, to) = (in_some_box(rng), in_some_box(rng));
     let reach = rng.pick(&[1, 5, 100, 5_000]);
-    let sort = rng.below(8);
+    let sort = rng.below(9);
     (0..n)
         .map(|i| match sort {
             0 | 1 => [0, 1].map(|axis| limited(from[axis] as i64 + rng.range(-reach, reach) as i64)),
@@ -181,6 +224,7 @@ pub fn stops(town: &Town, n: usize, rng: &mut Rng) -> Vec<Point> {
             4 => from,
             5 => [rng.pick(&[-LIMIT, 0, LIMIT]), rng.pick(&[-LIMIT, 0, LIMIT])],
             6 => in_some_box(rng),
+            7 => in_some_box(rng).map(lattice),
             _ => {
                 let sites = &town.sites[rng.below(town.sites.len())];
                 match sites.is_empty() {

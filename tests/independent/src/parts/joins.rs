@@ -22,6 +22,14 @@ pub fn any_k(rng: &mut Rng) -> u32 {
     }
 }
 
+/// A k for a town of this sort: one that leaves places unused where there are few sites.
+fn k_for(sort: Sort, rng: &mut Rng) -> u32 {
+    match sort {
+        Sort::FewSites => 40 + rng.below(25) as u32,
+        _ => any_k(rng),
+    }
+}
+
 /// The list of stop i in the lent slices.
 pub fn list(lent: &Lent, i: usize, k: usize) -> Vec<Place> {
     (i * k..(i + 1) * k).map(|at| Place { d: lent.dist[at], site: lent.site[at], cue: lent.cue[at] }).collect()
@@ -48,6 +56,9 @@ struct Seen {
     opened: usize,
     struck: usize,
     neither: usize,
+    /// Places left over, and places at the distance of the one before them.
+    unused: usize,
+    tied: usize,
 }
 
 fn answered(
@@ -73,6 +84,10 @@ fn answered(
     seen.opened += run.joined.opened as usize;
     seen.struck += run.joined.struck as usize;
     seen.neither += tiles - (run.joined.opened + run.joined.struck) as usize;
+    let (k, used) = (k as usize, run.joined.used as usize);
+    seen.unused += n * (k - used);
+    seen.tied +=
+        (0..n).map(|i| list(&lent, i, k)[..used].windows(2).filter(|p| p[0].d == p[1].d).count()).sum::<usize>();
     Ok(())
 }
 
@@ -91,7 +106,8 @@ fn many(rng: &mut Rng, tally: &mut Tally) -> Result<Seen, Failure> {
                 1 => 2 + rng.below(3),
                 _ => 1 + rng.below(12),
             };
-            answered(sort, tiles, n, any_k(rng), rng, tally, &mut seen)?;
+            let k = k_for(sort, rng);
+            answered(sort, tiles, n, k, rng, tally, &mut seen)?;
         }
     }
     // Every n on small towns, every k on middling ones.
@@ -234,12 +250,14 @@ pub fn run(rng: &mut Rng, tally: &mut Tally) -> Result<String, Failure> {
     let refused = together(rng, tally)?;
     Ok(format!(
         "{} runs with {} stops against the literal run and the full search ({} tiles opened, {} struck, \
-         {} neither); {} at the ends of k, n and lengths; {} refusals by one fault or several at once",
+         {} neither; {} places unused, {} tied with the one before); {} at the ends of k, n and lengths; {} refusals by one fault or several at once",
         count(seen.joins),
         count(seen.stops),
         count(seen.opened),
         count(seen.struck),
         count(seen.neither),
+        count(seen.unused),
+        count(seen.tied),
         count(ends),
         count(refused)
     ))
