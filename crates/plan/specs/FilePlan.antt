@@ -1,40 +1,46 @@
--- A file whose directory is accepted, as the search sees it: document 01's geometry, the directory's boxes and counts, and
--- what opening a tile gives.
-use Prim.Native.Nat.{ℕ, _<_, _^_}
+-- A file whose directory is accepted, as the search sees it.
+--
+--   plane        document 01's geometry
+--   entries      the directory's boxes and counts
+--   openingOf    what opening a tile gives
+--   townOf       the file's own town
+use Prim.Native.Nat.{ℕ, _<_}
 use mathlib.Core.Bool.{true}
 use mathlib.Core.List.{List}
 use mathlib.Core.Path.{_≡_}
 use lib.IntN.{ℤ}
 use Rattle.base.specs.Refusal.{Outcome, accepted, andThen}
 use Rattle.blocks.specs.Directory.{boxAt, countAt}
+use Rattle.blocks.specs.declared.header.Header.{Header}
+use Rattle.codec.specs.Number.{limit32}
 use Rattle.geometry.specs.Box.{inside}
 use Rattle.geometry.specs.Distance.{D, minDist}
-use Rattle.margin.specs.Margin.{closer}
-use Rattle.search.specs.Plan.{Plan}
+use Rattle.geometry.specs.Margin.{closer}
+use Rattle.search.specs.Plan.{Geometry, Directory}
 use Rattle.tiles.specs.Tile.{sitePoint, openTile, sitesAt}
 use Rattle.tiles.specs.declared.tile.Site.{Site}
 
--- file f with T = tiles, from the box o, for k places; "a cue (unsigned 32 bits, any number)"
-abbrev pub planOf : List ℕ → ℕ → List (List ℤ) → ℕ → Plan
-planOf f tiles o k = record {
+-- points by their coordinates; "a cue (unsigned 32 bits, any number)"
+abbrev pub plane : Geometry
+plane = record {
   Site = Site;
   Stop = List ℤ;
   Box = List (List ℤ);
   cue = λ s. s .cue;
-  Inside = λ b s. (inside b (sitePoint s) ≡ true) × (s .cue < 2 ^ 32);
+  Inside = λ b s. (inside b (sitePoint s) ≡ true) × (s .cue < limit32);
+  Within = λ b p. inside b p ≡ true;
   D = λ p s. D p (sitePoint s);
   minDist = λ p b. minDist b p;
-  closer = closer o;
-  tiles = tiles;
-  box = boxAt f;
-  size = countAt f;
-  k = k;
+  closer = closer;
 }
 
--- "opened, which checks its block": its sites by slot, or the refusal
-unfoldable pub openingOf : List ℕ → ℕ → ℕ → Outcome (List Site)
-openingOf f tiles t = andThen (openTile f tiles t) (λ _. accepted (sitesAt f tiles t))
+abbrev pub entries : List ℕ → Header → Directory plane
+entries f h = record { tiles = h .tiles; box = boxAt f; size = countAt f }
 
--- the file's own town: what its tiles hold, opened or not
-abbrev pub townOf : List ℕ → ℕ → ℕ → List Site
-townOf f tiles t = sitesAt f tiles t
+-- "opened, which checks its block": its sites by slot, or the refusal
+unfoldable pub openingOf : List ℕ → Header → ℕ → Outcome (List Site)
+openingOf f h t = andThen (openTile f h t) (λ _. accepted (sitesAt f h t))
+
+-- what the tiles of the file hold, opened or not
+abbrev pub townOf : List ℕ → Header → ℕ → List Site
+townOf f h t = sitesAt f h t

@@ -1,2 +1,2 @@
 pub mod FilePlan
-pub mod Stops
+pub mod Inner

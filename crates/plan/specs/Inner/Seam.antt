@@ -1,0 +1,50 @@
+-- What the calls of the seam ask and give.
+use Prim.Native.Nat.{ℕ, _<_, _≤_}
+use mathlib.Core.Bool.{true}
+use mathlib.Core.List.{List}
+use mathlib.Core.Path.{_≡_}
+use lib.IntN.{ℤ}
+use lib.ListN.{length}
+use Rattle.base.specs.Refusal.{accepted}
+use Rattle.blocks.specs.Directory.{directory, boxAt}
+use Rattle.blocks.specs.Layout.{blockSize, maxSites}
+use Rattle.blocks.specs.declared.header.Header.{Header}
+use Rattle.codec.specs.Tabulate.{tabulate}
+use Rattle.geometry.specs.Box.{validPoint}
+use Rattle.geometry.specs.Distance.{D, maxDist}
+use Rattle.search.specs.declared.Place.{Place}
+use Rattle.tiles.specs.Tile.{sitePoint, siteIn, openTile}
+use Rattle.tiles.specs.declared.tile.Site.{Site}
+use Rattle.plan.specs.FilePlan.{openingOf, townOf}
+
+-- a tile of a file whose directory is accepted
+pub record TileOf (f : List ℕ) (h : Header) (t : ℕ) : Type 0 where
+  pub dir : directory f ≡ accepted h
+  pub below : t < h .tiles
+
+-- a stop within the limits
+abbrev pub ValidStop : List ℤ → Type 0
+ValidStop p = validPoint p ≡ true
+
+-- far distance of a tile from a stop
+unfoldable pub far : List ℕ → List ℤ → ℕ → ℕ
+far f p t = maxDist (boxAt f t) p
+
+-- a tile that opens
+abbrev pub Opens : List ℕ → Header → ℕ → Type 0
+Opens f h t = openingOf f h t ≡ accepted (townOf f h t)
+
+-- the place of a site under a number
+abbrev pub sitePlace : List ℤ → ℕ → Site → Place
+sitePlace p a s = record { dist = D p (sitePoint s); site = a; cue = s .cue }
+
+-- a block with n sites at valid points
+pub record Sited (s : List ℕ) (n : ℕ) : Type 0 where
+  pub whole : length s ≡ blockSize
+  pub few : n ≤ maxSites
+  pub valid : (slot : ℕ) → slot < n → validPoint (sitePoint (siteIn s slot)) ≡ true
+
+-- the block of a tile that opens, with n sites: those of the file's own town
+pub record BlockOf (f : List ℕ) (h : Header) (t : ℕ) (s : List ℕ) (n : ℕ) : Type 0 where
+  pub sited : Sited s n
+  pub own : tabulate (siteIn s) 0 n ≡ townOf f h t
