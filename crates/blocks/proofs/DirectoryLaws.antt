@@ -2,7 +2,7 @@
 use Prim.Native.Nat.{ℕ, zero, suc, _+_, _-_, _*_, _/_, _%_, _<_, _≤_}
 use mathlib.Core.Bool.{true}
 use mathlib.Core.List.{List}
-use mathlib.Core.Path.{_≡_, refl, sym, _∙_}
+use mathlib.Core.Path.{_≡_, refl, sym, ap, _∙_}
 use native.Mathlib.Omega.{arith}
 use lib.ListN.{length}
 use borrow.Author.Tests.{leb-true, le-leb, eqb-true, eq-eqb}
@@ -10,36 +10,39 @@ use Rattle.base.specs.Refusal.{accepted, andThen, #length}
 use Rattle.geometry.specs.Box.{validBox}
 use Rattle.base.proofs.Outcomes.{accepted-injective, require-accepted, andThen-accepted}
 use Rattle.base.proofs.Tests.{and-both}
+use Rattle.codec.specs.Number.{limit16}
 use Rattle.codec.proofs.Every.{every-at, every-holds}
 use Rattle.blocks.specs.Accepted.{GoodTiles, GoodDirectoryBlock, GoodLength, GoodDirectory}
-use Rattle.blocks.specs.Block.{blockAt, entriesIn, tilesIn, blockHead}
+use Rattle.blocks.specs.Block.{blockAt, entriesIn, headerIn, blockHead}
 use Rattle.blocks.specs.Directory.{directoryBlocks, entriesDue, entryBox, entryCount, tilesDue, entryValid}
 use Rattle.blocks.specs.Directory.{directoryBlock, directoryBlockAt, lengthDue, directoryRest, directory, boxAt}
 use Rattle.blocks.specs.Directory.{countAt}
 use Rattle.blocks.specs.Layout.{blockSize, maxLength, directoryKind, entriesPerBlock, maxSites, maxTiles}
 use Rattle.blocks.specs.Outcome.{inTurn}
+use Rattle.blocks.specs.declared.header.Header.{Header}
 use Rattle.blocks.proofs.BlockLaws.{head-good, head-enough}
 use Rattle.blocks.proofs.OutcomeLaws.{turns-each, turns-all}
 
 -- ---- test 6
-pub tiles-good : (t first blocks : ℕ) → tilesDue t first blocks ≡ true → (t ≡ first) × GoodTiles t blocks
+pub tiles-good : (h first : Header) (blocks : ℕ) → tilesDue h first blocks ≡ true → (h ≡ first) × GoodTiles h blocks
 unfolding tilesDue
-tiles-good t first blocks e =
-    let h = and-both _ _ e in
-    let l = and-both _ _ (h .0) in
-    let r = and-both _ _ (h .1) in (
-      eqb-true t first (r .0),
+tiles-good h first blocks e =
+    let k = and-both _ _ e in
+    let l = and-both _ _ (k .0) in
+    let r = and-both _ _ (k .1) in (
+      ap (λ t. record { tiles = t }) (eqb-true (h .tiles) (first .tiles) (r .0)),
       record {
-        least = leb-true 1 t (l .0);
-        most = leb-true t maxTiles (l .1);
-        sum = eqb-true (directoryBlocks t + t) blocks (r .1);
+        least = leb-true 1 (h .tiles) (l .0);
+        most = leb-true (h .tiles) maxTiles (l .1);
+        sum = eqb-true (directoryBlocks h + h .tiles) blocks (r .1);
       },
     )
 
-pub tiles-enough : (t blocks : ℕ) → GoodTiles t blocks → tilesDue t t blocks ≡ true
+pub tiles-enough : (h : Header) (blocks : ℕ) → GoodTiles h blocks → tilesDue h h blocks ≡ true
 unfolding tilesDue
-tiles-enough t blocks g =
-    rw (le-leb 1 t (g .least), le-leb t maxTiles (g .most), eq-eqb t t refl, eq-eqb (directoryBlocks t + t) blocks (g .sum))
+tiles-enough h blocks g =
+    let t = h .tiles in
+    rw (le-leb 1 t (g .least), le-leb t maxTiles (g .most), eq-eqb t t refl, eq-eqb (directoryBlocks h + t) blocks (g .sum))
 
 -- ---- test 1
 pub length-good : (n : ℕ) → lengthDue n ≡ true → GoodLength n
@@ -63,23 +66,23 @@ module _ (s : List ℕ) (p : ℕ) where
   unfolding entryValid
   entry-enough i b c = rw (b, le-leb (entryCount s i) maxSites c)
 
-  pub block-good : (first blocks : ℕ) {t : ℕ} → directoryBlock s p first blocks ≡ accepted t → (t ≡ first)
-      × GoodTiles t blocks × GoodDirectoryBlock s p t
+  pub block-good : (first : Header) (blocks : ℕ) {h : Header} → directoryBlock s p first blocks ≡ accepted h → (h ≡ first)
+      × GoodTiles h blocks × GoodDirectoryBlock s p h
   unfolding directoryBlock
-  block-good first blocks {t} e =
-      let h = andThen-accepted (blockHead directoryKind s p) _ e in
-      let a = require-accepted _ _ _ _ (h .2) in
+  block-good first blocks {h} e =
+      let k = andThen-accepted (blockHead directoryKind s p) _ e in
+      let a = require-accepted _ _ _ _ (k .2) in
       let b = require-accepted _ _ _ _ (a .1) in
       let c = require-accepted _ _ _ _ (b .1) in
       let d = require-accepted _ _ _ _ (c .1) in
-      let q : tilesIn s ≡ t = accepted-injective (d .1) in
-      let n = entriesDue (tilesIn s) p in
-      let w = tiles-good (tilesIn s) first blocks (a .0) in
+      let q : headerIn s ≡ h = accepted-injective (d .1) in
+      let n = entriesDue (headerIn s) p in
+      let w = tiles-good (headerIn s) first blocks (a .0) in
       let v : (i : ℕ) → i < n → (validBox (entryBox s i) ≡ true) × (entryCount s i ≤ maxSites) =
       λ i l. entry-good i (every-at (entryValid s) n i (d .0) l) in
-      let g : GoodDirectoryBlock s p (tilesIn s) = record {
-        head = head-good directoryKind s p (h .1);
-        tiles = refl;
+      let g : GoodDirectoryBlock s p (headerIn s) = record {
+        head = head-good directoryKind s p (k .1);
+        header = refl;
         entries = eqb-true (entriesIn s) n (b .0);
         padding = c .0;
         boxes = λ i l. v i l .0;
@@ -87,50 +90,52 @@ module _ (s : List ℕ) (p : ℕ) where
       } in
       (sym q ∙ w .0, rw q at (w .1), rw q at g)
 
-  pub block-enough : (t blocks : ℕ) → GoodTiles t blocks → GoodDirectoryBlock s p t → directoryBlock s p t blocks ≡ accepted t
+  pub block-enough : (h : Header) (blocks : ℕ) → GoodTiles h blocks → GoodDirectoryBlock s p h →
+      directoryBlock s p h blocks ≡ accepted h
   unfolding directoryBlock
-  block-enough t blocks w g =
-      let n = entriesDue t p in
+  block-enough h blocks w g =
+      let n = entriesDue h p in
       let v = every-holds (entryValid s) n (λ i l. entry-enough i (g .boxes i l) (g .counts i l)) in
       rw (
         head-enough directoryKind s p (g .head),
-        g .tiles,
-        tiles-enough t blocks w,
+        g .header,
+        tiles-enough h blocks w,
         eq-eqb (entriesIn s) n (g .entries),
         g .padding,
         v,
       )
 
 -- ---- how many directory blocks there are, and which entry is a tile's
-pub some-block : (t : ℕ) → 1 ≤ t → 1 ≤ directoryBlocks t
-unfolding directoryBlocks
-some-block t h = omega arith
+module _ (h : Header) where
+  pub some-block : 1 ≤ h .tiles → 1 ≤ directoryBlocks h
+  unfolding directoryBlocks
+  some-block l = omega arith
 
-pub entry-block : (t i : ℕ) → i < t → i / entriesPerBlock < directoryBlocks t
-unfolding directoryBlocks
-entry-block t i h = omega arith
+  pub entry-block : (t : ℕ) → t < h .tiles → t / entriesPerBlock < directoryBlocks h
+  unfolding directoryBlocks
+  entry-block t l = omega arith
 
-pub entry-due : (t i : ℕ) → i < t → i % entriesPerBlock < entriesDue t (i / entriesPerBlock)
-unfolding entriesDue
-entry-due t i h = omega arith
+  pub entry-due : (t : ℕ) → t < h .tiles → t % entriesPerBlock < entriesDue h (t / entriesPerBlock)
+  unfolding entriesDue
+  entry-due t l = omega arith
 
 -- ---- the directory of a file
 module _ (f : List ℕ) where
-  pub block-at-good : (p : ℕ) {t : ℕ} → directoryBlockAt f p ≡ accepted t →
-      (t ≡ tilesIn (blockAt f 0))
-      × GoodTiles t (length f / blockSize) × GoodDirectoryBlock (blockAt f p) p t
+  pub block-at-good : (p : ℕ) {h : Header} → directoryBlockAt f p ≡ accepted h →
+      (h ≡ headerIn (blockAt f 0))
+      × GoodTiles h (length f / blockSize) × GoodDirectoryBlock (blockAt f p) p h
   unfolding directoryBlockAt
-  block-at-good p e = block-good (blockAt f p) p (tilesIn (blockAt f 0)) (length f / blockSize) e
+  block-at-good p e = block-good (blockAt f p) p (headerIn (blockAt f 0)) (length f / blockSize) e
 
-  pub directory-good : {t : ℕ} → directory f ≡ accepted t → GoodDirectory f t
+  pub directory-good : {h : Header} → directory f ≡ accepted h → GoodDirectory f h
   unfolding directory directoryRest
-  directory-good {t} e =
+  directory-good {h} e =
       let l = require-accepted (lengthDue (length f)) #length 0 (andThen (directoryBlockAt f 0) (directoryRest f)) e in
-      let h = andThen-accepted (directoryBlockAt f 0) (directoryRest f) (l .1) in
-      let a = h .0 in
-      let r = andThen-accepted (inTurn (directoryBlockAt f) 1 (directoryBlocks a - 1)) (λ _. accepted a) (h .2) in
-      let q : a ≡ t = accepted-injective (r .2) in
-      let z = block-at-good 0 (h .1) in
+      let k = andThen-accepted (directoryBlockAt f 0) (directoryRest f) (l .1) in
+      let a = k .0 in
+      let r = andThen-accepted (inTurn (directoryBlockAt f) 1 (directoryBlocks a - 1)) (λ _. accepted a) (k .2) in
+      let q : a ≡ h = accepted-injective (r .2) in
+      let z = block-at-good 0 (k .1) in
       let later : (i : ℕ) → i < directoryBlocks a - 1 → GoodDirectoryBlock (blockAt f (1 + i)) (1 + i) a =
       λ i k. let x = turns-each (directoryBlockAt f) 1 (directoryBlocks a - 1) (r .1) i k in
       let y = block-at-good (1 + i) (x .1) in
@@ -143,44 +148,45 @@ module _ (f : List ℕ) where
       } in
       rw q at g
     where
-      by-first : (a : ℕ) → GoodDirectoryBlock (blockAt f 0) 0 a →
+      by-first : (a : Header) → GoodDirectoryBlock (blockAt f 0) 0 a →
           ((i : ℕ) → i < directoryBlocks a - 1 → GoodDirectoryBlock (blockAt f (1 + i)) (1 + i) a) → (p : ℕ) →
           p < directoryBlocks a → GoodDirectoryBlock (blockAt f p) p a
       by-first a z l zero k = z
       by-first a z l (suc p) k = let e : 1 + p ≡ suc p = omega arith in rw e at (l p (omega arith))
 
-  pub directory-enough : (t : ℕ) → GoodDirectory f t → directory f ≡ accepted t
+  pub directory-enough : (h : Header) → GoodDirectory f h → directory f ≡ accepted h
   unfolding directory directoryRest directoryBlockAt
-  directory-enough t g =
+  directory-enough h g =
       let s = blockAt f 0 in
       let blocks = length f / blockSize in
-      let z = g .blocks 0 (some-block t (g .tiles .least)) in
-      let q : tilesIn s ≡ t = z .tiles in
-      let each : (p : ℕ) → p < directoryBlocks t → directoryBlock (blockAt f p) p (tilesIn s) blocks ≡ accepted t =
-      λ p k. rw q (block-enough (blockAt f p) p t blocks (g .tiles) (g .blocks p k)) in
-      let rest = turns-all (λ p. directoryBlock (blockAt f p) p (tilesIn s) blocks) 1 (directoryBlocks t - 1)
-      (λ i k. (t, each (1 + i) (omega arith))) in
-      rw (length-enough (length f) (g .size), each 0 (some-block t (g .tiles .least)), rest)
+      let some = some-block h (g .tiles .least) in
+      let q : headerIn s ≡ h = g .blocks 0 some .header in
+      let each : (p : ℕ) → p < directoryBlocks h → directoryBlock (blockAt f p) p (headerIn s) blocks ≡ accepted h =
+      λ p k. rw q (block-enough (blockAt f p) p h blocks (g .tiles) (g .blocks p k)) in
+      let rest = turns-all (λ p. directoryBlock (blockAt f p) p (headerIn s) blocks) 1 (directoryBlocks h - 1)
+      (λ i k. (h, each (1 + i) (omega arith))) in
+      rw (length-enough (length f) (g .size), each 0 some, rest)
 
 -- what the code goes by once block 0 is accepted
-pub first-block : (f : List ℕ) (t : ℕ) {x : ℕ} → directoryBlockAt f 0 ≡ accepted x → t ≡ tilesIn (blockAt f 0) → (x ≡ t)
-    × (blockSize * directoryBlocks t ≤ length f) × (t < 65536)
-first-block f t {x} e q =
-    let h = block-at-good f 0 e in
-    let w : x ≡ t = h .0 ∙ sym q in
-    let g : GoodTiles t (length f / blockSize) = rw w at (h .1) in
+pub first-block : (f : List ℕ) (h : Header) {x : Header} → directoryBlockAt f 0 ≡ accepted x → h ≡ headerIn (blockAt f 0) →
+    (x ≡ h)
+    × (blockSize * directoryBlocks h ≤ length f) × (h .tiles < limit16)
+first-block f h {x} e q =
+    let k = block-at-good f 0 e in
+    let w : x ≡ h = k .0 ∙ sym q in
+    let g : GoodTiles h (length f / blockSize) = rw w at (k .1) in
     (w, omega (arith, g .sum), omega (arith, g .most))
 
-module _ {f : List ℕ} {t : ℕ} (g : GoodDirectory f t) where
+module _ {f : List ℕ} {h : Header} (g : GoodDirectory f h) where
   -- every block of the directory and of the tiles is in the file
-  pub block-fits : (p : ℕ) → p < directoryBlocks t + t → blockSize * p + blockSize ≤ length f
-  block-fits p h = omega (arith, g .tiles .sum)
+  pub block-fits : (p : ℕ) → p < directoryBlocks h + h .tiles → blockSize * p + blockSize ≤ length f
+  block-fits p l = omega (arith, g .tiles .sum)
 
-  module _ (i : ℕ) (h : i < t) where
-    pub box-valid : validBox (boxAt f i) ≡ true
+  module _ (t : ℕ) (l : t < h .tiles) where
+    pub box-valid : validBox (boxAt f t) ≡ true
     unfolding boxAt
-    box-valid = g .blocks (i / entriesPerBlock) (entry-block t i h) .boxes (i % entriesPerBlock) (entry-due t i h)
+    box-valid = g .blocks (t / entriesPerBlock) (entry-block h t l) .boxes (t % entriesPerBlock) (entry-due h t l)
 
-    pub count-small : countAt f i ≤ maxSites
+    pub count-small : countAt f t ≤ maxSites
     unfolding countAt
-    count-small = g .blocks (i / entriesPerBlock) (entry-block t i h) .counts (i % entriesPerBlock) (entry-due t i h)
+    count-small = g .blocks (t / entriesPerBlock) (entry-block h t l) .counts (t % entriesPerBlock) (entry-due h t l)

@@ -4,11 +4,8 @@ use mathlib.Core.Path.{_≡_, refl, sym, ap, _∙_}
 use native.Mathlib.Nat.{add-zero, not-suc-le-zero}
 use native.Mathlib.Omega.{arith}
 use Rattle.base.specs.Refusal.{Outcome, accepted, refused}
-use Rattle.base.specs.declared.Refusal.{Refusal}
 use Rattle.base.proofs.Outcomes.{andThen-accepted}
-use Rattle.blocks.specs.Outcome.{answerOutcome, numberOutcome, inTurn}
-use Rattle.blocks.specs.declared.block.Answer.{Answer}
-use Rattle.blocks.specs.declared.block.Answer.the-variants.{Accepted, Refused}
+use Rattle.blocks.specs.Outcome.{numberOutcome, inTurn}
 
 module _ (n p : ℕ) {o : Outcome Unit} where
   pub number-accepted : numberOutcome n p ≡ o → n ≡ 0 → o ≡ accepted tt
@@ -69,9 +66,5 @@ turns-same test other p (suc n) h =
     rw (here, rest)
 
 -- an answer that was taken apart
-module _ {a : Answer} {o : Outcome ℕ} (e : answerOutcome a ≡ o) where
-  pub told-accepted : {n : ℕ} → a ≡ Accepted n → o ≡ accepted n
-  told-accepted q = sym e ∙ ap answerOutcome q
-
-  pub told-refused : {r : Refusal} → a ≡ Refused r → o ≡ refused (r .number) (r .block)
-  told-refused q = sym e ∙ ap answerOutcome q
+pub told : {A B : Type 0} (outcome : A → Outcome B) {a x : A} {o : Outcome B} → outcome a ≡ o → a ≡ x → o ≡ outcome x
+told outcome e q = sym e ∙ ap outcome q

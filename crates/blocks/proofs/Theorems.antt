@@ -13,12 +13,13 @@ use Rattle.geometry.specs.Box.{validBox}
 use Rattle.base.proofs.Outcomes.{andThen-same}
 use Rattle.base.proofs.Tests.{and-both}
 use Rattle.blocks.specs.Accepted.{GoodDirectory}
-use Rattle.blocks.specs.Block.{blockAt, tilesIn}
+use Rattle.blocks.specs.Block.{blockAt, headerIn}
 use Rattle.blocks.specs.Checksum.{sumsFrom, sums, checkAgrees}
 use Rattle.blocks.specs.Directory.{directoryBlocks, directoryBlockAt, lengthDue, directoryRest, directory, boxAt}
 use Rattle.blocks.specs.Directory.{countAt}
 use Rattle.blocks.specs.Layout.{blockSize, checkAt, entriesPerBlock, maxSites}
 use Rattle.blocks.specs.Same.{SameDirectory}
+use Rattle.blocks.specs.declared.header.Header.{Header}
 use Rattle.blocks.proofs.ChecksumLaws.{sums-small}
 use Rattle.blocks.proofs.DirectoryLaws as laws
 use Rattle.blocks.proofs.OutcomeLaws.{turns-same}
@@ -42,17 +43,17 @@ stored-255 s e =
       rw (eqb-true (getD s (checkAt + 1) 0) (sums s .c) (h .1)) (l .1),
     )
 
--- a directory is accepted, with T = t, exactly when its length and its blocks are good
-pub directory-exactly : (f : List ℕ) (t : ℕ) →
-    (directory f ≡ accepted t → GoodDirectory f t)
-    × (GoodDirectory f t → directory f ≡ accepted t)
-directory-exactly f t = (laws.directory-good f, laws.directory-enough f t)
+-- a directory is accepted, with the header h, exactly when its length and its blocks are good
+pub directory-exactly : (f : List ℕ) (h : Header) →
+    (directory f ≡ accepted h → GoodDirectory f h)
+    × (GoodDirectory f h → directory f ≡ accepted h)
+directory-exactly f h = (laws.directory-good f, laws.directory-enough f h)
 
 -- box and count of a tile of an accepted directory: "coordinate beyond limits, low above high, or count over 40" is refused
-pub entry-of-accepted : (f : List ℕ) (t i : ℕ) → directory f ≡ accepted t → i < t →
-    (validBox (boxAt f i) ≡ true)
-    × (countAt f i ≤ maxSites)
-entry-of-accepted f t i e h = let g = laws.directory-good f e in (laws.box-valid g i h, laws.count-small g i h)
+pub entry-of-accepted : (f : List ℕ) (h : Header) (t : ℕ) → directory f ≡ accepted h → t < h .tiles →
+    (validBox (boxAt f t) ≡ true)
+    × (countAt f t ≤ maxSites)
+entry-of-accepted f h t e l = let g = laws.directory-good f e in (laws.box-valid g t l, laws.count-small g t l)
 
 -- files of the same length, equal in every byte of a block, have the same block (the laws below compare blocks)
 pub same-bytes : (f g : List ℕ) (p : ℕ) → length g ≡ length f →
@@ -68,19 +69,19 @@ same-bytes f g p n h =
     (λ i k. let l : i < blockSize = omega (arith, size g) in byte g i l ∙ h i l ∙ sym (byte f i l))
 
 -- what the directory comes to depends on the file's length and on the directory's blocks alone
-module _ (f g : List ℕ) (first : blockAt g 0 ≡ blockAt f 0) (s : SameDirectory f g (tilesIn (blockAt f 0))) where
+module _ (f g : List ℕ) (first : blockAt g 0 ≡ blockAt f 0) (s : SameDirectory f g (headerIn (blockAt f 0))) where
   block-depends : (p : ℕ) → blockAt g p ≡ blockAt f p → directoryBlockAt g p ≡ directoryBlockAt f p
   unfolding directoryBlockAt
   block-depends p e = rw (e, first, s .size)
 
-  rest-depends : (t : ℕ) → directoryBlockAt f 0 ≡ accepted t → directoryRest g t ≡ directoryRest f t
+  rest-depends : (h : Header) → directoryBlockAt f 0 ≡ accepted h → directoryRest g h ≡ directoryRest f h
   unfolding directoryRest
-  rest-depends t e =
-      let h = laws.block-at-good f 0 e in
-      let m = laws.some-block t (h .1 .least) in
-      ap (λ o. andThen o (λ _. accepted t))
-      (turns-same (directoryBlockAt g) (directoryBlockAt f) 1 (directoryBlocks t - 1)
-      (λ i a b. block-depends i (s .blocks i (rw (← h .0) (omega arith)))))
+  rest-depends h e =
+      let k = laws.block-at-good f 0 e in
+      let m = laws.some-block h (k .1 .least) in
+      ap (λ o. andThen o (λ _. accepted h))
+      (turns-same (directoryBlockAt g) (directoryBlockAt f) 1 (directoryBlocks h - 1)
+      (λ i a b. block-depends i (s .blocks i (rw (← k .0) (omega arith)))))
 
   pub directory-depends : directory g ≡ directory f
   unfolding directory
@@ -91,15 +92,15 @@ module _ (f g : List ℕ) (first : blockAt g 0 ≡ blockAt f 0) (s : SameDirecto
       ∙ andThen-same (directoryBlockAt f 0) (directoryRest g) (directoryRest f) rest-depends)
 
 -- so does the entry of each of its tiles
-pub entry-depends : (f g : List ℕ) (t i : ℕ) → SameDirectory f g t → i < t → (boxAt g i ≡ boxAt f i)
-    × (countAt g i ≡ countAt f i)
+pub entry-depends : (f g : List ℕ) (h : Header) (t : ℕ) → SameDirectory f g h → t < h .tiles → (boxAt g t ≡ boxAt f t)
+    × (countAt g t ≡ countAt f t)
 unfolding boxAt countAt
-entry-depends f g t i s h = let e = s .blocks (i / entriesPerBlock) (laws.entry-block t i h) in (rw e, rw e)
+entry-depends f g h t s l = let e = s .blocks (t / entriesPerBlock) (laws.entry-block h t l) in (rw e, rw e)
 
--- a file that agrees with an accepted directory is accepted with the same T
-pub same-directory : (f g : List ℕ) (t : ℕ) → directory f ≡ accepted t → SameDirectory f g t → directory g ≡ accepted t
-same-directory f g t e s =
+-- a file that agrees with an accepted directory is accepted with the same header
+pub same-directory : (f g : List ℕ) (h : Header) → directory f ≡ accepted h → SameDirectory f g h → directory g ≡ accepted h
+same-directory f g h e s =
     let d = laws.directory-good f e in
-    let m = laws.some-block t (d .tiles .least) in
-    let q : tilesIn (blockAt f 0) ≡ t = d .blocks 0 m .tiles in
+    let m = laws.some-block h (d .tiles .least) in
+    let q : headerIn (blockAt f 0) ≡ h = d .blocks 0 m .header in
     directory-depends f g (s .blocks 0 m) (rw q s) ∙ e

@@ -5,10 +5,11 @@ use mathlib.Core.List.{List}
 use mathlib.Core.Path.{_≡_}
 use lib.ListN.{getD, length}
 use Rattle.geometry.specs.Box.{validBox}
-use Rattle.blocks.specs.Block.{blockAt, positionIn, entriesIn, tilesIn, kindDue}
+use Rattle.blocks.specs.Block.{blockAt, positionIn, entriesIn, headerIn, kindDue}
 use Rattle.blocks.specs.Checksum.{checkAgrees}
 use Rattle.blocks.specs.Directory.{directoryBlocks, entriesDue, entryBox, entryCount, directoryPadding}
 use Rattle.blocks.specs.Layout.{blockSize, maxLength, syncByte, directoryKind, maxSites, maxTiles}
+use Rattle.blocks.specs.declared.header.Header.{Header}
 
 -- what the two kinds of block have in common
 pub record GoodHead (kind : ℕ) (s : List ℕ) (p : ℕ) : Type 0 where
@@ -18,19 +19,19 @@ pub record GoodHead (kind : ℕ) (s : List ℕ) (p : ℕ) : Type 0 where
   pub position : positionIn s ≡ p
 
 -- T of a file with this many blocks
-pub record GoodTiles (t blocks : ℕ) : Type 0 where
-  pub least : 1 ≤ t
-  pub most : t ≤ maxTiles
-  pub sum : directoryBlocks t + t ≡ blocks
+pub record GoodTiles (h : Header) (blocks : ℕ) : Type 0 where
+  pub least : 1 ≤ h .tiles
+  pub most : h .tiles ≤ maxTiles
+  pub sum : directoryBlocks h + h .tiles ≡ blocks
 
--- the directory block at position p, of a town with T = t
-pub record GoodDirectoryBlock (s : List ℕ) (p t : ℕ) : Type 0 where
+-- the directory block at position p, with the header h
+pub record GoodDirectoryBlock (s : List ℕ) (p : ℕ) (h : Header) : Type 0 where
   pub head : GoodHead directoryKind s p
-  pub tiles : tilesIn s ≡ t
-  pub entries : entriesIn s ≡ entriesDue t p
-  pub padding : directoryPadding s (entriesDue t p) ≡ true
-  pub boxes : (i : ℕ) → i < entriesDue t p → validBox (entryBox s i) ≡ true
-  pub counts : (i : ℕ) → i < entriesDue t p → entryCount s i ≤ maxSites
+  pub header : headerIn s ≡ h
+  pub entries : entriesIn s ≡ entriesDue h p
+  pub padding : directoryPadding s (entriesDue h p) ≡ true
+  pub boxes : (i : ℕ) → i < entriesDue h p → validBox (entryBox s i) ≡ true
+  pub counts : (i : ℕ) → i < entriesDue h p → entryCount s i ≤ maxSites
 
 -- the length of a file
 pub record GoodLength (n : ℕ) : Type 0 where
@@ -38,8 +39,8 @@ pub record GoodLength (n : ℕ) : Type 0 where
   pub whole : n % blockSize ≡ 0
   pub most : n ≤ maxLength
 
--- the directory of a file, with T = t
-pub record GoodDirectory (f : List ℕ) (t : ℕ) : Type 0 where
+-- the directory of a file, with the header h
+pub record GoodDirectory (f : List ℕ) (h : Header) : Type 0 where
   pub size : GoodLength (length f)
-  pub tiles : GoodTiles t (length f / blockSize)
-  pub blocks : (p : ℕ) → p < directoryBlocks t → GoodDirectoryBlock (blockAt f p) p t
+  pub tiles : GoodTiles h (length f / blockSize)
+  pub blocks : (p : ℕ) → p < directoryBlocks h → GoodDirectoryBlock (blockAt f p) p h

@@ -8,20 +8,22 @@ use Rattle.base.specs.Refusal.{Outcome, accepted, require, #sync, #check, #kind
 use Rattle.codec.specs.Number.{u16At}
 use Rattle.blocks.specs.Checksum.{checkAgrees}
 use Rattle.blocks.specs.Layout.{blockSize, syncByte, kindAt, positionAt, entriesAt, tilesAt}
+use Rattle.blocks.specs.declared.header.Header.{Header}
 
 -- the bytes of the block at position p
 unfoldable pub blockAt : List ℕ → ℕ → List ℕ
 blockAt f p = take blockSize (drop (blockSize * p) f)
 
--- "Bytes 2-3: the block's position in the file"; "Bytes 4-5: entries"; "Bytes 6-7: T"
+-- "Bytes 2-3: the block's position in the file"; "Bytes 4-5: entries"
 abbrev pub positionIn : List ℕ → ℕ
 positionIn s = u16At s positionAt
 
 abbrev pub entriesIn : List ℕ → ℕ
 entriesIn s = u16At s entriesAt
 
-abbrev pub tilesIn : List ℕ → ℕ
-tilesIn s = u16At s tilesAt
+-- the header of a directory block: "Bytes 6-7: T, the number of tiles"
+abbrev pub headerIn : List ℕ → Header
+headerIn s = record { tiles = u16At s tilesAt }
 
 -- "the kind due at this position"
 unfoldable pub kindDue : ℕ → List ℕ → Bool

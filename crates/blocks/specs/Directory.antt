@@ -9,18 +9,19 @@ use Rattle.base.specs.Refusal.{Outcome, accepted, require, andThen, #length, #t
 use Rattle.codec.specs.Every.{every, zeros}
 use Rattle.codec.specs.Number.{u16At, i32At}
 use Rattle.geometry.specs.Box.{validBox}
-use Rattle.blocks.specs.Block.{blockAt, entriesIn, tilesIn, blockHead}
+use Rattle.blocks.specs.Block.{blockAt, headerIn, entriesIn, blockHead}
 use Rattle.blocks.specs.Layout.{blockSize, maxLength, directoryKind, reservedAt, payloadAt, checkAt, entrySize}
 use Rattle.blocks.specs.Layout.{countOffset, zeroOffset, entriesPerBlock, maxSites, maxTiles}
 use Rattle.blocks.specs.Outcome.{inTurn}
+use Rattle.blocks.specs.declared.header.Header.{Header}
 
 -- "d = T/24 rounded up"
-unfoldable pub directoryBlocks : ℕ → ℕ
-directoryBlocks t = (t + (entriesPerBlock - 1)) / entriesPerBlock
+unfoldable pub directoryBlocks : Header → ℕ
+directoryBlocks h = (h .tiles + (entriesPerBlock - 1)) / entriesPerBlock
 
 -- "Each directory block but the last has 24 entries": in the last what is left of T
-unfoldable pub entriesDue : ℕ → ℕ → ℕ
-entriesDue t p = min entriesPerBlock (t - entriesPerBlock * p)
+unfoldable pub entriesDue : Header → ℕ → ℕ
+entriesDue h p = min entriesPerBlock (h .tiles - entriesPerBlock * p)
 
 -- where entry i of a block stands
 unfoldable pub entryOffset : ℕ → ℕ
@@ -39,8 +40,10 @@ unfoldable pub entryZero : List ℕ → ℕ → Bool
 entryZero s i = zeros s (entryOffset i + zeroOffset) (entryOffset i + entrySize)
 
 -- 6: "T is 0, over 960, unlike block 0, or d + T is not the file's blocks"
-unfoldable pub tilesDue : ℕ → ℕ → ℕ → Bool
-tilesDue t first blocks = (leb 1 t && leb t maxTiles) && (eqb t first && eqb (directoryBlocks t + t) blocks)
+unfoldable pub tilesDue : Header → Header → ℕ → Bool
+tilesDue h first blocks =
+    (leb 1 (h .tiles) && leb (h .tiles) maxTiles) &&
+    (eqb (h .tiles) (first .tiles) && eqb (directoryBlocks h + h .tiles) blocks)
 
 -- 8: "a byte due to be zero is not"; with n entries these are bytes 8-15, the last two of each entry, and what lies between
 -- the last entry and the check: "All else zero, unused payload too"
@@ -54,30 +57,31 @@ validEntry bounds count = validBox bounds && leb count maxSites
 unfoldable pub entryValid : List ℕ → ℕ → Bool
 entryValid s i = validEntry (entryBox s i) (entryCount s i)
 
--- the directory block with bytes s at position p, of a file with this many blocks whose block 0 has T = first; gives T
-unfoldable pub directoryBlock : List ℕ → ℕ → ℕ → ℕ → Outcome ℕ
+-- the directory block with bytes s at position p, of a file with this many blocks whose block 0 has the header `first`; gives
+-- its own
+unfoldable pub directoryBlock : List ℕ → ℕ → Header → ℕ → Outcome Header
 directoryBlock s p first blocks =
     andThen (blockHead directoryKind s p) (λ _.
-    require (tilesDue (tilesIn s) first blocks) #tiles p
-    (require (eqb (entriesIn s) (entriesDue (tilesIn s) p)) #entries p
-    (require (directoryPadding s (entriesDue (tilesIn s) p)) #padding p
-    (require (every (entryValid s) (entriesDue (tilesIn s) p)) #box p
-    (accepted (tilesIn s))))))
+    require (tilesDue (headerIn s) first blocks) #tiles p
+    (require (eqb (entriesIn s) (entriesDue (headerIn s) p)) #entries p
+    (require (directoryPadding s (entriesDue (headerIn s) p)) #padding p
+    (require (every (entryValid s) (entriesDue (headerIn s) p)) #box p
+    (accepted (headerIn s))))))
 
 -- the same of the block at position p of a file
-unfoldable pub directoryBlockAt : List ℕ → ℕ → Outcome ℕ
-directoryBlockAt f p = directoryBlock (blockAt f p) p (tilesIn (blockAt f 0)) (length f / blockSize)
+unfoldable pub directoryBlockAt : List ℕ → ℕ → Outcome Header
+directoryBlockAt f p = directoryBlock (blockAt f p) p (headerIn (blockAt f 0)) (length f / blockSize)
 
 -- 1: "file of 0 bytes, not a multiple of 512, or over 512,000"
 unfoldable pub lengthDue : ℕ → Bool
 lengthDue n = (leb 1 n && eqb (n % blockSize) 0) && leb n maxLength
 
--- the directory blocks after block 0, in order; gives T
-unfoldable pub directoryRest : List ℕ → ℕ → Outcome ℕ
-directoryRest f t = andThen (inTurn (directoryBlockAt f) 1 (directoryBlocks t - 1)) (λ _. accepted t)
+-- the directory blocks after block 0, in order; gives the header
+unfoldable pub directoryRest : List ℕ → Header → Outcome Header
+directoryRest f h = andThen (inTurn (directoryBlockAt f) 1 (directoryBlocks h - 1)) (λ _. accepted h)
 
--- "Join: 1; each directory block 2 to 9 in table order"; gives T
-unfoldable pub directory : List ℕ → Outcome ℕ
+-- "Join: 1; each directory block 2 to 9 in table order"; gives the header
+unfoldable pub directory : List ℕ → Outcome Header
 directory f =
     require (lengthDue (length f)) #length 0
     (andThen (directoryBlockAt f 0) (directoryRest f))

@@ -1,13 +1,14 @@
 -- What the answers of this crate come to, and tests in turn.
 use Prim.Native.Nat.{ℕ, zero, suc, _+_}
 use Rattle.base.specs.Refusal.{Outcome, accepted, refused, andThen}
-use Rattle.blocks.specs.declared.block.Answer.{Answer}
-use Rattle.blocks.specs.declared.block.Answer.the-variants.{Accepted, Refused}
+use Rattle.blocks.specs.declared.directory.DirectoryAnswer.{DirectoryAnswer}
+use Rattle.blocks.specs.declared.directory.DirectoryAnswer.the-variants.{Accepted, Refused}
+use Rattle.blocks.specs.declared.header.Header.{Header}
 
--- of a call that answers an enum: "A refusal gives the number and the block position"
-abbrev pub answerOutcome : Answer → Outcome ℕ
-answerOutcome (Accepted n) = accepted n
-answerOutcome (Refused r) = refused (r .number) (r .block)
+-- of reading a directory: "A refusal gives the number and the block position"
+abbrev pub directoryOutcome : DirectoryAnswer → Outcome Header
+directoryOutcome (Accepted h) = accepted h
+directoryOutcome (Refused r) = refused (r .number) (r .block)
 
 -- of a call that answers the number of the first test failed by the block at p, or 0
 abbrev pub numberOutcome : ℕ → ℕ → Outcome Unit

@@ -5,8 +5,9 @@ use mathlib.Core.Path.{_≡_}
 use lib.ListN.{length}
 use Rattle.blocks.specs.Block.{blockAt}
 use Rattle.blocks.specs.Directory.{directoryBlocks}
+use Rattle.blocks.specs.declared.header.Header.{Header}
 
--- g agrees with f on the directory of t tiles
-pub record SameDirectory (f g : List ℕ) (t : ℕ) : Type 0 where
+-- g agrees with f on the directory with the header h
+pub record SameDirectory (f g : List ℕ) (h : Header) : Type 0 where
   pub size : length g ≡ length f
-  pub blocks : (p : ℕ) → p < directoryBlocks t → blockAt g p ≡ blockAt f p
+  pub blocks : (p : ℕ) → p < directoryBlocks h → blockAt g p ≡ blockAt f p

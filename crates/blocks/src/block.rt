@@ -2,31 +2,14 @@
 ghost use mathlib.Core.Path.{_≡_};
 ghost use Prim.Native.Nat.{_+_, _*_, _<_, _≤_};
 ghost use lib.ListN.{length};
-ghost use Rattle.base.specs.Refusal.{refused};
+ghost use Rattle.codec.specs.Number.{limit16};
 ghost use Rattle.blocks.specs.Layout.{blockSize};
-ghost use Rattle.blocks.specs.Outcome.{answerOutcome, numberOutcome};
-ghost use Rattle.blocks.specs.Block.{blockAt, kindDue, blockHead};
+ghost use Rattle.blocks.specs.Outcome.{numberOutcome};
+ghost use Rattle.blocks.specs.Block.{blockAt, headerIn, kindDue, blockHead};
 use crate::checksum;
+use crate::header::Header;
 use crate::layout;
-use base::Refusal;
 use codec::reading::u16_at;
-
-// The answer of every reading and of the writer: accepted, with T, a number of sites or a length, or refused.
-pub enum Answer {
-    Accepted(usize),
-    Refused(Refusal),
-}
-
-// The refusal of the block at position p. Every position that is read fits 16 bits.
-pub fn refused(number: u32, p: usize) -> Answer
-    requires { ⌜ p < 65536 ⌝ }
-    ensures { λ r. ⌜ answerOutcome r ≡ refused number p ⌝ }
-{
-    Answer::Refused(Refusal {
-        number,
-        block: p as u32,
-    })
-}
 
 // The block at position p, in place.
 pub fn block_at(f: &[u8], p: usize) -> &[u8]
@@ -38,8 +21,17 @@ pub fn block_at(f: &[u8], p: usize) -> &[u8]
     &f[a..e]
 }
 
+// The header that a directory block has.
+pub fn header_in(s: &[u8]) -> Header
+    requires { ⌜ length (now s) ≡ blockSize ⌝ }
+    ensures { λ r. ⌜ (r ≡ headerIn (now (s .entry))) × (r .tiles < limit16) ⌝ }
+{
+    let tiles = u16_at(s, layout::TILES_AT);
+    Header { tiles }
+}
+
 // Whether the block is of the kind that is due.
-pub fn kind_due(s: &[u8], kind: u8) -> bool
+fn kind_due(s: &[u8], kind: u8) -> bool
     requires { ⌜ length (now s) ≡ blockSize ⌝ }
     ensures { λ r. ⌜ r ≡ kindDue kind (now (s .entry)) ⌝ }
 {

@@ -39,7 +39,7 @@ pub fn entry_count(s: &[u8], i: usize) -> usize
 }
 
 // The last two bytes of an entry are zero.
-pub fn entry_zero(s: &[u8], i: usize) -> bool
+fn entry_zero(s: &[u8], i: usize) -> bool
     requires { ⌜ (i < entriesPerBlock) × (length (now s) ≡ blockSize) ⌝ }
     ensures { λ r. ⌜ r ≡ entryZero (now (s .entry)) i ⌝ }
 {
@@ -62,7 +62,7 @@ pub fn entries_zero(s: &[u8], n: usize) -> bool
 }
 
 // Test 9 of one entry.
-pub fn entry_valid(s: &[u8], i: usize) -> bool
+fn entry_valid(s: &[u8], i: usize) -> bool
     requires { ⌜ (i < entriesPerBlock) × (length (now s) ≡ blockSize) ⌝ }
     ensures { λ r. ⌜ r ≡ entryValid (now (s .entry)) i ⌝ }
 {

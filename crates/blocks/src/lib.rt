@@ -4,4 +4,5 @@ pub mod block;
 pub mod checksum;
 pub mod directory;
 pub mod entry;
+pub mod header;
 pub mod layout;

@@ -8,7 +8,7 @@ use lib.IntN.{ℤ}
 use lib.ListN.{getD}
 use lib.Signed.{mag}
 use Rattle.codec.specs.Bytes.{bytes, bytes16, bytes32, bytesSigned}
-use Rattle.codec.specs.Number.{u16At, u32At, signed, i32At}
+use Rattle.codec.specs.Number.{limit16, limit32, limitSigned, u16At, u32At, signed, i32At}
 use Rattle.codec.proofs.Holds.{Holds, holds-run, holds-cons, holds-head, holds-tail}
 use Rattle.codec.proofs.Number.{bits-small, bits-signed, signed-bits}
 
@@ -48,24 +48,24 @@ module _ (s : List ℕ) where
     unfolding numberAt u32At u16At
     number-32 = let e : i + 1 + 1 ≡ i + 2 = omega arith in rw e (omega arith)
 
-    pub read-16 : {n : ℕ} → n < 65536 → Holds s i (bytes16 n) → u16At s i ≡ n
+    pub read-16 : {n : ℕ} → n < limit16 → Holds s i (bytes16 n) → u16At s i ≡ n
     unfolding bytes16 numbers
     read-16 {n} l h = sym number-16 ∙ number-read 2 i n l h
 
-    pub read-32 : {n : ℕ} → n < 0x1_0000_0000 → Holds s i (bytes32 n) → u32At s i ≡ n
+    pub read-32 : {n : ℕ} → n < limit32 → Holds s i (bytes32 n) → u32At s i ≡ n
     unfolding bytes32 numbers
     read-32 {n} l h = sym number-32 ∙ number-read 4 i n l h
 
-    pub read-signed : {z : ℤ} → mag z < 0x8000_0000 → Holds s i (bytesSigned z) → i32At s i ≡ z
+    pub read-signed : {z : ℤ} → mag z < limitSigned → Holds s i (bytesSigned z) → i32At s i ≡ z
     unfolding bytesSigned i32At
     read-signed {z} l h = ap signed (read-32 (bits-small z l) h) ∙ signed-bits z l
 
     module _ (byte : (i : ℕ) → getD s i 0 < 256) where
-      pub u16-small : u16At s i < 65536
+      pub u16-small : u16At s i < limit16
       unfolding u16At
       u16-small = omega (arith, byte i, byte (i + 1))
 
-      pub u32-small : u32At s i < 0x1_0000_0000
+      pub u32-small : u32At s i < limit32
       unfolding u32At u16At
       u32-small = omega (arith, byte i, byte (i + 1), byte (i + 2), byte (i + 2 + 1))
 

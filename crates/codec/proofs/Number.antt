@@ -13,25 +13,25 @@ use mir.Val.{Fits, SFits, toZ, ofZ}
 use borrow.Author.Tests.{le-ltb, lt-ltb, ltb-true, ltb-false}
 use Rattle.base.proofs.Tests.{by-test, clash}
 use Rattle.codec.specs.Bytes.{bits}
-use Rattle.codec.specs.Number.{signed}
+use Rattle.codec.specs.Number.{limit32, limitSigned, signed}
 
 minus-one : (k : ℕ) → negsuc 0 -ℤ pos k ≡ negsuc k
 minus-one zero = refl
 minus-one (suc k) = simp zero-add
 
 -- -1 less a number below 2^31, as the code has it
-pub below : (k : ℕ) → k < 0x8000_0000 → negsuc 0 -ℤ toZ w32 k ≡ negsuc k
+pub below : (k : ℕ) → k < limitSigned → negsuc 0 -ℤ toZ w32 k ≡ negsuc k
 below k h = rw (toZ-pos w32 h) (minus-one k)
 
-pub below-fits : (k : ℕ) → k < 0x8000_0000 → SFits w32 (negsuc 0 -ℤ toZ w32 k)
+pub below-fits : (k : ℕ) → k < limitSigned → SFits w32 (negsuc 0 -ℤ toZ w32 k)
 below-fits k h = rw (below k h) (record { sfits = h })
 
 -- a signed number that passed through a local, where it is held as bits
-pub local-i32 : (z : ℤ) → mag z < 0x8000_0000 → toZ w32 (ofZ w32 z) ≡ z
+pub local-i32 : (z : ℤ) → mag z < limitSigned → toZ w32 (ofZ w32 z) ≡ z
 local-i32 z h = toZ-ofZ (record { sfits = h })
 
 -- ---- the 32 bits of a signed number, as the code has them
-pub bits-up : (x : ℤ) → mag x < 0x8000_0000 → leZ (pos 0) x ≡ true →
+pub bits-up : (x : ℤ) → mag x < limitSigned → leZ (pos 0) x ≡ true →
     T (nonNeg x) × Fits w32 (natAbs x) × (natAbs x ≡ bits x)
 unfolding bits
 bits-up (pos n) h e = (tt, record { fits = omega arith }, refl)
@@ -40,31 +40,31 @@ bits-up (negsuc n) h e = clash e refl
 one-less : (n : ℕ) → negsuc 0 -ℤ negsuc n ≡ pos n
 one-less n = rw (le-ltb (suc n) 1 (omega arith), suc-sub-suc, sub-zero)
 
-pub bits-down : (x : ℤ) → mag x < 0x8000_0000 → leZ (pos 0) x ≡ false →
-    (k : ℕ) × (negsuc 0 -ℤ x ≡ pos k) × (k < 0x8000_0000) × (0xffff_ffff - k ≡ bits x)
+pub bits-down : (x : ℤ) → mag x < limitSigned → leZ (pos 0) x ≡ false →
+    (k : ℕ) × (negsuc 0 -ℤ x ≡ pos k) × (k < limitSigned) × (0xffff_ffff - k ≡ bits x)
 unfolding bits
 bits-down (pos n) h e = clash (leb·zero n) e
 bits-down (negsuc n) h e = (n, one-less n, h, refl)
 
 -- ---- bits and the signed number with these bits
-pub bits-small : (z : ℤ) → mag z < 0x8000_0000 → bits z < 0x1_0000_0000
+pub bits-small : (z : ℤ) → mag z < limitSigned → bits z < limit32
 unfolding bits
 bits-small (pos n) h = omega arith
 bits-small (negsuc n) h = omega arith
 
-pub signed-bits : (z : ℤ) → mag z < 0x8000_0000 → signed (bits z) ≡ z
+pub signed-bits : (z : ℤ) → mag z < limitSigned → signed (bits z) ≡ z
 unfolding bits signed
-signed-bits (pos n) h = rw (lt-ltb n 0x8000_0000 h)
+signed-bits (pos n) h = rw (lt-ltb n limitSigned h)
 signed-bits (negsuc n) h =
     let k : 0xffff_ffff - (0xffff_ffff - n) ≡ n = omega arith in
-    rw (le-ltb (0xffff_ffff - n) 0x8000_0000 (omega arith), k)
+    rw (le-ltb (0xffff_ffff - n) limitSigned (omega arith), k)
 
-pub bits-signed : (n : ℕ) → n < 0x1_0000_0000 → bits (signed n) ≡ n
+pub bits-signed : (n : ℕ) → n < limit32 → bits (signed n) ≡ n
 unfolding bits signed
-bits-signed n h = by-test (ltb n 0x8000_0000) (λ e. rw e) (λ e. let k = ltb-false n 0x8000_0000 e in rw e (omega arith))
+bits-signed n h = by-test (ltb n limitSigned) (λ e. rw e) (λ e. let k = ltb-false n limitSigned e in rw e (omega arith))
 
-pub signed-small : (n : ℕ) → n < 0x1_0000_0000 → mag (signed n) < 0x8000_0000
+pub signed-small : (n : ℕ) → n < limit32 → mag (signed n) < limitSigned
 unfolding signed
 signed-small n h =
-    by-test (ltb n 0x8000_0000) (λ e. rw e (ltb-true n 0x8000_0000 e))
-    (λ e. let k = ltb-false n 0x8000_0000 e in rw e (omega arith))
+    by-test (ltb n limitSigned) (λ e. rw e (ltb-true n limitSigned e))
+    (λ e. let k = ltb-false n limitSigned e in rw e (omega arith))

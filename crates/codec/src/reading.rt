@@ -2,8 +2,12 @@
 ghost use mathlib.Core.Path.{_≡_};
 ghost use Prim.Native.Nat.{_+_, _<_, _≤_};
 ghost use lib.ListN.{length};
-ghost use Rattle.codec.specs.Number.{u16At, u32At, signed, i32At};
+ghost use Rattle.codec.specs.Number.{limit16, u16At, u32At, signed, i32At};
 ghost use Rattle.codec.specs.Every.{zeros};
+
+const LIMIT_16: u32 = 0x1_0000;
+
+const LIMIT_SIGNED: u32 = 0x8000_0000;
 
 fn wide(x: u8) -> usize
     ensures { λ r. ⌜ (r ≡ x) × (r < 256) ⌝ }
@@ -14,7 +18,7 @@ fn wide(x: u8) -> usize
 // 16 bits at `at`, as the count or the position that they stand for.
 pub fn u16_at(s: &[u8], at: usize) -> usize
     requires { ⌜ at + 2 ≤ length (now s) ⌝ }
-    ensures { λ r. ⌜ (r ≡ u16At (now (s .entry)) at) × (r < 65536) ⌝ }
+    ensures { λ r. ⌜ (r ≡ u16At (now (s .entry)) at) × (r < limit16) ⌝ }
 {
     wide(s[at]) + 256 * wide(s[at + 1])
 }
@@ -26,14 +30,14 @@ pub fn u32_at(s: &[u8], at: usize) -> u32
 {
     let low = u16_at(s, at) as u32;
     let high = u16_at(s, at + 2) as u32;
-    low + 65536 * high
+    low + LIMIT_16 * high
 }
 
 // The signed number with the 32 bits of n.
 pub fn signed(n: u32) -> i32
     ensures { λ r. ⌜ r ≡ signed n ⌝ }
 {
-    if n < 0x8000_0000 {
+    if n < LIMIT_SIGNED {
         n as i32
     } else {
         -1 - ((0xffff_ffff - n) as i32)

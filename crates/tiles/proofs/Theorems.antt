@@ -8,6 +8,7 @@ use lib.ListN.{length, getD}
 use Rattle.base.specs.Refusal.{accepted}
 use Rattle.blocks.specs.Block.{blockAt}
 use Rattle.blocks.specs.Directory.{boxAt, countAt}
+use Rattle.blocks.specs.declared.header.Header.{Header}
 use Rattle.codec.specs.Tabulate.{tabulate}
 use Rattle.geometry.specs.Box.{inside}
 use Rattle.base.proofs.Outcomes.{accepted-injective}
@@ -18,47 +19,47 @@ use Rattle.tiles.specs.Validate.{validate}
 use Rattle.tiles.specs.declared.tile.Site.{Site}
 use Rattle.tiles.proofs.TileLaws as laws
 
--- a file passes the full check, with T = tiles, exactly when its directory and all its tiles are good
-pub validate-exactly : (f : List ℕ) (tiles : ℕ) →
-    (validate f ≡ accepted tiles → GoodFile f tiles)
-    × (GoodFile f tiles → validate f ≡ accepted tiles)
-validate-exactly f tiles = (laws.validate-good f, laws.validate-enough f tiles)
+-- a file passes the full check, with the header h, exactly when its directory and all its tiles are good
+pub validate-exactly : (f : List ℕ) (h : Header) →
+    (validate f ≡ accepted h → GoodFile f h)
+    × (GoodFile f h → validate f ≡ accepted h)
+validate-exactly f h = (laws.validate-good f, laws.validate-enough f h)
 
-module _ (f : List ℕ) (tiles t : ℕ) where
+module _ (f : List ℕ) (h : Header) (t : ℕ) where
   -- an opening is accepted exactly when its block is good
-  pub opening-exactly : (openTile f tiles t ≡ accepted (countAt f t) → GoodTile f tiles t)
-      × (GoodTile f tiles t → openTile f tiles t ≡ accepted (countAt f t))
-  opening-exactly = (laws.open-good f tiles t, laws.open-enough f tiles t)
+  pub opening-exactly : (openTile f h t ≡ accepted (countAt f t) → GoodTile f h t)
+      × (GoodTile f h t → openTile f h t ≡ accepted (countAt f t))
+  opening-exactly = (laws.open-good f h t, laws.open-enough f h t)
 
   -- an accepted opening gives the directory's count, and all its sites lie in the box
-  pub opened-count : {n : ℕ} → openTile f tiles t ≡ accepted n → n ≡ countAt f t
-  opened-count e = accepted-injective (sym e ∙ laws.open-enough f tiles t (laws.open-good f tiles t e))
+  pub opened-count : {n : ℕ} → openTile f h t ≡ accepted n → n ≡ countAt f t
+  opened-count e = accepted-injective (sym e ∙ laws.open-enough f h t (laws.open-good f h t e))
 
-  pub opened-inside : {n : ℕ} → openTile f tiles t ≡ accepted n → (slot : ℕ) → slot < countAt f t →
-      inside (boxAt f t) (sitePoint (siteAt f tiles t slot)) ≡ true
+  pub opened-inside : {n : ℕ} → openTile f h t ≡ accepted n → (slot : ℕ) → slot < countAt f t →
+      inside (boxAt f t) (sitePoint (siteAt f h t slot)) ≡ true
   unfolding siteAt
-  opened-inside e slot l = laws.open-good f tiles t e .inside slot l
+  opened-inside e slot l = laws.open-good f h t e .inside slot l
 
   -- the list of a tile's sites has the site of each slot
-  pub sites-length : length (sitesAt f tiles t) ≡ countAt f t
+  pub sites-length : length (sitesAt f h t) ≡ countAt f t
   unfolding sitesAt
-  sites-length = length-tabulate (siteAt f tiles t) 0 (countAt f t)
+  sites-length = length-tabulate (siteAt f h t) 0 (countAt f t)
 
-  pub sites-slot : (d : Site) (slot : ℕ) → slot < countAt f t → getD (sitesAt f tiles t) slot d ≡ siteAt f tiles t slot
+  pub sites-slot : (d : Site) (slot : ℕ) → slot < countAt f t → getD (sitesAt f h t) slot d ≡ siteAt f h t slot
   unfolding sitesAt
-  sites-slot d slot l = getD-tabulate (siteAt f tiles t) d 0 (countAt f t) slot l ∙ ap (siteAt f tiles t) (zero-add slot)
+  sites-slot d slot l = getD-tabulate (siteAt f h t) d 0 (countAt f t) slot l ∙ ap (siteAt f h t) (zero-add slot)
 
--- what an opening comes to, and the tile's sites, depend on its own block, its entry and T alone
-module _ (f g : List ℕ) (tiles t : ℕ) (block : blockAt g (tilePosition tiles t) ≡ blockAt f (tilePosition tiles t)) where
-  pub site-depends : (slot : ℕ) → siteAt g tiles t slot ≡ siteAt f tiles t slot
+-- what an opening comes to, and the tile's sites, depend on its own block, its entry and the header alone
+module _ (f g : List ℕ) (h : Header) (t : ℕ) (block : blockAt g (tilePosition h t) ≡ blockAt f (tilePosition h t)) where
+  pub site-depends : (slot : ℕ) → siteAt g h t slot ≡ siteAt f h t slot
   unfolding siteAt
   site-depends slot = rw block
 
   module _ (count : countAt g t ≡ countAt f t) where
-    pub sites-depend : sitesAt g tiles t ≡ sitesAt f tiles t
+    pub sites-depend : sitesAt g h t ≡ sitesAt f h t
     unfolding sitesAt siteAt
-    sites-depend = ap (λ s. tabulate (siteIn s) 0 (countAt g t)) block ∙ ap (tabulate (siteAt f tiles t) 0) count
+    sites-depend = ap (λ s. tabulate (siteIn s) 0 (countAt g t)) block ∙ ap (tabulate (siteAt f h t) 0) count
 
-    pub opening-depends : boxAt g t ≡ boxAt f t → openTile g tiles t ≡ openTile f tiles t
+    pub opening-depends : boxAt g t ≡ boxAt f t → openTile g h t ≡ openTile f h t
     unfolding openTile
     opening-depends bounds = rw (block, bounds, count)

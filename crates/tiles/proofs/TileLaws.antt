@@ -10,6 +10,7 @@ use Rattle.blocks.specs.Block.{entriesIn, blockHead}
 use Rattle.blocks.specs.Directory.{directory, countAt}
 use Rattle.blocks.specs.Layout.{tileKind}
 use Rattle.blocks.specs.Outcome.{inTurn}
+use Rattle.blocks.specs.declared.header.Header.{Header}
 use Rattle.base.proofs.Outcomes.{accepted-injective, require-accepted, andThen-accepted}
 use Rattle.blocks.proofs.BlockLaws.{head-good, head-enough}
 use Rattle.blocks.proofs.DirectoryLaws.{directory-good, directory-enough}
@@ -40,32 +41,32 @@ module _ (s : List ℕ) (p : ℕ) (bounds : List (List ℤ)) (count : ℕ) where
       let v = every-holds (siteInside bounds s) count (g .inside) in
       rw (head-enough tileKind s p (g .head), eq-eqb (entriesIn s) count (g .entries), g .padding, v)
 
-module _ (f : List ℕ) (tiles : ℕ) where
-  pub open-good : (t : ℕ) {n : ℕ} → openTile f tiles t ≡ accepted n → GoodTile f tiles t
+module _ (f : List ℕ) (h : Header) where
+  pub open-good : (t : ℕ) {n : ℕ} → openTile f h t ≡ accepted n → GoodTile f h t
   unfolding openTile
   open-good t e = tile-good _ _ _ _ e
 
-  pub open-enough : (t : ℕ) → GoodTile f tiles t → openTile f tiles t ≡ accepted (countAt f t)
+  pub open-enough : (t : ℕ) → GoodTile f h t → openTile f h t ≡ accepted (countAt f t)
   unfolding openTile
   open-enough t g = tile-enough _ _ _ _ g
 
-pub validate-good : (f : List ℕ) {tiles : ℕ} → validate f ≡ accepted tiles → GoodFile f tiles
+pub validate-good : (f : List ℕ) {h : Header} → validate f ≡ accepted h → GoodFile f h
 unfolding validate openAll
-validate-good f {tiles} e =
-    let h = andThen-accepted (directory f) (openAll f) e in
-    let n = h .0 in
-    let r = andThen-accepted (inTurn (openTile f n) 0 n) (λ _. accepted n) (h .2) in
-    let q : n ≡ tiles = accepted-injective (r .2) in
-    let g : GoodFile f n = record {
-      directory = directory-good f (h .1);
-      opened = λ t l. let x = turns-each (openTile f n) 0 n (r .1) t l in
-          open-good f n t (ap (openTile f n) (sym (zero-add t)) ∙ x .1);
+validate-good f {h} e =
+    let k = andThen-accepted (directory f) (openAll f) e in
+    let a = k .0 in
+    let r = andThen-accepted (inTurn (openTile f a) 0 (a .tiles)) (λ _. accepted a) (k .2) in
+    let q : a ≡ h = accepted-injective (r .2) in
+    let g : GoodFile f a = record {
+      directory = directory-good f (k .1);
+      opened = λ t l. let x = turns-each (openTile f a) 0 (a .tiles) (r .1) t l in
+          open-good f a t (ap (openTile f a) (sym (zero-add t)) ∙ x .1);
     } in
     rw q at g
 
-pub validate-enough : (f : List ℕ) (tiles : ℕ) → GoodFile f tiles → validate f ≡ accepted tiles
+pub validate-enough : (f : List ℕ) (h : Header) → GoodFile f h → validate f ≡ accepted h
 unfolding validate openAll
-validate-enough f tiles g =
-    let all = turns-all (openTile f tiles) 0 tiles
-    (λ t l. (countAt f t, ap (openTile f tiles) (zero-add t) ∙ open-enough f tiles t (g .opened t l))) in
-    rw (directory-enough f tiles (g .directory), all)
+validate-enough f h g =
+    let all = turns-all (openTile f h) 0 (h .tiles)
+    (λ t l. (countAt f t, ap (openTile f h) (zero-add t) ∙ open-enough f h t (g .opened t l))) in
+    rw (directory-enough f h (g .directory), all)

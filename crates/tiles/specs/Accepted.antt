@@ -8,6 +8,7 @@ use Rattle.blocks.specs.Accepted.{GoodHead, GoodDirectory}
 use Rattle.blocks.specs.Block.{blockAt, entriesIn}
 use Rattle.blocks.specs.Directory.{boxAt, countAt}
 use Rattle.blocks.specs.Layout.{tileKind}
+use Rattle.blocks.specs.declared.header.Header.{Header}
 use Rattle.geometry.specs.Box as geometry
 use Rattle.tiles.specs.Tile.{siteIn, sitePoint, tilePadding, tilePosition}
 
@@ -18,11 +19,11 @@ pub record GoodTileBlock (s : List ℕ) (p : ℕ) (bounds : List (List ℤ)) (co
   pub padding : tilePadding s count ≡ true
   pub inside : (slot : ℕ) → slot < count → geometry.inside bounds (sitePoint (siteIn s slot)) ≡ true
 
--- tile t of a file with T = tiles
-abbrev pub GoodTile : List ℕ → ℕ → ℕ → Type 0
-GoodTile f tiles t = GoodTileBlock (blockAt f (tilePosition tiles t)) (tilePosition tiles t) (boxAt f t) (countAt f t)
+-- tile t of a file with the header h
+abbrev pub GoodTile : List ℕ → Header → ℕ → Type 0
+GoodTile f h t = GoodTileBlock (blockAt f (tilePosition h t)) (tilePosition h t) (boxAt f t) (countAt f t)
 
--- a file with T = tiles
-pub record GoodFile (f : List ℕ) (tiles : ℕ) : Type 0 where
-  pub directory : GoodDirectory f tiles
-  pub opened : (t : ℕ) → t < tiles → GoodTile f tiles t
+-- a file with the header h
+pub record GoodFile (f : List ℕ) (h : Header) : Type 0 where
+  pub directory : GoodDirectory f h
+  pub opened : (t : ℕ) → t < h .tiles → GoodTile f h t

@@ -1,3 +1,4 @@
+pub mod Outcome
 pub mod Tile
 pub mod Validate
 pub mod Accepted

@@ -8,6 +8,7 @@ use Rattle.base.specs.Refusal.{Outcome, accepted, require, andThen, #entries, #
 use Rattle.blocks.specs.Block.{blockAt, entriesIn, blockHead}
 use Rattle.blocks.specs.Directory.{directoryBlocks, boxAt, countAt}
 use Rattle.blocks.specs.Layout.{tileKind, tilesAt, payloadAt, checkAt, siteSize}
+use Rattle.blocks.specs.declared.header.Header.{Header}
 use Rattle.codec.specs.Every.{every, zeros}
 use Rattle.codec.specs.Number.{u32At, i32At}
 use Rattle.codec.specs.Tabulate.{tabulate}
@@ -49,17 +50,17 @@ tileBlock s p bounds count =
     (require (every (siteInside bounds s) count) #stray p
     (accepted count))))
 
--- "tile t at position d + t", of T = tiles
-unfoldable pub tilePosition : ℕ → ℕ → ℕ
-tilePosition tiles t = directoryBlocks tiles + t
+-- "tile t at position d + t"
+unfoldable pub tilePosition : Header → ℕ → ℕ
+tilePosition h t = directoryBlocks h + t
 
 -- the opening of tile t of a file
-unfoldable pub openTile : List ℕ → ℕ → ℕ → Outcome ℕ
-openTile f tiles t = tileBlock (blockAt f (tilePosition tiles t)) (tilePosition tiles t) (boxAt f t) (countAt f t)
+unfoldable pub openTile : List ℕ → Header → ℕ → Outcome ℕ
+openTile f h t = tileBlock (blockAt f (tilePosition h t)) (tilePosition h t) (boxAt f t) (countAt f t)
 
 -- the site of a tile's slot, and all sites of a tile by slot
-unfoldable pub siteAt : List ℕ → ℕ → ℕ → ℕ → Site
-siteAt f tiles t slot = siteIn (blockAt f (tilePosition tiles t)) slot
+unfoldable pub siteAt : List ℕ → Header → ℕ → ℕ → Site
+siteAt f h t slot = siteIn (blockAt f (tilePosition h t)) slot
 
-unfoldable pub sitesAt : List ℕ → ℕ → ℕ → List Site
-sitesAt f tiles t = tabulate (siteAt f tiles t) 0 (countAt f t)
+unfoldable pub sitesAt : List ℕ → Header → ℕ → List Site
+sitesAt f h t = tabulate (siteAt f h t) 0 (countAt f t)

@@ -2,16 +2,18 @@
 ghost use mathlib.Core.Path.{_≡_};
 ghost use Prim.Native.Nat.{_+_, _*_, _<_, _≤_};
 ghost use lib.ListN.{length};
-ghost use Rattle.base.specs.Refusal.{accepted};
+ghost use Rattle.base.specs.Refusal.{accepted, refused};
 ghost use Rattle.codec.specs.Every.{every};
+ghost use Rattle.codec.specs.Number.{limit16};
 ghost use Rattle.blocks.specs.Layout.{blockSize, payloadAt, siteSize, maxSites};
-ghost use Rattle.blocks.specs.Outcome.{answerOutcome};
 ghost use Rattle.blocks.specs.Directory.{directory, countAt};
+ghost use Rattle.tiles.specs.Outcome.{openingOutcome};
 ghost use Rattle.tiles.specs.Tile.{siteOffset, siteIn, tilePadding, siteInside, tileBlock, tilePosition, openTile, siteAt};
+use base::Refusal;
 use base::both;
 use blocks::block;
-use blocks::block::Answer;
 use blocks::directory;
+use blocks::header::Header;
 use blocks::layout;
 use codec::reading::i32_at;
 use codec::reading::u16_at;
@@ -23,6 +25,23 @@ pub struct Site {
     pub x: i32,
     pub y: i32,
     pub cue: u32,
+}
+
+// What an opening answers: the number of sites, or the refusal.
+pub enum Opening {
+    Opened(usize),
+    Refused(Refusal),
+}
+
+// The refusal of the block at position p.
+fn refused(number: u32, p: usize) -> Opening
+    requires { ⌜ p < limit16 ⌝ }
+    ensures { λ r. ⌜ openingOutcome r ≡ refused number p ⌝ }
+{
+    Opening::Refused(Refusal {
+        number,
+        block: p as u32,
+    })
 }
 
 pub fn site_offset(slot: usize) -> usize
@@ -45,7 +64,7 @@ pub fn site_in(s: &[u8], slot: usize) -> Site
 }
 
 // Test 8, of a tile with n sites.
-pub fn tile_padding(s: &[u8], n: usize) -> bool
+fn tile_padding(s: &[u8], n: usize) -> bool
     requires { ⌜ (n ≤ maxSites) × (length (now s) ≡ blockSize) ⌝ }
     ensures { λ r. ⌜ r ≡ tilePadding (now (s .entry)) n ⌝ }
 {
@@ -57,7 +76,7 @@ pub fn tile_padding(s: &[u8], n: usize) -> bool
 }
 
 // Test 10 of one site.
-pub fn site_inside(bounds: [[i32; 2]; 2], s: &[u8], slot: usize) -> bool
+fn site_inside(bounds: [[i32; 2]; 2], s: &[u8], slot: usize) -> bool
     requires { ⌜ (slot < maxSites) × (length (now s) ≡ blockSize) ⌝ }
     ensures { λ r. ⌜ r ≡ siteInside bounds (now (s .entry)) slot ⌝ }
 {
@@ -67,7 +86,7 @@ pub fn site_inside(bounds: [[i32; 2]; 2], s: &[u8], slot: usize) -> bool
     inside(bounds, [x, y])
 }
 
-pub fn sites_inside(bounds: [[i32; 2]; 2], s: &[u8], n: usize) -> bool
+fn sites_inside(bounds: [[i32; 2]; 2], s: &[u8], n: usize) -> bool
     requires { ⌜ (n ≤ maxSites) × (length (now s) ≡ blockSize) ⌝ }
     ensures { λ r. ⌜ r ≡ every (siteInside bounds (now (s .entry))) n ⌝ }
 {
@@ -82,50 +101,50 @@ pub fn sites_inside(bounds: [[i32; 2]; 2], s: &[u8], n: usize) -> bool
 }
 
 // A tile's block, by box and count of its entry: the first test that fails decides.
-pub fn tile_block(s: &[u8], p: usize, bounds: [[i32; 2]; 2], count: usize) -> Answer
-    requires { ⌜ (length (now s) ≡ blockSize) × (p < 65536) × (count ≤ maxSites) ⌝ }
-    ensures { λ r. ⌜ answerOutcome r ≡ tileBlock (now (s .entry)) p bounds count ⌝ }
+fn tile_block(s: &[u8], p: usize, bounds: [[i32; 2]; 2], count: usize) -> Opening
+    requires { ⌜ (length (now s) ≡ blockSize) × (p < limit16) × (count ≤ maxSites) ⌝ }
+    ensures { λ r. ⌜ openingOutcome r ≡ tileBlock (now (s .entry)) p bounds count ⌝ }
 {
     let head = block::head_number(s, layout::TILE_KIND, p);
     if head != 0 {
-        return block::refused(head, p);
+        return refused(head, p);
     }
     if u16_at(s, layout::ENTRIES_AT) != count {
-        return block::refused(base::ENTRIES, p);
+        return refused(base::ENTRIES, p);
     }
     if !tile_padding(s, count) {
-        return block::refused(base::PADDING, p);
+        return refused(base::PADDING, p);
     }
     if !sites_inside(bounds, s, count) {
-        return block::refused(base::STRAY, p);
+        return refused(base::STRAY, p);
     }
-    Answer::Accepted(count)
+    Opening::Opened(count)
 }
 
 // Where tile t stands, of a file whose directory is accepted.
-pub fn tile_position(f: &[u8], tiles: usize, t: usize) -> usize
-    requires { ⌜ (directory (now f) ≡ accepted tiles) × (t < tiles) ⌝ }
-    ensures { λ r. ⌜ (r ≡ tilePosition tiles t) × (r < 65536) × (blockSize * r + blockSize ≤ length (now (f .entry))) ⌝ }
+pub fn tile_position(f: &[u8], h: Header, t: usize) -> usize
+    requires { ⌜ (directory (now f) ≡ accepted h) × (t < h .tiles) ⌝ }
+    ensures { λ r. ⌜ (r ≡ tilePosition h t) × (r < limit16) × (blockSize * r + blockSize ≤ length (now (f .entry))) ⌝ }
 {
-    directory::directory_blocks(tiles) + t
+    directory::directory_blocks(h) + t
 }
 
 // Opens tile t of a file whose directory is accepted: the number of its sites, or the first refusal.
-pub fn open_tile(f: &[u8], tiles: usize, t: usize) -> Answer
-    requires { ⌜ (directory (now f) ≡ accepted tiles) × (t < tiles) ⌝ }
-    ensures { λ r. ⌜ answerOutcome r ≡ openTile (now (f .entry)) tiles t ⌝ }
+pub fn open_tile(f: &[u8], h: Header, t: usize) -> Opening
+    requires { ⌜ (directory (now f) ≡ accepted h) × (t < h .tiles) ⌝ }
+    ensures { λ r. ⌜ openingOutcome r ≡ openTile (now (f .entry)) h t ⌝ }
 {
-    let p = tile_position(f, tiles, t);
-    let bounds = directory::box_at(f, tiles, t);
-    let count = directory::count_at(f, tiles, t);
+    let p = tile_position(f, h, t);
+    let bounds = directory::box_at(f, h, t);
+    let count = directory::count_at(f, h, t);
     tile_block(block::block_at(f, p), p, bounds, count)
 }
 
 // The site of a slot of tile t, of a file whose directory is accepted.
-pub fn site_at(f: &[u8], tiles: usize, t: usize, slot: usize) -> Site
-    requires { ⌜ (directory (now f) ≡ accepted tiles) × (t < tiles) × (slot < countAt (now f) t) ⌝ }
-    ensures { λ r. ⌜ r ≡ siteAt (now (f .entry)) tiles t slot ⌝ }
+pub fn site_at(f: &[u8], h: Header, t: usize, slot: usize) -> Site
+    requires { ⌜ (directory (now f) ≡ accepted h) × (t < h .tiles) × (slot < countAt (now f) t) ⌝ }
+    ensures { λ r. ⌜ r ≡ siteAt (now (f .entry)) h t slot ⌝ }
 {
-    let p = tile_position(f, tiles, t);
+    let p = tile_position(f, h, t);
     site_in(block::block_at(f, p), slot)
 }

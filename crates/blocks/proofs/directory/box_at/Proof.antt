@@ -8,9 +8,9 @@ use Rattle.blocks.proofs.directory.box_at.Tie as tie
 
 block-at-requires : tie.Need-block-at-requires
 block-at-requires c κs =
-    let s = c .before in
+    let s : tie.Start = search in
     let g = directory-good (s .args .f .now) (s .pre .0) in
-    block-fits g _ (omega (arith, entry-block (s .args .tiles) (s .args .t) (s .pre .1)))
+    block-fits g _ (omega (arith, entry-block (s .args .h) (s .args .t) (s .pre .1)))
 
 entry-box-requires : tie.Need-entry-box-requires
 entry-box-requires c κs = search needs

@@ -20,12 +20,11 @@ both-requires-3 c κs = search needs
 
 returns : tie.Need-returns
 unfolding tilesDue
-returns c = simp (
-  c .both3 .ensures,
-  c .before .both2 .ensures,
-  c .before .before .before .both .ensures,
-  c .before .before .directory-blocks .ensures .0,
-)
+returns c =
+    let a : tie.After-both = search in
+    let d : tie.After-directory-blocks = search in
+    let b : tie.After-both2 = search in
+    simp (c .both3 .ensures, b .both2 .ensures, a .both .ensures, d .directory-blocks .ensures .0)
 
 pub tiles-due-spec : {M : Type 1} → statement M
 tiles-due-spec =

@@ -8,13 +8,14 @@ use mir.Facts.{toZ-ofZ, toZ-pos}
 use mir.Syntax.{w32}
 use mir.Val.{SFits, toZ, ofZ}
 use Rattle.codec.specs.Bytes.{bits}
+use Rattle.codec.specs.Number.{limitSigned}
 use Rattle.codec.proofs.Number.{bits-up, bits-down}
 use Rattle.codec.proofs.writing.bits.Statement.{statement}
 use Rattle.codec.proofs.writing.bits.Tie as tie
 
 module _ (x : ℤ) (f : SFits w32 x) where
   -- the number -1 - x, in a local
-  low : leZ (pos 0) (toZ w32 (ofZ w32 x)) ≡ false → (k : ℕ) × (negsuc 0 -ℤ toZ w32 (ofZ w32 x) ≡ pos k) × (k < 0x8000_0000)
+  low : leZ (pos 0) (toZ w32 (ofZ w32 x)) ≡ false → (k : ℕ) × (negsuc 0 -ℤ toZ w32 (ofZ w32 x) ≡ pos k) × (k < limitSigned)
       × (0xffff_ffff - k ≡ bits x)
   low e =
       let b = toZ-ofZ f in

@@ -2,18 +2,19 @@ use Prim.Native.Nat.{_-_}
 use mathlib.Core.Path.{_≡_, sym, ap, _∙_}
 use native.Mathlib.Nat.{sub-zero}
 use borrow.Author.Needs.{needs}
-use Rattle.blocks.specs.Outcome.{answerOutcome, inTurn}
-use Rattle.blocks.proofs.OutcomeLaws.{turn-refused, turn-accepted, turn-end, told-accepted, told-refused}
+use Rattle.blocks.specs.Outcome.{inTurn}
+use Rattle.blocks.proofs.OutcomeLaws.{turn-refused, turn-accepted, turn-end, told}
+use Rattle.tiles.specs.Outcome.{openingOutcome}
 use Rattle.tiles.specs.Tile.{openTile}
 use Rattle.tiles.specs.Validate.{openAll}
 use Rattle.tiles.proofs.validate.open_all.Statement.{statement}
 use Rattle.tiles.proofs.validate.open_all.Tie as tie
 
 abbrev Inv-loop : tie.InvT-loop
-Inv-loop f tiles t₀ t = inTurn (openTile f tiles) t (tiles - t) ≡ inTurn (openTile f tiles) 0 tiles
+Inv-loop f h t₀ t = inTurn (openTile f h) t (h .tiles - t) ≡ inTurn (openTile f h) 0 (h .tiles)
 
 abbrev μ-loop : tie.MeasureT-loop
-μ-loop f tiles t₀ t = tiles - t
+μ-loop f h t₀ t = h .tiles - t
 
 loop-holds : tie.Need-loop-holds Inv-loop μ-loop
 loop-holds c = rw sub-zero
@@ -24,19 +25,6 @@ open-tile-requires c κs = search needs
 enum-told : tie.Need-enum-told Inv-loop μ-loop
 enum-told c = search needs
 
-enum-told-2 : tie.Need-enum-told-2 Inv-loop μ-loop
-enum-told-2 c = search needs
-
-returns : tie.Need-returns Inv-loop μ-loop
-unfolding openAll
-returns c =
-    let l = c .before .before .before .before in
-    let s = l .before .before .args in
-    let told = c .enum-told2 .given .1 in
-    let tile = told-refused (c .before .before .open-tile .ensures) told in
-    ap answerOutcome told ∙ sym (rw (sym (l .loop .inv)
-    ∙ turn-refused (openTile (s .f .now) (s .tiles)) (l .loop .t) (s .tiles) _ _ (search needs) tile))
-
 add-t : tie.Need-add-t Inv-loop μ-loop
 add-t c = search needs
 
@@ -45,17 +33,33 @@ loop-less c = search needs
 
 loop-again : tie.Need-loop-again Inv-loop μ-loop
 loop-again c =
-    let l = c .before .before .before .before in
-    let s = l .before .before .args in
-    let tile = told-accepted (c .before .before .open-tile .ensures) (c .enum-told .given .1) in
-    turn-accepted (openTile (s .f .now) (s .tiles)) (l .loop .t) (s .tiles) _ (search needs) tile ∙ l .loop .inv
+    let s : tie.Start Inv-loop μ-loop = search in
+    let l : tie.At-loop Inv-loop μ-loop = search in
+    let o : tie.After-open-tile Inv-loop μ-loop = search in
+    turn-accepted (openTile (s .args .f .now) (s .args .h)) (l .loop .t) (s .args .h .tiles) _ (search needs)
+    (told openingOutcome (o .open-tile .ensures) (c .enum-told .given .1)) ∙ l .loop .inv
+
+enum-known-r : tie.Need-enum-known-r Inv-loop μ-loop
+enum-known-r c = search needs
+
+returns : tie.Need-returns Inv-loop μ-loop
+unfolding openAll
+returns c =
+    let s : tie.Start Inv-loop μ-loop = search in
+    let l : tie.At-loop Inv-loop μ-loop = search in
+    let o : tie.After-open-tile Inv-loop μ-loop = search in
+    let r : tie.After-r Inv-loop μ-loop = search in
+    let tile = told openingOutcome (o .open-tile .ensures) (r .r .given .1) in
+    sym (rw (sym (l .loop .inv)
+    ∙ turn-refused (openTile (s .args .f .now) (s .args .h)) (l .loop .t) (s .args .h .tiles) _ _ (search needs) tile))
 
 returns-2 : tie.Need-returns-2 Inv-loop μ-loop
 unfolding openAll
 returns-2 c =
-    let l = c .before in
-    let s = l .before .before .args in
-    sym (rw (sym (l .loop .inv) ∙ turn-end (openTile (s .f .now) (s .tiles)) (l .loop .t) (s .tiles) (search needs)))
+    let s : tie.Start Inv-loop μ-loop = search in
+    let l : tie.At-loop Inv-loop μ-loop = search in
+    sym (rw (sym (l .loop .inv)
+    ∙ turn-end (openTile (s .args .f .now) (s .args .h)) (l .loop .t) (s .args .h .tiles) (search needs)))
 
 pub open-all-spec : {M : Type 1} → statement M
 open-all-spec =
@@ -66,9 +70,9 @@ open-all-spec =
     loop-holds
     open-tile-requires
     enum-told
-    enum-told-2
-    returns
     add-t
     loop-less
     loop-again
+    enum-known-r
+    returns
     returns-2)
