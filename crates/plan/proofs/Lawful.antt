@@ -8,6 +8,7 @@ use lib.IntN.{ℤ, pos}
 use lib.ListN.{length}
 use Rattle.base.specs.Refusal.{accepted}
 use Rattle.blocks.specs.Directory.{entryBox, directory, boxAt}
+use Rattle.blocks.specs.declared.header.Header.{Header}
 use Rattle.geometry.specs.Box.{validBox, inside}
 use Rattle.geometry.specs.Distance.{D, closestPoint, minDist}
 use Rattle.search.specs.Plan.{Lawful}
@@ -18,7 +19,7 @@ use Rattle.geometry.proofs.AllAxes.{Over, in-box, in-test, in-length, closest-i
 use Rattle.geometry.proofs.Two.{two, at-x, at-y}
 use Rattle.margin.proofs.AllAxes.{three, over-in}
 use Rattle.margin.proofs.Theorems.{closer-exact, closer-irreflexive, closer-transitive}
-use Rattle.plan.specs.FilePlan.{planOf}
+use Rattle.plan.specs.FilePlan.{entries}
 
 pub box-axes : (f : List ℕ) (t : ℕ) → length (boxAt f t) ≡ 2
 unfolding boxAt entryBox
@@ -39,33 +40,32 @@ reached b p axes w n =
     let e = two q (pos 0) (in-length i ∙ axes) in
     (record { x = at-x q; y = at-y q; cue = n }, (rw (← e) (in-test i), (rw (← e) refl, refl)))
 
-module _ (f : List ℕ) (tiles : ℕ) (o : List (List ℤ)) (k : ℕ)
-    (read : directory f ≡ accepted tiles) (valid : validBox o ≡ true) (axes : length o ≡ 2) where
-  valid-at : (t : ℕ) → t < tiles → validBox (boxAt f t) ≡ true
-  valid-at t h = entry-of-accepted f tiles t read h .0
+module _ (f : List ℕ) (h : Header) (o : List (List ℤ)) (read : directory f ≡ accepted h) (valid : validBox o ≡ true) (axes : length o ≡ 2) where
+  valid-at : (t : ℕ) → t < h .tiles → validBox (boxAt f t) ≡ true
+  valid-at t l = entry-of-accepted f h t read l .0
 
   axes-at : (t : ℕ) → length (boxAt f t) ≡ length o
   axes-at t = box-axes f t ∙ sym axes
 
   -- the box of a tile can be measured from a stop of O
-  measured : (p : List ℤ) (t : ℕ) → inside o p ≡ true → t < tiles → Over (boxAt f t) p
-  measured p t i h =
-      let v = valid-at t h in
+  measured : (p : List ℤ) (t : ℕ) → inside o p ≡ true → t < h .tiles → Over (boxAt f t) p
+  measured p t i l =
+      let v = valid-at t l in
       let a = axes-at t in
       over-in (three o (boxAt f t) (boxAt f t) valid v v a a) (in-box o p i) .0
 
-  pub lawful : Lawful (planOf f tiles o k) (λ p. inside o p ≡ true)
+  pub lawful : Lawful (entries f h) o
   lawful = record {
-    size-small = λ t h. entry-of-accepted f tiles t read h .1;
-    min-dist-le = λ p t s i h j. min-least (measured p t i h) (in-box (boxAt f t) (sitePoint s) (j .0));
-    min-dist-reached = λ p t c i h.
+    size-small = λ t l. entry-of-accepted f h t read l .1;
+    min-dist-le = λ p t s i l j. min-least (measured p t i l) (in-box (boxAt f t) (sitePoint s) (j .0));
+    min-dist-reached = λ p t c i l.
         let n = other-cue c in
-        let r = reached (boxAt f t) p (box-axes f t) (measured p t i h) (n .0) in
+        let r = reached (boxAt f t) p (box-axes f t) (measured p t i l) (n .0) in
         (r .0, (r .1 .0, omega (arith, n .1 .0, r .1 .1 .1)), r .1 .1 .0, λ e. n .1 .1 (sym (r .1 .1 .1) ∙ e));
     closer-less = λ p e b s u i he hb t j l.
         closer-exact o (boxAt f e) (boxAt f b) valid (valid-at e he) (valid-at b hb) (axes-at e) (axes-at b) .0
         t p (sitePoint s) (sitePoint u) i (j .0) (l .0);
-    closer-irrefl = λ b h. closer-irreflexive o (boxAt f b) valid (valid-at b h) (axes-at b);
+    closer-irrefl = λ b l. closer-irreflexive o (boxAt f b) valid (valid-at b l) (axes-at b);
     closer-trans = λ a b c ha hb hc. closer-transitive o (boxAt f a) (boxAt f b) (boxAt f c) valid
         (valid-at a ha) (valid-at b hb) (valid-at c hc) (axes-at a) (axes-at b) (axes-at c);
   }

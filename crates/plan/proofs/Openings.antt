@@ -1,30 +1,36 @@
 -- What opens agrees with the directory, and is the file's own town there. Assumes nothing.
 use Prim.Native.Nat.{ℕ, zero, suc, _+_, _*_, _<_, _^_}
 use mathlib.Core.List.{List}
-use mathlib.Core.Path.{_≡_, sym}
+use mathlib.Core.Path.{_≡_, refl, sym, ap, _∙_}
 use native.Mathlib.Nat.{add-zero, zero-add}
 use native.Mathlib.Omega.{arith}
 use lib.Dec.{ltb}
 use lib.IntN.{ℤ}
-use lib.ListN.{take, drop, length-take, List·getD-eq-default}
+use lib.ListN.{length, take, drop, length-take, List·getD-eq-default}
 use lib.Seq.{getD-take, getD-drop}
 use borrow.Author.Tests.{ltb-true, ltb-false}
-use Rattle.base.specs.Refusal.{accepted}
+use Rattle.base.specs.Refusal.{accepted, andThen}
 use Rattle.blocks.specs.Block.{blockAt}
-use Rattle.blocks.specs.Directory.{countAt}
+use Rattle.blocks.specs.Directory.{directoryBlocks, boxAt, countAt}
 use Rattle.blocks.specs.Layout.{blockSize}
+use Rattle.blocks.specs.declared.header.Header.{Header}
 use Rattle.codec.specs.Number.{Bytes, u16At, u32At}
 use Rattle.codec.specs.Tabulate.{tabulate}
 use Rattle.search.specs.Lists.{All}
 use Rattle.search.specs.Plan.{Fills, Agrees}
 use Rattle.search.specs.Run.{Checked}
 use Rattle.tiles.specs.Accepted.{GoodFile}
-use Rattle.tiles.specs.Tile.{siteIn, openTile, siteAt, sitesAt}
+use Rattle.tiles.specs.Tile.{siteIn, tilePosition, openTile, siteAt, sitesAt}
 use Rattle.tiles.specs.declared.tile.Site.{Site}
 use Rattle.base.proofs.Outcomes.{accepted-injective, andThen-accepted}
 use Rattle.base.proofs.Tests.{by-test}
-use Rattle.tiles.proofs.Theorems.{opening-exactly, opened-inside, sites-length}
-use Rattle.plan.specs.FilePlan.{planOf, openingOf, townOf}
+use Rattle.blocks.proofs.BlockLaws.{length-block}
+use Rattle.blocks.proofs.DirectoryLaws.{directory-good, block-fits, box-valid, count-small}
+use Rattle.geometry.proofs.AllAxes.{in-box, in-valid}
+use Rattle.search.proofs.Walk.{by-outcome}
+use Rattle.tiles.proofs.Theorems.{opening-exactly, opened-count, opened-inside, sites-length}
+use Rattle.plan.specs.FilePlan.{entries, openingOf, townOf}
+use Rattle.plan.specs.Inner.Seam.{TileOf, Opens, BlockOf}
 
 -- ---- cues
 
@@ -48,9 +54,9 @@ block-bytes f h p i =
     let l = ltb-false i blockSize e in
     rw (List·getD-eq-default (take blockSize rest) 0 {n = i} (omega arith)) (omega arith))
 
-cue-small : (f : List ℕ) → Bytes f → (tiles t slot : ℕ) → siteAt f tiles t slot .cue < 2 ^ 32
+cue-small : (f : List ℕ) → Bytes f → (h : Header) (t slot : ℕ) → siteAt f h t slot .cue < 2 ^ 32
 unfolding siteAt siteIn
-cue-small f h tiles t slot = u32-small _ (block-bytes f h _) _
+cue-small f b h t slot = u32-small _ (block-bytes f b _) _
 
 -- ---- openings
 
@@ -62,40 +68,64 @@ all-tabulate P g a (suc n) h = (
   all-tabulate P g (a + 1) n (λ i l. let e : a + 1 + i ≡ a + suc i = omega arith in rw e (h (suc i) (omega arith))),
 )
 
-module _ (f : List ℕ) (tiles t : ℕ) where
-  pub opening-town : {l : List Site} → openingOf f tiles t ≡ accepted l → l ≡ townOf f tiles t
+module _ (f : List ℕ) (h : Header) (t : ℕ) where
+  pub opening-town : {l : List Site} → openingOf f h t ≡ accepted l → l ≡ townOf f h t
   unfolding openingOf
-  opening-town e = sym (accepted-injective (andThen-accepted (openTile f tiles t) (λ _. accepted (sitesAt f tiles t)) e .2))
+  opening-town e = sym (accepted-injective (andThen-accepted (openTile f h t) (λ _. accepted (sitesAt f h t)) e .2))
 
-  pub opening-accepted : {n : ℕ} → openTile f tiles t ≡ accepted n → openingOf f tiles t ≡ accepted (townOf f tiles t)
+  pub opening-accepted : {n : ℕ} → openTile f h t ≡ accepted n → openingOf f h t ≡ accepted (townOf f h t)
   unfolding openingOf
   opening-accepted e = rw e
 
-  module _ (o : List (List ℤ)) (k : ℕ) (bytes : Bytes f) where
-    pub opened-fills : {n : ℕ} → openTile f tiles t ≡ accepted n → Fills (planOf f tiles o k) t (townOf f tiles t)
+  -- an opening counts its sites
+  pub opening-counted : andThen (openingOf f h t) (λ l. accepted (length l)) ≡ openTile f h t
+  unfolding openingOf
+  opening-counted = by-outcome (openTile f h t)
+      (λ n e. rw e (ap accepted (sites-length f h t ∙ sym (opened-count f h t e))))
+      (λ n b e. rw e)
+
+  -- the block of a tile that opens
+  pub opened-block : TileOf f h t → Opens f h t → BlockOf f h t (blockAt f (tilePosition h t)) (length (townOf f h t))
+  unfolding openingOf sitesAt siteAt tilePosition
+  opened-block tile e =
+      let good = directory-good f (tile .dir) in
+      let l = tile .below in
+      let n = sites-length f h t in
+      let o = andThen-accepted (openTile f h t) (λ _. accepted (sitesAt f h t)) e .1 in
+      rw n (record {
+        sited = record {
+          whole = length-block f (directoryBlocks h + t) (block-fits good (directoryBlocks h + t) (omega arith));
+          few = count-small good t l;
+          valid = λ slot i. in-valid (in-box (boxAt f t) _ (opened-inside f h t o slot i)) (box-valid good t l);
+        };
+        own = refl;
+      })
+
+  module _ (bytes : Bytes f) where
+    pub opened-fills : {n : ℕ} → openTile f h t ≡ accepted n → Fills (entries f h) t (townOf f h t)
     unfolding sitesAt
     opened-fills e = record {
-      counted = sites-length f tiles t;
-      inside = all-tabulate _ (siteAt f tiles t) 0 (countAt f t)
-          (λ i l. rw (zero-add i) (opened-inside f tiles t e i l, cue-small f bytes tiles t i));
+      counted = sites-length f h t;
+      inside = all-tabulate _ (siteAt f h t) 0 (countAt f t)
+          (λ i l. rw (zero-add i) (opened-inside f h t e i l, cue-small f bytes h t i));
     }
 
-    pub opening-fills : {l : List Site} → openingOf f tiles t ≡ accepted l → Fills (planOf f tiles o k) t l
+    pub opening-fills : {l : List Site} → openingOf f h t ≡ accepted l → Fills (entries f h) t l
     unfolding openingOf
     opening-fills e =
-        rw (opening-town e) (opened-fills (andThen-accepted (openTile f tiles t) (λ _. accepted (sitesAt f tiles t)) e .1))
+        rw (opening-town e) (opened-fills (andThen-accepted (openTile f h t) (λ _. accepted (sitesAt f h t)) e .1))
 
-module _ (f : List ℕ) (tiles : ℕ) where
-  pub openings-checked : (o : List (List ℤ)) (k : ℕ) → Bytes f → Checked (planOf f tiles o k) (openingOf f tiles)
-  openings-checked o k bytes t l h e = opening-fills f tiles t o k bytes e
+module _ (f : List ℕ) (h : Header) where
+  pub openings-checked : Bytes f → Checked (entries f h) (openingOf f h)
+  openings-checked bytes t l i e = opening-fills f h t bytes e
 
   -- a file that passes the full check
-  module _ (good : GoodFile f tiles) where
-    opens : (t : ℕ) → t < tiles → openTile f tiles t ≡ accepted (countAt f t)
-    opens t h = opening-exactly f tiles t .1 (good .opened t h)
+  module _ (good : GoodFile f h) where
+    opens : (t : ℕ) → t < h .tiles → openTile f h t ≡ accepted (countAt f t)
+    opens t i = opening-exactly f h t .1 (good .opened t i)
 
-    pub all-open : (t : ℕ) → t < tiles → openingOf f tiles t ≡ accepted (townOf f tiles t)
-    all-open t h = opening-accepted f tiles t (opens t h)
+    pub all-open : (t : ℕ) → t < h .tiles → openingOf f h t ≡ accepted (townOf f h t)
+    all-open t i = opening-accepted f h t (opens t i)
 
-    pub own-town : (o : List (List ℤ)) (k : ℕ) → Bytes f → Agrees (planOf f tiles o k) (townOf f tiles)
-    own-town o k bytes t h = opened-fills f tiles t o k bytes (opens t h)
+    pub own-town : Bytes f → Agrees (entries f h) (townOf f h)
+    own-town bytes t i = opened-fills f h t bytes (opens t i)

@@ -1,0 +1,26 @@
+// Tiles measured from a stop.
+ghost use mathlib.Core.Path.{_≡_};
+ghost use Rattle.search.specs.Plan.{near};
+ghost use Rattle.plan.specs.FilePlan.{entries};
+ghost use Rattle.plan.specs.Inner.Seam.{TileOf, ValidStop, far};
+use crate::region::Stop;
+use blocks::directory;
+use blocks::header::Header;
+use geometry::distance::max_dist_within;
+use geometry::distance::min_dist_within;
+
+// Near distance of tile t.
+pub fn near(f: &[u8], h: Header, t: usize, p: Stop) -> u64
+    requires { ⌜ TileOf (now f) h t × ValidStop p ⌝ }
+    ensures { λ r. ⌜ r ≡ near (entries (now (f .entry)) h) p t ⌝ }
+{
+    min_dist_within(directory::box_at(f, h, t), p)
+}
+
+// Far distance of tile t.
+pub fn far(f: &[u8], h: Header, t: usize, p: Stop) -> u64
+    requires { ⌜ TileOf (now f) h t × ValidStop p ⌝ }
+    ensures { λ r. ⌜ r ≡ far (now (f .entry)) p t ⌝ }
+{
+    max_dist_within(directory::box_at(f, h, t), p)
+}

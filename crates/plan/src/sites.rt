@@ -1,0 +1,66 @@
+// The sites of a tile: how many rank, its opening, its block in place, and the place of a slot.
+ghost use mathlib.Core.Path.{_≡_};
+ghost use Prim.Native.Nat.{_<_, _≤_};
+ghost use lib.ListN.{length};
+ghost use Rattle.base.specs.Refusal.{accepted, andThen};
+ghost use Rattle.blocks.specs.Layout.{maxSites};
+ghost use Rattle.search.specs.Plan.{ranked};
+ghost use Rattle.tiles.specs.Outcome.{openingOutcome};
+ghost use Rattle.tiles.specs.Tile.{siteIn};
+ghost use Rattle.plan.specs.FilePlan.{entries, openingOf, townOf};
+ghost use Rattle.plan.specs.Inner.Seam.{TileOf, ValidStop, Opens, Sited, BlockOf, sitePlace};
+use crate::region::Stop;
+use blocks::block;
+use blocks::directory;
+use blocks::header::Header;
+use geometry::distance::squared_dist;
+use search::Place;
+use tiles::tile;
+use tiles::tile::Opening;
+
+// How many sites of tile t rank.
+pub fn ranked(f: &[u8], h: Header, t: usize) -> usize
+    requires { ⌜ TileOf (now f) h t ⌝ }
+    ensures { λ r. ⌜ (r ≡ ranked (entries (now (f .entry)) h) t) × (r ≤ maxSites) ⌝ }
+{
+    directory::count_at(f, h, t)
+}
+
+// How many sites tile t has.
+pub fn count(f: &[u8], h: Header, t: usize) -> usize
+    requires { ⌜ TileOf (now f) h t ⌝ }
+    ensures { λ r. ⌜ (r ≡ length (townOf (now (f .entry)) h t)) × (r ≤ maxSites) ⌝ }
+{
+    directory::count_at(f, h, t)
+}
+
+// Opens tile t: the number of its sites, or the first refusal.
+pub fn open(f: &[u8], h: Header, t: usize) -> Opening
+    requires { ⌜ TileOf (now f) h t ⌝ }
+    ensures { λ r. ⌜ openingOutcome r ≡ andThen (openingOf (now (f .entry)) h t) (λ l. accepted (length l)) ⌝ }
+{
+    tile::open_tile(f, h, t)
+}
+
+// The block of tile t, which opens, in place.
+pub fn block_of(f: &[u8], h: Header, t: usize) -> &[u8]
+    requires { ⌜ TileOf (now f) h t × Opens (now f) h t ⌝ }
+    ensures { λ r. ⌜ BlockOf (now (f .entry)) h t (now r) (length (townOf (now (f .entry)) h t)) ⌝ }
+{
+    block::block_at(f, tile::tile_position(f, h, t))
+}
+
+// The place of the site of a slot of a tile's block with n sites, under its number, for the stop p.
+pub fn place_in(s: &[u8], n: usize, slot: usize, number: u32, p: Stop) -> Place
+    requires { ⌜ Sited (now s) n × (slot < n) × ValidStop p ⌝ }
+    ensures { λ r. ⌜ r ≡ sitePlace p number (siteIn (now (s .entry)) slot) ⌝ }
+{
+    let found = tile::site_in(s, slot);
+    let x = found.x;
+    let y = found.y;
+    Place {
+        dist: squared_dist(p, [x, y]),
+        site: number,
+        cue: found.cue,
+    }
+}
