@@ -17,6 +17,7 @@ if [ ${#missing[@]} -gt 0 ]; then
 fi
 
 rt fmt --check
+tests/believed.py
 rt ci | tee "$log"
 make --no-print-directory lib
 tests/examples.sh

@@ -6,7 +6,8 @@ use lib.ListN.{replicate}
 use Rattle.base.specs.Refusal.{Outcome, accepted, refused}
 use Rattle.codec.specs.Tabulate.{joined}
 use Rattle.join.specs.Join.{Result, Slices, End, lent, joinEnd}
-use Rattle.console.specs.Line.{inputLine, refusedLine, countsLine, stopLine}
+use Rattle.console.specs.Line.{refusedLine, countsLine, stopLine}
+use Rattle.console.specs.Text.{bytes}
 use Rattle.console.specs.Request.{kOf, stopCount, xsOf, ysOf, fileOf, wellFormed}
 
 -- the program's own slices: room for 128 stops of 64 places, and for 960 marks, so that 14 never comes
@@ -40,4 +41,4 @@ unfoldable pub endText : ℕ → ℕ → End → List ℕ
 endText n k e = answerText n k (e .slices .dist) (e .slices .site) (e .slices .cue) (e .outcome)
 
 unfoldable pub output : List ℕ → List ℕ
-output input = cond (wellFormed input) (endText (stopCount input) (kOf input) (endOf input)) inputLine
+output input = cond (wellFormed input) (endText (stopCount input) (kOf input) (endOf input)) (bytes "input\n")

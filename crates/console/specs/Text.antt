@@ -1,11 +1,18 @@
 -- Words and numbers as bytes, and what a call that writes text leaves.
+use Prim.Native.Char.{code}
 use Prim.Native.Nat.{ℕ, zero, suc, _+_, _*_, _-_, _/_, _%_}
+use Prim.Native.String.{String, [] as nil, _∷_ as _∙∷_}
 use mathlib.Core.Bool.{cond}
 use mathlib.Core.List.{List, [], _∷_, _++_}
 use mathlib.Core.Path.{_≡_}
 use lib.Dec.{ltb}
 use lib.ListN.{length}
 use Rattle.codec.specs.Over.{over}
+
+-- a text as bytes: the numbers of its characters
+abbrev pub bytes : String → List ℕ
+bytes nil = []
+bytes (c ∙∷ s) = code c ∷ bytes s
 
 -- how many digits n has in decimal: one below 10, else one more than n / 10; a number of 64 bits has at most 20
 unfoldable pub widthUpTo : ℕ → ℕ → ℕ

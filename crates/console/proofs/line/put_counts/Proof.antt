@@ -1,6 +1,7 @@
 use native.Mathlib.Omega.{arith}
 use borrow.Author.Needs.{needs}
-use Rattle.console.specs.Line.{tilesWord, openedWord, struckWord, countsLine}
+use Rattle.console.specs.Line.{countsLine}
+use Rattle.console.specs.Text.{bytes}
 use Rattle.console.proofs.LineLaws.{counts-short}
 use Rattle.console.proofs.TextLaws.{then, room-after, digits-32, labelled-32}
 use Rattle.console.proofs.line.put_counts.Statement.{statement}
@@ -10,15 +11,22 @@ slice-aggregate-put-labelled : tie.Need-slice-aggregate-put-labelled
 slice-aggregate-put-labelled c = search needs
 
 put-labelled-requires : tie.Need-put-labelled-requires
-put-labelled-requires c κs = let s = c .before .before .before in omega (arith, s .pre, digits-32 (s .args .tiles) (s .fits .tiles .fits))
+put-labelled-requires c κs =
+    let s : tie.Start = search in
+    omega (arith, s .pre, digits-32 (s .args .tiles) (s .fits .tiles .fits))
 
 slice-aggregate-put-labelled-2 : tie.Need-slice-aggregate-put-labelled-2
 slice-aggregate-put-labelled-2 c = search needs
 
 put-labelled-requires-2 : tie.Need-put-labelled-requires-2
 put-labelled-requires-2 c κs =
-    let s = c .before .before .before .before .before .before .before .before in
-    let room = room-after 53 37 (c .before .before .before .before .put-labelled .ensures) (s .pre) (omega (arith, labelled-32 tilesWord (s .args .tiles) (s .fits .tiles .fits))) in
+    let s : tie.Start = search in
+    let a : tie.After-put-labelled = search in
+    let room = room-after 53 37 (a .put-labelled .ensures) (s .pre) (omega (
+      arith,
+      labelled-32 (bytes "tiles ")
+          (s .args .tiles) (s .fits .tiles .fits),
+    )) in
     omega (arith, room, digits-32 (s .args .opened) (s .fits .opened .fits))
 
 slice-aggregate-put-labelled-3 : tie.Need-slice-aggregate-put-labelled-3
@@ -26,9 +34,19 @@ slice-aggregate-put-labelled-3 c = search needs
 
 put-labelled-requires-3 : tie.Need-put-labelled-requires-3
 put-labelled-requires-3 c κs =
-    let s = c .before .before .before .before .before .before .before .before .before .before .before .before .before in
-    let room = room-after 53 37 (c .before .before .before .before .before .before .before .before .before .put-labelled .ensures) (s .pre) (omega (arith, labelled-32 tilesWord (s .args .tiles) (s .fits .tiles .fits))) in
-    let more = room-after 37 19 (c .before .before .before .before .put-labelled2 .ensures) room (omega (arith, labelled-32 openedWord (s .args .opened) (s .fits .opened .fits))) in
+    let s : tie.Start = search in
+    let a : tie.After-put-labelled = search in
+    let b : tie.After-put-labelled2 = search in
+    let room = room-after 53 37 (a .put-labelled .ensures) (s .pre) (omega (
+      arith,
+      labelled-32 (bytes "tiles ")
+          (s .args .tiles) (s .fits .tiles .fits),
+    )) in
+    let more = room-after 37 19 (b .put-labelled2 .ensures) room (omega (
+      arith,
+      labelled-32 (bytes " opened ")
+          (s .args .opened) (s .fits .opened .fits),
+    )) in
     omega (arith, more, digits-32 (s .args .pruned) (s .fits .pruned .fits))
 
 slice-aggregate-put-text : tie.Need-slice-aggregate-put-text
@@ -36,10 +54,25 @@ slice-aggregate-put-text c = search needs
 
 put-text-requires : tie.Need-put-text-requires
 put-text-requires c κs =
-    let s = c .before .before .before .before .before .before .before .before .before .before .before .before .before .before .before .before .before .before in
-    let room = room-after 53 37 (c .before .before .before .before .before .before .before .before .before .before .before .before .before .before .put-labelled .ensures) (s .pre) (omega (arith, labelled-32 tilesWord (s .args .tiles) (s .fits .tiles .fits))) in
-    let more = room-after 37 19 (c .before .before .before .before .before .before .before .before .before .put-labelled2 .ensures) room (omega (arith, labelled-32 openedWord (s .args .opened) (s .fits .opened .fits))) in
-    room-after 19 1 (c .before .before .before .before .put-labelled3 .ensures) more (omega (arith, labelled-32 struckWord (s .args .pruned) (s .fits .pruned .fits)))
+    let s : tie.Start = search in
+    let a : tie.After-put-labelled = search in
+    let b : tie.After-put-labelled2 = search in
+    let d : tie.After-put-labelled3 = search in
+    let room = room-after 53 37 (a .put-labelled .ensures) (s .pre) (omega (
+      arith,
+      labelled-32 (bytes "tiles ")
+          (s .args .tiles) (s .fits .tiles .fits),
+    )) in
+    let more = room-after 37 19 (b .put-labelled2 .ensures) room (omega (
+      arith,
+      labelled-32 (bytes " opened ")
+          (s .args .opened) (s .fits .opened .fits),
+    )) in
+    room-after 19 1 (d .put-labelled3 .ensures) more (omega (
+      arith,
+      labelled-32 (bytes " struck ")
+          (s .args .pruned) (s .fits .pruned .fits),
+    ))
 
 same-length : tie.Need-same-length
 same-length c = search needs
@@ -47,9 +80,15 @@ same-length c = search needs
 returns : tie.Need-returns
 unfolding countsLine
 returns c =
-    let s = c .before .before .before .before .before .before .before .before .before .before .before .before .before .before .before .before .before .before .before .before .before in
-    let w = then (then (then (c .before .before .before .before .before .before .before .before .before .before .before .before .before .before .before .before .before .put-labelled .ensures) (c .before .before .before .before .before .before .before .before .before .before .before .before .put-labelled2 .ensures)) (c .before .before .before .before .before .before .before .put-labelled3 .ensures)) (c .before .before .put-text .ensures) in
-    let short = counts-short (s .args .tiles) (s .args .opened) (s .args .pruned) (s .fits .tiles .fits) (s .fits .opened .fits) (s .fits .pruned .fits) in
+    let s : tie.Start = search in
+    let a : tie.After-put-labelled = search in
+    let b : tie.After-put-labelled2 = search in
+    let d : tie.After-put-labelled3 = search in
+    let t : tie.After-put-text = search in
+    let w = then (then (then (a .put-labelled .ensures)
+    (b .put-labelled2 .ensures)) (d .put-labelled3 .ensures)) (t .put-text .ensures) in
+    let short = counts-short (s .args .tiles) (s .args .opened) (s .args .pruned) (s .fits .tiles .fits)
+    (s .fits .opened .fits) (s .fits .pruned .fits) in
     (w, omega (arith, w .end, short))
 
 pub put-counts-spec : {M : Type 1} → statement M

@@ -1,6 +1,7 @@
 use native.Mathlib.Omega.{arith}
 use borrow.Author.Needs.{needs}
-use Rattle.console.specs.Line.{space, placeText}
+use Rattle.console.specs.Line.{placeText}
+use Rattle.console.specs.Text.{bytes}
 use Rattle.console.proofs.LineLaws.{distance-short}
 use Rattle.console.proofs.TextLaws.{then, room-after, digits-32, labelled-32}
 use Rattle.console.proofs.line.put_place.Statement.{statement}
@@ -14,8 +15,13 @@ slice-aggregate-put-labelled c = search needs
 
 put-labelled-requires : tie.Need-put-labelled-requires
 put-labelled-requires c κs =
-    let s = c .before .before .before .before .before .before .before in
-    let room = room-after 44 22 (c .before .before .before .before .put-distance .ensures) (s .pre) (omega (arith, distance-short (s .args .j) (s .args .dist) (s .fits .dist .fits))) in
+    let s : tie.Start = search in
+    let e : tie.After-put-distance = search in
+    let room = room-after 44 22 (e .put-distance .ensures) (s .pre) (omega (
+      arith,
+      distance-short (s .args .j)
+          (s .args .dist) (s .fits .dist .fits),
+    )) in
     omega (arith, room, digits-32 (s .args .site) (s .fits .site .fits))
 
 slice-aggregate-put-labelled-2 : tie.Need-slice-aggregate-put-labelled-2
@@ -23,9 +29,19 @@ slice-aggregate-put-labelled-2 c = search needs
 
 put-labelled-requires-2 : tie.Need-put-labelled-requires-2
 put-labelled-requires-2 c κs =
-    let s = c .before .before .before .before .before .before .before .before .before .before .before .before in
-    let room = room-after 44 22 (c .before .before .before .before .before .before .before .before .before .put-distance .ensures) (s .pre) (omega (arith, distance-short (s .args .j) (s .args .dist) (s .fits .dist .fits))) in
-    let more = room-after 22 11 (c .before .before .before .before .put-labelled .ensures) room (omega (arith, labelled-32 space (s .args .site) (s .fits .site .fits))) in
+    let s : tie.Start = search in
+    let e : tie.After-put-distance = search in
+    let a : tie.After-put-labelled = search in
+    let room = room-after 44 22 (e .put-distance .ensures) (s .pre) (omega (
+      arith,
+      distance-short (s .args .j)
+          (s .args .dist) (s .fits .dist .fits),
+    )) in
+    let more = room-after 22 11 (a .put-labelled .ensures) room (omega (
+      arith,
+      labelled-32 (bytes " ")
+          (s .args .site) (s .fits .site .fits),
+    )) in
     omega (arith, more, digits-32 (s .args .cue) (s .fits .cue .fits))
 
 same-length : tie.Need-same-length
@@ -33,7 +49,11 @@ same-length c = search needs
 
 returns : tie.Need-returns
 unfolding placeText
-returns c = then (then (c .before .before .before .before .before .before .before .before .before .before .before .before .put-distance .ensures) (c .before .before .before .before .before .before .before .put-labelled .ensures)) (c .before .before .put-labelled2 .ensures)
+returns c =
+    let e : tie.After-put-distance = search in
+    let a : tie.After-put-labelled = search in
+    let b : tie.After-put-labelled2 = search in
+    then (then (e .put-distance .ensures) (a .put-labelled .ensures)) (b .put-labelled2 .ensures)
 
 pub put-place-spec : {M : Type 1} → statement M
 put-place-spec =

@@ -1,6 +1,7 @@
 use native.Mathlib.Omega.{arith}
 use borrow.Author.Needs.{needs}
-use Rattle.console.specs.Line.{refusedWord, blockWord, refusedLine}
+use Rattle.console.specs.Line.{refusedLine}
+use Rattle.console.specs.Text.{bytes}
 use Rattle.console.proofs.LineLaws.{refused-short}
 use Rattle.console.proofs.TextLaws.{then, room-after, digits-32, labelled-32}
 use Rattle.console.proofs.line.put_refused.Statement.{statement}
@@ -10,15 +11,19 @@ slice-aggregate-put-labelled : tie.Need-slice-aggregate-put-labelled
 slice-aggregate-put-labelled c = search needs
 
 put-labelled-requires : tie.Need-put-labelled-requires
-put-labelled-requires c κs = let s = c .before .before .before in omega (arith, s .pre, digits-32 (s .args .number) (s .fits .number .fits))
+put-labelled-requires c κs =
+    let s : tie.Start = search in
+    omega (arith, s .pre, digits-32 (s .args .number) (s .fits .number .fits))
 
 slice-aggregate-put-labelled-2 : tie.Need-slice-aggregate-put-labelled-2
 slice-aggregate-put-labelled-2 c = search needs
 
 put-labelled-requires-2 : tie.Need-put-labelled-requires-2
 put-labelled-requires-2 c κs =
-    let s = c .before .before .before .before .before .before .before .before in
-    let room = room-after 36 18 (c .before .before .before .before .put-labelled .ensures) (s .pre) (omega (arith, labelled-32 refusedWord (s .args .number) (s .fits .number .fits))) in
+    let s : tie.Start = search in
+    let a : tie.After-put-labelled = search in
+    let room = room-after 36 18 (a .put-labelled .ensures) (s .pre)
+    (omega (arith, labelled-32 (bytes "refused ") (s .args .number) (s .fits .number .fits))) in
     omega (arith, room, digits-32 (s .args .block) (s .fits .block .fits))
 
 slice-aggregate-put-text : tie.Need-slice-aggregate-put-text
@@ -26,9 +31,16 @@ slice-aggregate-put-text c = search needs
 
 put-text-requires : tie.Need-put-text-requires
 put-text-requires c κs =
-    let s = c .before .before .before .before .before .before .before .before .before .before .before .before .before in
-    let room = room-after 36 18 (c .before .before .before .before .before .before .before .before .before .put-labelled .ensures) (s .pre) (omega (arith, labelled-32 refusedWord (s .args .number) (s .fits .number .fits))) in
-    room-after 18 1 (c .before .before .before .before .put-labelled2 .ensures) room (omega (arith, labelled-32 blockWord (s .args .block) (s .fits .block .fits)))
+    let s : tie.Start = search in
+    let a : tie.After-put-labelled = search in
+    let b : tie.After-put-labelled2 = search in
+    let room = room-after 36 18 (a .put-labelled .ensures) (s .pre)
+    (omega (arith, labelled-32 (bytes "refused ") (s .args .number) (s .fits .number .fits))) in
+    room-after 18 1 (b .put-labelled2 .ensures) room (omega (
+      arith,
+      labelled-32 (bytes " block ")
+          (s .args .block) (s .fits .block .fits),
+    ))
 
 same-length : tie.Need-same-length
 same-length c = search needs
@@ -36,9 +48,19 @@ same-length c = search needs
 returns : tie.Need-returns
 unfolding refusedLine
 returns c =
-    let s = c .before .before .before .before .before .before .before .before .before .before .before .before .before .before .before .before in
-    let w = then (then (c .before .before .before .before .before .before .before .before .before .before .before .before .put-labelled .ensures) (c .before .before .before .before .before .before .before .put-labelled2 .ensures)) (c .before .before .put-text .ensures) in
-    (w, omega (arith, w .end, refused-short (s .args .number) (s .args .block) (s .fits .number .fits) (s .fits .block .fits)))
+    let s : tie.Start = search in
+    let a : tie.After-put-labelled = search in
+    let b : tie.After-put-labelled2 = search in
+    let t : tie.After-put-text = search in
+    let w = then (then (a .put-labelled .ensures) (b .put-labelled2 .ensures)) (t .put-text .ensures) in (
+      w,
+      omega (
+        arith,
+        w .end,
+        refused-short (s .args .number) (s .args .block) (s .fits .number .fits)
+            (s .fits .block .fits),
+      ),
+    )
 
 pub put-refused-spec : {M : Type 1} → statement M
 put-refused-spec =
