@@ -13,6 +13,7 @@ use Rattle.blocks.specs.Layout.{syncByte, directoryKind, tileKind, kindAt, posi
 use Rattle.blocks.specs.Layout.{zeroOffset, blockSize, reservedAt, payloadAt, checkAt, entrySize, entriesPerBlock, siteSize}
 use Rattle.blocks.specs.Layout.{maxSites}
 use Rattle.blocks.specs.declared.checksum.Sums.{Sums}
+use Rattle.blocks.specs.declared.header.Header.{Header}
 use Rattle.codec.specs.Bytes.{bytes, bytes16, bytes32, bytesSigned}
 use Rattle.codec.specs.Over.{over}
 use Rattle.codec.specs.Tabulate.{joined}
@@ -23,7 +24,7 @@ use Rattle.codec.proofs.Joined.{length-joined}
 use Rattle.codec.proofs.Over.{also, length-over}
 use Rattle.encode.specs.Encode.{headBytes, checkBytes, bodyBytes, blockBytes, boxBytes, entryBytes, siteBytes}
 use Rattle.encode.specs.Encode.{directoryBytes, tileBytes, tileBytesOf}
-use Rattle.encode.specs.Supply.{numbersPerBox, countOf, offset}
+use Rattle.encode.specs.Supply.{headerOf, numbersPerBox, countOf, offset}
 
 -- ---- lengths
 pub length-head : (kind p n t : ℕ) → length (headBytes kind p n t) ≡ reservedAt
@@ -53,25 +54,26 @@ module _ (head payload : List ℕ) (h : length head ≡ reservedAt) (fits : payl
   unfolding blockBytes checkBytes
   length-block = simp (length-append, length-body)
 
-pub due-few : (t p : ℕ) → entriesDue t p ≤ entriesPerBlock
-unfolding entriesDue
-due-few t p = omega arith
+module _ (h : Header) where
+  pub due-few : (p : ℕ) → entriesDue h p ≤ entriesPerBlock
+  unfolding entriesDue
+  due-few p = omega arith
 
-pub due-within : (t p : ℕ) → p < directoryBlocks t → entriesPerBlock * p + entriesDue t p ≤ t
-unfolding directoryBlocks entriesDue
-due-within t p h = omega arith
+  pub due-within : (p : ℕ) → p < directoryBlocks h → entriesPerBlock * p + entriesDue h p ≤ h .tiles
+  unfolding directoryBlocks entriesDue
+  due-within p l = omega arith
 
-pub blocks-few : (t : ℕ) → directoryBlocks t ≤ t
-unfolding directoryBlocks
-blocks-few t = omega arith
+  pub blocks-few : directoryBlocks h ≤ h .tiles
+  unfolding directoryBlocks
+  blocks-few = omega arith
 
 pub length-directory-block : (boxes : List ℤ) (counts : List ℕ) (p : ℕ) → length (directoryBytes boxes counts p) ≡ blockSize
 unfolding directoryBytes
 length-directory-block boxes counts p =
-    let n = entriesDue (length counts) p in
+    let n = entriesDue (headerOf counts) p in
     length-block (headBytes directoryKind p n (length counts)) (joined (entryBytes boxes counts) (entriesPerBlock * p) n)
     (length-head directoryKind p n (length counts))
-    (omega (arith, length-entries boxes counts (entriesPerBlock * p) n, due-few (length counts) p))
+    (omega (arith, length-entries boxes counts (entriesPerBlock * p) n, due-few (headerOf counts) p))
 
 pub length-tile-block : (xs ys : List ℤ) (cues : List ℕ) (p i n : ℕ) → n ≤ maxSites →
     length (tileBytes xs ys cues p i n) ≡ blockSize
@@ -82,7 +84,7 @@ length-tile-block xs ys cues p i n h =
 
 -- the block of tile t, by what the code goes by
 pub tile-of : (counts : List ℕ) (xs ys : List ℤ) (cues : List ℕ) (t : ℕ) {p first n : ℕ} →
-    p ≡ directoryBlocks (length counts) + t →
+    p ≡ directoryBlocks (headerOf counts) + t →
     first ≡ offset counts t → n ≡ countOf counts t → tileBytes xs ys cues p first n ≡ tileBytesOf counts xs ys cues t
 unfolding tileBytesOf tilePosition
 tile-of counts xs ys cues t e₁ e₂ e₃ = rw (e₁, e₂, e₃)

@@ -7,10 +7,11 @@ use Rattle.blocks.specs.Checksum.{sums}
 use Rattle.blocks.specs.Directory.{directoryBlocks, entriesDue}
 use Rattle.blocks.specs.Layout.{blockSize, syncByte, directoryKind, tileKind, reservedAt, payloadAt, checkAt, entrySize}
 use Rattle.blocks.specs.Layout.{zeroOffset, entriesPerBlock}
+use Rattle.blocks.specs.declared.header.Header.{Header}
 use Rattle.codec.specs.Bytes.{bytes16, bytes32, bytesSigned}
 use Rattle.codec.specs.Tabulate.{joined}
 use Rattle.tiles.specs.Tile.{tilePosition}
-use Rattle.encode.specs.Supply.{Supply, tilesOf, numbersPerBox, countOf, offset}
+use Rattle.encode.specs.Supply.{Supply, headerOf, tilesOf, numbersPerBox, countOf, offset}
 
 -- "Byte 0: D6 hex. Byte 1: kind .. Bytes 2-3: the block's position in the file .. Bytes 4-5: entries. Bytes 6-7: T"
 unfoldable pub headBytes : ℕ → ℕ → ℕ → ℕ → List ℕ
@@ -45,8 +46,8 @@ siteBytes xs ys cues i = bytesSigned (getD xs i (pos 0)) ++ bytesSigned (getD ys
 -- the directory block at position p: "Each directory block but the last has 24 entries"
 unfoldable pub directoryBytes : List ℤ → List ℕ → ℕ → List ℕ
 directoryBytes boxes counts p =
-    blockBytes (headBytes directoryKind p (entriesDue (length counts) p) (length counts))
-    (joined (entryBytes boxes counts) (entriesPerBlock * p) (entriesDue (length counts) p))
+    blockBytes (headBytes directoryKind p (entriesDue (headerOf counts) p) (length counts))
+    (joined (entryBytes boxes counts) (entriesPerBlock * p) (entriesDue (headerOf counts) p))
 
 -- a tile block at position p, with n sites of the lists from site i on; T is "zero in a tile"
 unfoldable pub tileBytes : List ℤ → List ℤ → List ℕ → ℕ → ℕ → ℕ → List ℕ
@@ -54,14 +55,14 @@ tileBytes xs ys cues p i n = blockBytes (headBytes tileKind p n 0) (joined (site
 
 -- the block of tile t, at position d + t
 unfoldable pub tileBytesOf : List ℕ → List ℤ → List ℤ → List ℕ → ℕ → List ℕ
-tileBytesOf counts xs ys cues t = tileBytes xs ys cues (tilePosition (length counts) t) (offset counts t) (countOf counts t)
+tileBytesOf counts xs ys cues t = tileBytes xs ys cues (tilePosition (headerOf counts) t) (offset counts t) (countOf counts t)
 
 -- "A file has d directory blocks, d = T/24 rounded up, then tile t at position d + t"
 unfoldable pub fileBytes : Supply → List ℕ
 fileBytes s =
-    joined (directoryBytes (s .boxes) (s .counts)) 0 (directoryBlocks (tilesOf s))
+    joined (directoryBytes (s .boxes) (s .counts)) 0 (directoryBlocks (headerOf (s .counts)))
     ++ joined (tileBytesOf (s .counts) (s .xs) (s .ys) (s .cues)) 0 (tilesOf s)
 
--- "the file's length in bytes", of t tiles
-unfoldable pub fileLength : ℕ → ℕ
-fileLength t = blockSize * (directoryBlocks t + t)
+-- "the file's length in bytes"
+unfoldable pub fileLength : Header → ℕ
+fileLength h = blockSize * (directoryBlocks h + h .tiles)

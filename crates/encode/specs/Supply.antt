@@ -3,6 +3,7 @@ use Prim.Native.Nat.{ℕ, zero, suc, _+_, _*_}
 use mathlib.Core.List.{List, [], _∷_}
 use lib.IntN.{ℤ, pos}
 use lib.ListN.{getD, length}
+use Rattle.blocks.specs.declared.header.Header.{Header}
 use Rattle.tiles.specs.declared.tile.Site.{Site}
 
 pub record Supply : Type 0 where
@@ -17,6 +18,9 @@ abbrev pub supply : List ℤ → List ℕ → List ℤ → List ℤ → List ℕ
 supply boxes counts xs ys cues = record { boxes = boxes; counts = counts; xs = xs; ys = ys; cues = cues }
 
 -- "T is the number of counts"
+abbrev pub headerOf : List ℕ → Header
+headerOf counts = record { tiles = length counts }
+
 abbrev pub tilesOf : Supply → ℕ
 tilesOf s = length (s .counts)
 

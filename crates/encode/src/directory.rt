@@ -7,10 +7,11 @@ ghost use Rattle.blocks.specs.Layout.{blockSize, entrySize, countOffset, maxTil
 ghost use Rattle.codec.specs.Over.{over};
 ghost use Rattle.codec.specs.Tabulate.{joined};
 ghost use Rattle.encode.specs.Encode.{boxBytes, entryBytes, directoryBytes};
-ghost use Rattle.encode.specs.Supply.{numbersPerBox};
+ghost use Rattle.encode.specs.Supply.{headerOf, numbersPerBox};
 use crate::head::put_checksum;
 use crate::head::put_head;
 use crate::lists::NUMBERS_PER_BOX;
+use crate::lists::header_of;
 use crate::lists::wide;
 use blocks::directory::directory_blocks;
 use blocks::directory::entries_due;
@@ -21,7 +22,7 @@ use codec::writing::put_u16;
 use codec::writing::put_zeros;
 
 // The four numbers of tile t's box.
-pub fn put_box(d: &mut [u8], at: usize, boxes: &[i32], t: usize)
+fn put_box(d: &mut [u8], at: usize, boxes: &[i32], t: usize)
     requires { ⌜ (at + countOffset ≤ length (now d)) × (numbersPerBox * t + numbersPerBox ≤ length (now boxes)) ⌝ }
     ensures { λ _. ⌜ now (d .exit) ≡ over (now (d .entry)) at (boxBytes (now (boxes .entry)) t) ⌝ }
 {
@@ -33,7 +34,7 @@ pub fn put_box(d: &mut [u8], at: usize, boxes: &[i32], t: usize)
 }
 
 // The entry of tile t.
-pub fn put_entry(d: &mut [u8], at: usize, boxes: &[i32], counts: &[u32], t: usize)
+fn put_entry(d: &mut [u8], at: usize, boxes: &[i32], counts: &[u32], t: usize)
     requires { ⌜
         (at + entrySize ≤ length (now d)) × (numbersPerBox * t + numbersPerBox ≤ length (now boxes))
         × (t < length (now counts)) ⌝ }
@@ -45,7 +46,7 @@ pub fn put_entry(d: &mut [u8], at: usize, boxes: &[i32], counts: &[u32], t: usiz
 }
 
 // The entries of n tiles from tile `first` on.
-pub fn put_entries(
+fn put_entries(
     d: &mut [u8],
     start: usize,
     boxes: &[i32],
@@ -71,18 +72,17 @@ pub fn put_entries(
 }
 
 // The directory block at position p.
-pub fn put_directory_block(d: &mut [u8], boxes: &[i32], counts: &[u32], p: usize)
+fn put_directory_block(d: &mut [u8], boxes: &[i32], counts: &[u32], p: usize)
     requires { ⌜
         (blockSize * p + blockSize ≤ length (now d)) × (length (now boxes) ≡ numbersPerBox * length (now counts))
-        × (length (now counts) ≤ maxTiles) × (p < directoryBlocks (length (now counts))) ⌝ }
+        × (length (now counts) ≤ maxTiles) × (p < directoryBlocks (headerOf (now counts))) ⌝ }
     ensures { λ _. ⌜
         now (d .exit) ≡ over (now (d .entry)) (blockSize * p) (directoryBytes (now (boxes .entry)) (now (counts .entry)) p) ⌝ }
 {
     let at = layout::BLOCK_SIZE * p;
-    let t = counts.len();
-    let n = entries_due(t, p);
+    let n = entries_due(header_of(counts), p);
     let used = entry_offset(n);
-    put_head(d, at, layout::DIRECTORY_KIND, p, n, t);
+    put_head(d, at, layout::DIRECTORY_KIND, p, n, counts.len());
     put_zeros(d, at + layout::RESERVED_AT, at + layout::PAYLOAD_AT);
     put_entries(
         d,
@@ -99,14 +99,14 @@ pub fn put_directory_block(d: &mut [u8], boxes: &[i32], counts: &[u32], p: usize
 // All directory blocks.
 pub fn put_directory(d: &mut [u8], boxes: &[i32], counts: &[u32])
     requires { ⌜
-        (blockSize * directoryBlocks (length (now counts)) ≤ length (now d))
+        (blockSize * directoryBlocks (headerOf (now counts)) ≤ length (now d))
         × (length (now boxes) ≡ numbersPerBox * length (now counts)) × (length (now counts) ≤ maxTiles) ⌝ }
     ensures { λ _. ⌜
         now (d .exit) ≡ over (now (d .entry)) 0 (joined (directoryBytes (now (boxes .entry)) (now (counts .entry))) 0
-        (directoryBlocks (length (now (counts .entry))))) ⌝ }
+        (directoryBlocks (headerOf (now (counts .entry))))) ⌝ }
 {
     let mut p = 0;
-    let mut left = directory_blocks(counts.len());
+    let mut left = directory_blocks(header_of(counts));
     while 0 < left {
         put_directory_block(d, boxes, counts, p);
         p += 1;

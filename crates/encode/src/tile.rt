@@ -7,9 +7,10 @@ ghost use Rattle.blocks.specs.Layout.{blockSize, siteSize, maxSites, maxTiles};
 ghost use Rattle.codec.specs.Over.{over};
 ghost use Rattle.codec.specs.Tabulate.{joined};
 ghost use Rattle.encode.specs.Encode.{siteBytes, tileBytes, tileBytesOf, fileLength};
-ghost use Rattle.encode.specs.Supply.{countOf, total};
+ghost use Rattle.encode.specs.Supply.{headerOf, countOf, total};
 use crate::head::put_checksum;
 use crate::head::put_head;
+use crate::lists::header_of;
 use crate::lists::wide;
 use blocks::directory::directory_blocks;
 use blocks::layout;
@@ -19,7 +20,7 @@ use codec::writing::put_zeros;
 use tiles::tile::site_offset;
 
 // Site i of the lists.
-pub fn put_site(d: &mut [u8], at: usize, xs: &[i32], ys: &[i32], cues: &[u32], i: usize)
+fn put_site(d: &mut [u8], at: usize, xs: &[i32], ys: &[i32], cues: &[u32], i: usize)
     requires { ⌜ (at + siteSize ≤ length (now d)) × (i < length (now xs)) × (i < length (now ys)) × (i < length (now cues)) ⌝ }
     ensures { λ _. ⌜
         now (d .exit) ≡ over (now (d .entry)) at (siteBytes (now (xs .entry)) (now (ys .entry)) (now (cues .entry)) i) ⌝ }
@@ -30,7 +31,7 @@ pub fn put_site(d: &mut [u8], at: usize, xs: &[i32], ys: &[i32], cues: &[u32], i
 }
 
 // n sites of the lists from site `first` on.
-pub fn put_sites(
+fn put_sites(
     d: &mut [u8],
     start: usize,
     xs: &[i32],
@@ -58,7 +59,7 @@ pub fn put_sites(
 }
 
 // A tile's block at position p, with n sites of the lists from site `first` on.
-pub fn put_tile(
+fn put_tile(
     d: &mut [u8],
     p: usize,
     xs: &[i32],
@@ -86,15 +87,15 @@ pub fn put_tile(
 // All tiles, after the directory.
 pub fn put_tiles(d: &mut [u8], counts: &[u32], xs: &[i32], ys: &[i32], cues: &[u32])
     requires { ⌜
-        (fileLength (length (now counts)) ≤ length (now d)) × (length (now counts) ≤ maxTiles)
+        (fileLength (headerOf (now counts)) ≤ length (now d)) × (length (now counts) ≤ maxTiles)
         × ((t : ℕ) → t < length (now counts) → countOf (now counts) t ≤ maxSites) × (length (now xs) ≡ total (now counts))
         × (length (now ys) ≡ total (now counts)) × (length (now cues) ≡ total (now counts)) ⌝ }
     ensures { λ _. ⌜
-        now (d .exit) ≡ over (now (d .entry)) (blockSize * directoryBlocks (length (now (counts .entry))))
+        now (d .exit) ≡ over (now (d .entry)) (blockSize * directoryBlocks (headerOf (now (counts .entry))))
         (joined (tileBytesOf (now (counts .entry)) (now (xs .entry)) (now (ys .entry)) (now (cues .entry))) 0
         (length (now (counts .entry)))) ⌝ }
 {
-    let mut p = directory_blocks(counts.len());
+    let mut p = directory_blocks(header_of(counts));
     let mut t = 0;
     let mut first = 0;
     while t < counts.len() {

@@ -9,36 +9,42 @@ use Rattle.codec.specs.Over.{over}
 use Rattle.codec.specs.Tabulate.{joined}
 use Rattle.codec.proofs.Joined.{joined-turn, joined-end}
 use Rattle.encode.specs.Encode.{directoryBytes}
+use Rattle.encode.specs.Supply.{headerOf}
 use Rattle.encode.proofs.EncodeLaws.{length-directory-block}
 use Rattle.encode.proofs.directory.put_directory.Statement.{statement}
 use Rattle.encode.proofs.directory.put_directory.Tie as tie
 
 abbrev Inv-loop : tie.InvT-loop
 Inv-loop d₀ boxes counts p₀ left₀ d p left =
-    (p + left ≡ directoryBlocks (length counts)) × (length d ≡ length d₀)
+    (p + left ≡ directoryBlocks (headerOf counts)) × (length d ≡ length d₀)
     × (over d (blockSize * p) (joined (directoryBytes boxes counts) p left)
-    ≡ over d₀ 0 (joined (directoryBytes boxes counts) 0 (directoryBlocks (length counts))))
+    ≡ over d₀ 0 (joined (directoryBytes boxes counts) 0 (directoryBlocks (headerOf counts))))
 
 abbrev μ-loop : tie.MeasureT-loop
 μ-loop d₀ boxes counts p₀ left₀ d p left = left
+
+header-of-requires : tie.Need-header-of-requires Inv-loop μ-loop
+header-of-requires c κs = search needs
 
 directory-blocks-requires : tie.Need-directory-blocks-requires Inv-loop μ-loop
 directory-blocks-requires c κs = search needs
 
 loop-holds : tie.Need-loop-holds Inv-loop μ-loop
 loop-holds c =
-    let a = c .before .before .before .args in
-    let e = c .directory-blocks .ensures .0 in (
+    let a : tie.Start Inv-loop μ-loop = search in
+    let h : tie.After-header-of Inv-loop μ-loop = search in
+    let e = c .directory-blocks .ensures .0 ∙ ap directoryBlocks (h .header-of .ensures .0) in (
       omega (arith, e),
       search needs,
-      ap (λ k. over (a .d .now) 0
-          (joined (directoryBytes (a .boxes .now) (a .counts .now)) 0 k)) e,
+      ap (λ k. over (a .args .d .now) 0 (joined (directoryBytes (a .args .boxes .now) (a .args .counts .now)) 0 k)) e,
     )
 
 put-directory-block-requires : tie.Need-put-directory-block-requires Inv-loop μ-loop
 put-directory-block-requires c κs =
-    let l = c .before .before in
-    omega (arith, l .loop .inv, c .before .before .before .before .before .before .pre, c .before .loop-test)
+    let s : tie.Start Inv-loop μ-loop = search in
+    let l : tie.At-loop Inv-loop μ-loop = search in
+    let i : tie.In-loop Inv-loop μ-loop = search in
+    omega (arith, l .loop .inv, s .pre, i .loop-test)
 
 add-p : tie.Need-add-p Inv-loop μ-loop
 add-p c = search needs
@@ -51,14 +57,16 @@ loop-less c = search needs
 
 loop-again : tie.Need-loop-again Inv-loop μ-loop
 loop-again c =
-    let l = c .before .before .before .before .before in
-    let a = l .before .before .before .before .args in
-    let p = c .before .before .put-directory-block in
+    let s : tie.Start Inv-loop μ-loop = search in
+    let l : tie.At-loop Inv-loop μ-loop = search in
+    let i : tie.In-loop Inv-loop μ-loop = search in
+    let b : tie.After-put-directory-block Inv-loop μ-loop = search in
+    let p = b .put-directory-block in
     let k : length (p .last .0) ≡ length (l .loop .d) = p .kept .0 in
-    let w = length-directory-block (a .boxes .now) (a .counts .now) (l .loop .p) in (
-      omega (arith, l .loop .inv, c .before .before .before .before .loop-test),
+    let w = length-directory-block (s .args .boxes .now) (s .args .counts .now) (l .loop .p) in (
+      omega (arith, l .loop .inv, i .loop-test),
       omega (arith, k, l .loop .inv),
-      joined-turn (directoryBytes (a .boxes .now) (a .counts .now)) (l .loop .d) (blockSize * l .loop .p)
+      joined-turn (directoryBytes (s .args .boxes .now) (s .args .counts .now)) (l .loop .d) (blockSize * l .loop .p)
           (blockSize * (l .loop .p + 1)) (l .loop .p)
           (l .loop .left) (search needs) (p .ensures) (omega (arith, w)) ∙ l .loop .inv .2,
     )
@@ -68,9 +76,9 @@ same-length c = search needs
 
 returns : tie.Need-returns Inv-loop μ-loop
 returns c =
-    let l = c .before in
-    let a = l .before .before .before .before .args in
-    joined-end (directoryBytes (a .boxes .now) (a .counts .now)) (l .loop .d) (blockSize * l .loop .p) (l .loop .p)
+    let s : tie.Start Inv-loop μ-loop = search in
+    let l : tie.At-loop Inv-loop μ-loop = search in
+    joined-end (directoryBytes (s .args .boxes .now) (s .args .counts .now)) (l .loop .d) (blockSize * l .loop .p) (l .loop .p)
     (l .loop .left) (search needs)
     ∙ l .loop .inv .2
 
@@ -80,6 +88,7 @@ put-directory-spec =
     (tie.spec
     Inv-loop
     μ-loop
+    header-of-requires
     directory-blocks-requires
     loop-holds
     put-directory-block-requires

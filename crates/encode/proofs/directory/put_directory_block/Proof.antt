@@ -3,10 +3,12 @@ use mathlib.Core.Path.{ap, _∙_}
 use native.Mathlib.Omega.{arith}
 use lib.ListN.{length}
 use borrow.Author.Needs.{needs}
+use Rattle.blocks.specs.Directory.{entriesDue}
 use Rattle.blocks.specs.Layout.{directoryKind, blockSize, entriesPerBlock}
 use Rattle.codec.specs.Over.{over}
 use Rattle.codec.specs.Tabulate.{joined}
 use Rattle.encode.specs.Encode.{headBytes, blockBytes, entryBytes, directoryBytes}
+use Rattle.encode.specs.Supply.{headerOf}
 use Rattle.encode.proofs.EncodeLaws.{due-within, blocks-few, length-head, length-entries, block-row}
 use Rattle.encode.proofs.directory.put_directory_block.Statement.{statement}
 use Rattle.encode.proofs.directory.put_directory_block.Tie as tie
@@ -14,8 +16,13 @@ use Rattle.encode.proofs.directory.put_directory_block.Tie as tie
 mul-at : tie.Need-mul-at
 mul-at c = search needs
 
+header-of-requires : tie.Need-header-of-requires
+header-of-requires c κs = search needs
+
 entries-due-requires : tie.Need-entries-due-requires
-entries-due-requires c κs = omega (arith, blocks-few (length (c .before .before .args .counts .now)))
+entries-due-requires c κs =
+    let s : tie.Start = search in
+    omega (arith, s .pre, blocks-few (headerOf (s .args .counts .now)))
 
 entry-offset-requires : tie.Need-entry-offset-requires
 entry-offset-requires c κs = search needs
@@ -40,19 +47,19 @@ mul-put-entries c = search needs
 
 put-entries-requires : tie.Need-put-entries-requires
 put-entries-requires c κs =
-    let c₁ = c .before .before .before .before .before .before .before in
-    let c₂ = c₁ .before .before .before in
-    let c₃ = c₂ .before .before .before in
-    let a = c₃ .args in
-    let e = c₂ .entries-due .ensures in
+    let s : tie.Start = search in
+    let n : tie.After-entries-due = search in
+    let k : tie.After-header-of = search in
+    let h : tie.After-put-head = search in
+    let z : tie.After-put-zeros = search in
     omega (
       arith,
-      due-within (length (a .counts .now)) (a .p) (c₃ .pre .3),
-      e .0,
-      e .1,
-      c₃ .pre,
-      c₁ .put-head .kept .0,
-      c .before .before .before .put-zeros .kept .0,
+      due-within (headerOf (s .args .counts .now)) (s .args .p) (s .pre .3),
+      n .entries-due .ensures .0 ∙ ap (λ h. entriesDue h (s .args .p)) (k .header-of .ensures .0),
+      n .entries-due .ensures .1,
+      s .pre,
+      h .put-head .kept .0,
+      z .put-zeros .kept .0,
     )
 
 add-put-zeros-3 : tie.Need-add-put-zeros-3
@@ -73,34 +80,36 @@ same-length c = search needs
 returns : tie.Need-returns
 unfolding directoryBytes
 returns c =
-    let c₁ = c .before .before .before .before .before .before in
-    let c₂ = c₁ .before .before .before .before in
-    let c₃ = c₂ .before .before .before .before in
-    let c₄ = c₃ .before .before .before .before in
-    let c₅ = c₄ .before .before in
-    let c₆ = c₅ .before in
-    let c₇ = c₆ .before .before .before in
-    let a = c₇ .args in
+    let w : tie.After-put-checksum = search in
+    let x : tie.After-put-zeros2 = search in
+    let y : tie.After-put-entries = search in
+    let z : tie.After-put-zeros = search in
+    let hd : tie.After-put-head = search in
+    let u : tie.After-entry-offset = search in
+    let e : tie.After-entries-due = search in
+    let k : tie.After-header-of = search in
+    let s : tie.Start = search in
+    let a = s .args in
     let t = length (a .counts .now) in
-    let n = c₆ .entries-due .result in
-    let e = c₆ .entries-due .ensures in
-    let u = c₅ .entry-offset .ensures in
+    let at = blockSize * a .p in
+    let first = entriesPerBlock * a .p in
+    let n = e .entries-due .result in
+    let used = u .entry-offset .ensures .1 in
     let g = entryBytes (a .boxes .now) (a .counts .now) in
-    let q = length-entries (a .boxes .now) (a .counts .now) (entriesPerBlock * a .p) n in
-    block-row (a .d .now) (blockSize * a .p) (headBytes directoryKind (a .p) n t) (joined g (entriesPerBlock * a .p) n)
-    (c₅ .entry-offset .result)
-    (length-head directoryKind (a .p) n t) (omega (arith, q, u .1)) (omega (arith, e .1, u .1)) (c₇ .pre .0)
-    (c₄ .put-head .ensures) (c₃ .put-zeros .ensures) (c₂ .put-entries .ensures) (c₁ .put-zeros2 .ensures)
-    (c .before .before .put-checksum .ensures)
-    ∙ ap (λ k. over (a .d .now) (blockSize * a .p)
-    (blockBytes (headBytes directoryKind (a .p) k t) (joined g (entriesPerBlock * a .p) k)))
-    (e .0)
+    let q = length-entries (a .boxes .now) (a .counts .now) first n in
+    block-row (a .d .now) at (headBytes directoryKind (a .p) n t) (joined g first n) (u .entry-offset .result)
+    (length-head directoryKind (a .p) n t) (omega (arith, q, used)) (omega (arith, e .entries-due .ensures .1, used)) (s .pre .0)
+    (hd .put-head .ensures) (z .put-zeros .ensures) (y .put-entries .ensures) (x .put-zeros2 .ensures)
+    (w .put-checksum .ensures)
+    ∙ ap (λ k. over (a .d .now) at (blockBytes (headBytes directoryKind (a .p) k t) (joined g first k)))
+    (e .entries-due .ensures .0 ∙ ap (λ h. entriesDue h (a .p)) (k .header-of .ensures .0))
 
 pub put-directory-block-spec : {M : Type 1} → statement M
 put-directory-block-spec =
     tie.close
     (tie.spec
     mul-at
+    header-of-requires
     entries-due-requires
     entry-offset-requires
     put-head-requires

@@ -10,20 +10,23 @@ use Rattle.codec.specs.Over.{over}
 use Rattle.codec.specs.Tabulate.{joined}
 use Rattle.codec.proofs.Joined.{joined-turn, joined-end}
 use Rattle.encode.specs.Encode.{tileBytesOf, fileLength}
-use Rattle.encode.specs.Supply.{offset}
-use Rattle.encode.proofs.EncodeLaws.{tile-of, length-tile-block}
+use Rattle.encode.specs.Supply.{headerOf, offset}
+use Rattle.encode.proofs.EncodeLaws.{blocks-few, tile-of, length-tile-block}
 use Rattle.encode.proofs.SupplyLaws.{offset-next, offset-within}
 use Rattle.encode.proofs.tile.put_tiles.Statement.{statement}
 use Rattle.encode.proofs.tile.put_tiles.Tie as tie
 
 abbrev Inv-loop : tie.InvT-loop
 Inv-loop d₀ counts xs ys cues p₀ t₀ first₀ d p t first =
-    (p ≡ directoryBlocks (length counts) + t) × (first ≡ offset counts t) × (t ≤ length counts) × (length d ≡ length d₀)
+    (p ≡ directoryBlocks (headerOf counts) + t) × (first ≡ offset counts t) × (t ≤ length counts) × (length d ≡ length d₀)
     × (over d (blockSize * p) (joined (tileBytesOf counts xs ys cues) t (length counts - t))
-    ≡ over d₀ (blockSize * directoryBlocks (length counts)) (joined (tileBytesOf counts xs ys cues) 0 (length counts)))
+    ≡ over d₀ (blockSize * directoryBlocks (headerOf counts)) (joined (tileBytesOf counts xs ys cues) 0 (length counts)))
 
 abbrev μ-loop : tie.MeasureT-loop
 μ-loop d₀ counts xs ys cues p₀ t₀ first₀ d p t first = length counts - t
+
+header-of-requires : tie.Need-header-of-requires Inv-loop μ-loop
+header-of-requires c κs = search needs
 
 directory-blocks-requires : tie.Need-directory-blocks-requires Inv-loop μ-loop
 directory-blocks-requires c κs = search needs
@@ -31,9 +34,11 @@ directory-blocks-requires c κs = search needs
 loop-holds : tie.Need-loop-holds Inv-loop μ-loop
 unfolding offset
 loop-holds c =
-    let a = c .before .before .before .before .args in
+    let s : tie.Start Inv-loop μ-loop = search in
+    let h : tie.After-header-of Inv-loop μ-loop = search in
+    let a = s .args in
     let r = c .directory-blocks .result in
-    let e = c .directory-blocks .ensures .0 in
+    let e = c .directory-blocks .ensures .0 ∙ ap directoryBlocks (h .header-of .ensures .0) in
     let g = tileBytesOf (a .counts .now) (a .xs .now) (a .ys .now) (a .cues .now) in (
       omega (arith, e),
       refl,
@@ -55,34 +60,34 @@ wide-requires c κs = search needs
 put-tile-requires : tie.Need-put-tile-requires Inv-loop μ-loop
 unfolding fileLength
 put-tile-requires c κs =
-    let l = c .before .before .before .before in
-    let a = l .before .before .before .before .before .args in
-    let pre = l .before .before .before .before .before .pre in
+    let s : tie.Start Inv-loop μ-loop = search in
+    let l : tie.At-loop Inv-loop μ-loop = search in
+    let i : tie.In-loop Inv-loop μ-loop = search in
+    let w : tie.After-wide Inv-loop μ-loop = search in
+    let counts = s .args .counts .now in
     omega (
       arith,
       l .loop .inv,
-      pre,
-      c .before .before .before .loop-test,
-      c .before .wide .ensures,
-      pre .2 (l .loop .t)
-          (search needs),
-      offset-within (a .counts .now) (l .loop .t) (length (a .counts .now)) (search needs),
+      s .pre,
+      i .loop-test,
+      w .wide .ensures,
+      s .pre .2 (l .loop .t) (search needs),
+      offset-within counts (l .loop .t) (length counts) (search needs),
     )
 
 add-first : tie.Need-add-first Inv-loop μ-loop
 add-first c =
-    let l = c .before .before .before .before .before .before .before in
-    let a = l .before .before .before .before .before .args in
-    omega (
-      arith,
-      l .loop .inv,
-      c .before .before .before .before .wide .ensures,
-      offset-within (a .counts .now) (l .loop .t)
-          (length (a .counts .now)) (search needs),
-    )
+    let s : tie.Start Inv-loop μ-loop = search in
+    let l : tie.At-loop Inv-loop μ-loop = search in
+    let w : tie.After-wide Inv-loop μ-loop = search in
+    let counts = s .args .counts .now in
+    omega (arith, l .loop .inv, w .wide .ensures, offset-within counts (l .loop .t) (length counts) (search needs))
 
 add-p : tie.Need-add-p Inv-loop μ-loop
-add-p c = search needs
+add-p c =
+    let s : tie.Start Inv-loop μ-loop = search in
+    let l : tie.At-loop Inv-loop μ-loop = search in
+    omega (arith, s .pre .1, l .loop .inv, blocks-few (headerOf (s .args .counts .now)))
 
 add-t : tie.Need-add-t Inv-loop μ-loop
 add-t c = search needs
@@ -92,18 +97,21 @@ loop-less c = search needs
 
 loop-again : tie.Need-loop-again Inv-loop μ-loop
 loop-again c =
-    let l = c .before .before .before .before .before .before .before in
-    let a = l .before .before .before .before .before .args in
-    let p = c .before .before .put-tile in
+    let s : tie.Start Inv-loop μ-loop = search in
+    let l : tie.At-loop Inv-loop μ-loop = search in
+    let r : tie.After-wide Inv-loop μ-loop = search in
+    let b : tie.After-put-tile Inv-loop μ-loop = search in
+    let a = s .args in
+    let p = b .put-tile in
     let k : length (p .last .0) ≡ length (l .loop .d) = p .kept .0 in
-    let n = c .before .before .before .before .wide .ensures .0 in
+    let n = r .wide .ensures .0 in
     let g = tileBytesOf (a .counts .now) (a .xs .now) (a .ys .now) (a .cues .now) in
     let t = l .loop .t in
-    let few = l .before .before .before .before .before .pre .2 t (search needs) in
+    let few = s .pre .2 t (search needs) in
     let e = tile-of (a .counts .now) (a .xs .now) (a .ys .now) (a .cues .now) t (l .loop .inv .0) (l .loop .inv .1) n in
     let w : length (g t) ≡ blockSize = ap length (sym e)
     ∙ length-tile-block (a .xs .now) (a .ys .now) (a .cues .now) (l .loop .p) (l .loop .first)
-    (c .before .before .before .before .wide .result) (omega (arith, few, n)) in
+    (r .wide .result) (omega (arith, few, n)) in
     let m : length (a .counts .now) - (t + 1) ≡ length (a .counts .now) - t - 1 = omega arith in (
       omega (arith, l .loop .inv .0),
       omega (arith, offset-next (a .counts .now) t, l .loop .inv .1, n),
@@ -120,8 +128,9 @@ same-length c = search needs
 
 returns : tie.Need-returns Inv-loop μ-loop
 returns c =
-    let l = c .before in
-    let a = l .before .before .before .before .before .args in
+    let s : tie.Start Inv-loop μ-loop = search in
+    let l : tie.At-loop Inv-loop μ-loop = search in
+    let a = s .args in
     joined-end (tileBytesOf (a .counts .now) (a .xs .now) (a .ys .now) (a .cues .now)) (l .loop .d) (blockSize * l .loop .p)
     (l .loop .t)
     (length (a .counts .now) - l .loop .t) (search needs) ∙ l .loop .inv .4
@@ -132,6 +141,7 @@ put-tiles-spec =
     (tie.spec
     Inv-loop
     μ-loop
+    header-of-requires
     directory-blocks-requires
     loop-holds
     mul-wide
