@@ -1,4 +1,6 @@
 pub mod Box
 pub mod Distance
+pub mod Margin
 pub mod Calls
 pub mod Claims
+pub mod Cases

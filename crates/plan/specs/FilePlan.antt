@@ -9,7 +9,7 @@ use Rattle.base.specs.Refusal.{Outcome, accepted, andThen}
 use Rattle.blocks.specs.Directory.{boxAt, countAt}
 use Rattle.geometry.specs.Box.{inside}
 use Rattle.geometry.specs.Distance.{D, minDist}
-use Rattle.margin.specs.Margin.{closer}
+use Rattle.geometry.specs.Margin.{closer}
 use Rattle.search.specs.Plan.{Plan}
 use Rattle.tiles.specs.Tile.{sitePoint, openTile, sitesAt}
 use Rattle.tiles.specs.declared.tile.Site.{Site}

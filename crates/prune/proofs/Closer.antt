@@ -14,12 +14,12 @@ use Rattle.blocks.specs.Directory.{directory, boxAt, entryBox}
 use Rattle.codec.specs.Over.{over}
 use Rattle.geometry.specs.Box.{lo, hi, withinLimits, validAxis, validBox, validPoint}
 use Rattle.geometry.specs.Distance.{minDist, maxDist}
-use Rattle.margin.specs.Margin.{closer}
+use Rattle.geometry.specs.Margin.{closer}
 use Rattle.search.specs.Lists.{range}
 use Rattle.base.proofs.Tests.{and-both}
 use Rattle.blocks.proofs.Theorems.{entry-of-accepted}
 use Rattle.codec.proofs.Over.{length-over}
-use Rattle.margin.proofs.Corners.{atCorners, closer-corners}
+use Rattle.geometry.proofs.Corners.{atCorners, closer-corners}
 use Rattle.geometry.proofs.Two.{two, axis-x, axis-y, valid-axes-2}
 use Rattle.prune.specs.Corners.{cornerA, cornerB, cornerC, cornerD, FarTable, FarTables, NearOf}
 use Rattle.prune.specs.declared.corners.Nears.{Nears}
