@@ -1,70 +1,71 @@
--- Closer, seen from the corners of O: E is closer than B exactly when from each corner far to E is below near to B. So a
--- program measures each box once from each corner, and compares. Over any number of axes. Assumes nothing.
-use mathlib.Core.Bool.{Bool, true, _&&_}
+-- The corners of a box by their numbers: each is a point of the box, and the margin's point of O is one. Assumes nothing.
+use Prim.Native.Nat.{ℕ, _+_, _*_, _/_, _%_, _<_}
+use mathlib.Core.Bool.{true, false}
 use mathlib.Core.List.{List, [], _∷_}
-use mathlib.Core.Path.{_≡_, _∙_}
-use lib.Dec.{ltb}
-use lib.IntN.{ℤ}
-use lib.ListN.{length}
-use borrow.Author.Tests.{lt-ltb}
-use Rattle.base.proofs.Tests.{and-both, both-and, cond-ind, iff-eq}
-use Rattle.geometry.specs.Box.{lo, hi, validBox}
-use Rattle.geometry.specs.Distance.{closestPoint, farthestPoint, minDist, maxDist}
-use Rattle.geometry.proofs.AllAxes.{In, none, more, in-test, closest-in, farthest-in}
-use Rattle.geometry.proofs.OneAxis.{low-on, high-on}
-use Rattle.geometry.specs.Margin.{bestPoint, closer}
-use Rattle.geometry.proofs.BestPoint.{Three, no-axis, next-axis, three, over-in}
+use mathlib.Core.Path.{_≡_, refl, ap, _∙_}
+use native.Mathlib.Nat.{two-pow-succ}
+use native.Mathlib.Omega.{arith}
+use lib.Dec.{eqb}
+use lib.IntN.{ℤ, pos}
+use lib.ListN.{getD, length}
+use borrow.Author.Tests.{eqb-true, eqb-false}
+use Rattle.geometry.specs.Box.{lo, hi, validAxis, validBox}
+use Rattle.geometry.specs.Corners.{endAt, corner, corners}
+use Rattle.geometry.specs.Margin.{bestEnd, bestPoint}
+use Rattle.base.proofs.Tests.{and-both, by-test, cond-ind}
+use Rattle.geometry.proofs.AllAxes.{In, none, more}
 use Rattle.geometry.proofs.BestEnd.{better, best-end-test}
-use Rattle.geometry.proofs.Theorems.{closer-test, closer-exact}
+use Rattle.geometry.proofs.BestPoint.{Three, no-axis, next-axis}
+use Rattle.geometry.proofs.OneAxis.{axis, On, low-on, high-on}
 
--- a test at every corner: every point with an end of O on each axis
-unfoldable pub atCorners : (List ℤ → Bool) → List (List ℤ) → Bool
-atCorners test [] = test []
-atCorners test (s ∷ o) = atCorners (λ c. test (lo s ∷ c)) o && atCorners (λ c. test (hi s ∷ c)) o
+-- the end by its index
+pub end-index : (s : List ℤ) (c : ℕ) → getD s (c % 2) (pos 0) ≡ endAt s c
+unfolding endAt
+end-index s c =
+    by-test (eqb (c % 2) 0)
+    (λ t. rw (eqb-true (c % 2) 0 t))
+    (λ t. let m : c % 2 ≡ 1 = omega (arith, eqb-false (c % 2) 0 t) in rw m)
 
-data Corner : List (List ℤ) → List ℤ → Type 0 where
-  tip : Corner [] []
-  low : {s : List ℤ} {o : List (List ℤ)} {c : List ℤ} → Corner o c → Corner (s ∷ o) (lo s ∷ c)
-  high : {s : List ℤ} {o : List (List ℤ)} {c : List ℤ} → Corner o c → Corner (s ∷ o) (hi s ∷ c)
+pub corner-in : (o : List (List ℤ)) → validBox o ≡ true → (c : ℕ) → In o (corner o c)
+unfolding validBox corner endAt
+corner-in [] v c = none
+corner-in (s ∷ o) v c =
+    let u = and-both (validAxis s) (validBox o) v in
+    let a = axis s (u .0) in
+    more (cond-ind (eqb (c % 2) 0) (lo s) (hi s) (On s) (λ t. low-on a) (λ t. high-on a)) (corner-in o (u .1) (c / 2))
 
-at-corner : {o : List (List ℤ)} {c : List ℤ} → Corner o c → (test : List ℤ → Bool) → atCorners test o ≡ true → test c ≡ true
-unfolding atCorners
-at-corner tip test t = t
-at-corner (low {s} {o} k) test t = at-corner k (λ c. test (lo s ∷ c)) (and-both (atCorners (λ c. test (lo s ∷ c)) o) (atCorners (λ c. test (hi s ∷ c)) o) t .0)
-at-corner (high {s} {o} k) test t = at-corner k (λ c. test (hi s ∷ c)) (and-both (atCorners (λ c. test (lo s ∷ c)) o) (atCorners (λ c. test (hi s ∷ c)) o) t .1)
+-- the two corners that go on as corner c of the other axes
+module _ (s : List ℤ) (o : List (List ℤ)) (c : ℕ) where
+  corner-low : corner (s ∷ o) (2 * c) ≡ lo s ∷ corner o c
+  unfolding corner endAt
+  corner-low =
+      let m : (2 * c) % 2 ≡ 0 = omega arith in
+      let d : (2 * c) / 2 ≡ c = omega arith in
+      rw (m, d)
 
-at-corners : (o : List (List ℤ)) (test : List ℤ → Bool) → ((c : List ℤ) → Corner o c → test c ≡ true) → atCorners test o ≡ true
-unfolding atCorners
-at-corners [] test h = h [] tip
-at-corners (s ∷ o) test h =
-    both-and (at-corners o (λ c. test (lo s ∷ c)) (λ c k. h (lo s ∷ c) (low k))) (at-corners o (λ c. test (hi s ∷ c)) (λ c k. h (hi s ∷ c) (high k)))
+  corner-high : corner (s ∷ o) (2 * c + 1) ≡ hi s ∷ corner o c
+  unfolding corner endAt
+  corner-high =
+      let m : (2 * c + 1) % 2 ≡ 1 = omega arith in
+      let d : (2 * c + 1) / 2 ≡ c = omega arith in
+      rw (m, d)
 
--- the margin's point of O is a corner, and each corner is a point of O
-best-corner : {o e b : List (List ℤ)} → Three o e b → Corner o (bestPoint o e b)
-unfolding bestPoint
-best-corner no-axis = tip
+-- a point is a corner
+pub record Corner (o : List (List ℤ)) (p : List ℤ) : Type 0 where
+  pub number : ℕ
+  pub below : number < corners (length o)
+  pub is : p ≡ corner o number
+
+pub best-corner : {o e b : List (List ℤ)} → Three o e b → Corner o (bestPoint o e b)
+unfolding bestPoint corner
+best-corner no-axis = record { number = 0; below = omega arith; is = refl }
 best-corner (next-axis {o} {e} {b} {os} {es} {bs} ao ae ab r) =
-    rw (best-end-test o e b) (cond-ind (better o e b) (hi o) (lo o) (λ z. Corner (o ∷ os) (z ∷ bestPoint os es bs)) (λ t. high (best-corner r)) (λ t. low (best-corner r)))
-
-corner-in : {o e b : List (List ℤ)} {c : List ℤ} → Three o e b → Corner o c → In o c
-corner-in no-axis tip = none
-corner-in (next-axis ao ae ab r) (low k) = more (low-on ao) (corner-in r k)
-corner-in (next-axis ao ae ab r) (high k) = more (high-on ao) (corner-in r k)
-
-pub closer-corners : (o e b : List (List ℤ)) → validBox o ≡ true → validBox e ≡ true → validBox b ≡ true → length e ≡ length o →
-    length b ≡ length o → closer o e b ≡ atCorners (λ c. ltb (maxDist e c) (minDist b c)) o
-unfolding maxDist minDist
-closer-corners o e b vo ve vb se sb =
-    iff-eq (closer o e b) (atCorners test o)
-    (λ t. at-corners o test (λ c k.
-    let i = corner-in w k in
-    let v = over-in w i in
-    lt-ltb (maxDist e c) (minDist b c)
-    (closer-exact o e b vo ve vb se sb .0 t c (farthestPoint e c) (closestPoint b c) (in-test i) (in-test (farthest-in (v .0))) (in-test (closest-in (v .1))))))
-    (λ t. closer-test o e b ∙ at-corner (best-corner w) test t)
-  where
-    test : List ℤ → Bool
-    test c = ltb (maxDist e c) (minDist b c)
-
-    w : Three o e b
-    w = three o e b vo ve vb se sb
+    let k = best-corner r in
+    let n = two-pow-succ (length os) in
+    by-test (better o e b)
+    (λ t.
+    let h : bestEnd o e b ≡ hi o = best-end-test o e b ∙ rw t in
+    record { number = 2 * k .number + 1; below = omega (arith, k .below); is = rw (h, k .is, corner-high o os (k .number)) })
+    (λ t.
+    let h : bestEnd o e b ≡ lo o = best-end-test o e b ∙ rw t in
+    record { number = 2 * k .number; below = omega (arith, k .below); is = rw (h, k .is, corner-low o os (k .number)) })

@@ -5,6 +5,6 @@ pub mod AllAxes
 mod Line
 mod BestEnd
 pub mod BestPoint
+mod Corners
 pub mod Two
 pub mod Theorems
-pub mod Corners

@@ -1,7 +1,7 @@
 -- The theorems of box arithmetic, over any number of axes: near and far, then the margin, closer and the cases. docs/PROOF.md
 -- lists each beside its sentence. Assumes nothing.
 use Prim.Native.Nat.{_*_, _≤_, ℕ, _+_, _<_}
-use mathlib.Core.Bool.{true, false}
+use mathlib.Core.Bool.{Bool, true, false}
 use mathlib.Core.List.{List}
 use mathlib.Core.Logic.{_↔_}
 use mathlib.Core.Path.{_≡_, refl, sym, ap, _∙_}
@@ -12,14 +12,18 @@ use lib.IntN.{ℤ, natAbs}
 use lib.ListN.{length}
 use lib.Signed.{leZ-yes}
 use borrow.Author.Tests.{ltb-true, lt-ltb}
+use Rattle.base.specs.Every.{every}
 use Rattle.geometry.specs.Box.{validBox, validPoint, inside}
 use Rattle.geometry.specs.Cases.{table, AllSay}
 use Rattle.geometry.specs.Claims.{Least, Largest, LargestDifference}
+use Rattle.geometry.specs.Corners.{corner, corners}
 use Rattle.geometry.specs.Distance.{D, closestPoint, farthestPoint, minDist, maxDist, gap, square, closest, farthest}
 use Rattle.geometry.specs.Margin.{gain, bestEnd, bestPoint, difference, reachedFrom, reached, margin, closer}
-use Rattle.base.proofs.Tests.{true-T, by-test}
-use Rattle.geometry.proofs.AllAxes.{in-box, in-test, over, closest-in, min-least, farthest-in, max-largest, within, distance-bound, lowest-point, within-box, in-length}
-use Rattle.geometry.proofs.BestPoint.{three, best-in, best-over-e, best-over-b, best-most}
+use Rattle.base.proofs.Every.{every-at, every-holds}
+use Rattle.base.proofs.Tests.{true-T, by-test, iff-eq}
+use Rattle.geometry.proofs.AllAxes.{in-box, in-test, over, closest-in, min-least, farthest-in, max-largest, within, distance-bound, lowest-point, within-box, in-valid, in-length}
+use Rattle.geometry.proofs.BestPoint.{Three, three, best-in, best-over-e, best-over-b, best-most, over-in}
+use Rattle.geometry.proofs.Corners.{corner-in, best-corner}
 use Rattle.geometry.proofs.Shift.{axisBound, less-sub, at-most-sub, abs-difference}
 
 module _ (b : List (List ℤ)) (p : List ℤ) (vb : validBox b ≡ true) (vp : validPoint p ≡ true) (same : length p ≡ length b) where
@@ -37,9 +41,32 @@ module _ (b : List (List ℤ)) (p : List ℤ) (vb : validBox b ≡ true) (vp : v
       let w = over b p vb vp same in
       record { point = farthestPoint b p; point-inside = in-test (farthest-in w); reached = refl; largest = λ q i. max-largest w (in-box b q i) }
 
+  -- near is at most far
+  pub min-at-most-max : minDist b p ≤ maxDist b p
+  unfolding maxDist
+  min-at-most-max = let w = over b p vb vp same in min-least w (farthest-in w)
+
+  -- on n axes within the limits far is at most n × 4,000,000,000,000
+  pub max-dist-bounded : maxDist b p ≤ axisBound * length p
+  unfolding maxDist
+  max-dist-bounded = distance-bound (within p vp) (within-box (farthest-in (over b p vb vp same)) vb)
+
 -- on n axes within the limits no D is larger than n × 4,000,000,000,000
 pub distance-bounded : (p q : List ℤ) → validPoint p ≡ true → validPoint q ≡ true → D p q ≤ axisBound * length p
 distance-bounded p q vp vq = distance-bound (within p vp) (within q vq)
+
+-- ---- corners
+
+module _ (o : List (List ℤ)) (vo : validBox o ≡ true) (c : ℕ) where
+  -- a corner of a valid box is a point of it, and so a valid point with as many axes
+  pub corner-inside : inside o (corner o c) ≡ true
+  corner-inside = in-test (corner-in o vo c)
+
+  pub corner-valid : validPoint (corner o c) ≡ true
+  corner-valid = in-valid (corner-in o vo c) vo
+
+  pub corner-axes : length (corner o c) ≡ length o
+  corner-axes = in-length (corner-in o vo c)
 
 -- ---- the margin
 
@@ -88,6 +115,26 @@ module _ (o e b : List (List ℤ)) (vo : validBox o ≡ true) (ve : validBox e �
           let w = three o e b vo ve vb se sb in
           let l = h point (farthestPoint e point) (closestPoint b point) (in-test (best-in w)) (in-test (farthest-in (best-over-e w))) (in-test (closest-in (best-over-b w))) in
           closer-test o e b ∙ lt-ltb (maxDist e point) (minDist b point) l
+
+  -- .. and exactly when from each corner of O far to E is below near to B: a program measures each box once from each corner
+  pub closer-corners : closer o e b ≡ every (λ c. ltb (maxDist e (corner o c)) (minDist b (corner o c))) (corners (length o))
+  unfolding maxDist minDist
+  closer-corners =
+      iff-eq (closer o e b) (every test (corners (length o)))
+      (λ t. every-holds test (corners (length o)) (λ c l.
+      let i = corner-in o vo c in
+      let v = over-in w i in
+      lt-ltb (maxDist e (corner o c)) (minDist b (corner o c))
+      (closer-exact .0 t (corner o c) (farthestPoint e (corner o c)) (closestPoint b (corner o c)) (in-test i) (in-test (farthest-in (v .0))) (in-test (closest-in (v .1))))))
+      (λ t.
+      let k = best-corner w in
+      closer-test o e b ∙ rw (k .is) (every-at test (corners (length o)) (k .number) t (k .below)))
+    where
+      test : ℕ → Bool
+      test c = ltb (maxDist e (corner o c)) (minDist b (corner o c))
+
+      w : Three o e b
+      w = three o e b vo ve vb se sb
 
   -- on n axes within the limits no margin is larger than n × 4,000,000,000,000, either way
   pub margin-bound : natAbs (margin o e b) ≤ axisBound * length o

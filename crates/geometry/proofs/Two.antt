@@ -1,5 +1,5 @@
 -- The definitions at two axes, as the code reads them. Assumes nothing.
-use Prim.Native.Nat.{_+_}
+use Prim.Native.Nat.{ℕ, _+_, _/_}
 use mathlib.Core.Bool.{true, _&&_, and-true}
 use mathlib.Core.List.{List, [], _∷_}
 use mathlib.Core.Path.{_≡_, refl, sym, ap, _∙_}
@@ -8,6 +8,7 @@ use native.Mathlib.Omega.{arith}
 use lib.IntN.{ℤ, pos, _+ℤ_}
 use lib.ListN.{getD, length}
 use Rattle.geometry.specs.Box.{withinLimits, validAxis, validBox, validPoint, onAxis, inside}
+use Rattle.geometry.specs.Corners.{endAt, corner}
 use Rattle.geometry.specs.Distance.{square, D, closest, farthest, closestPoint, farthestPoint, minDist, maxDist}
 use Rattle.geometry.specs.Margin.{gain, bestEnd, bestPoint, difference, Reached, reachedFrom, reached, margin}
 use Rattle.base.proofs.Tests.{and-both}
@@ -89,6 +90,10 @@ module _ (b : List (List ℤ)) (p : List ℤ) (n : length b ≡ 2) (m : length p
       ap (λ (z : List (List ℤ)). maxDist z p) (two b [] n)
       ∙ ap (λ (z : List ℤ). maxDist (axis-x b ∷ axis-y b ∷ []) z) (two p (pos 0) m)
       ∙ rw add-zero
+
+pub corner-2 : (o : List (List ℤ)) (c : ℕ) → length o ≡ 2 → corner o c ≡ endAt (axis-x o) c ∷ endAt (axis-y o) (c / 2) ∷ []
+unfolding corner
+corner-2 o c n = ap (λ (z : List (List ℤ)). corner z c) (two o [] n)
 
 -- ---- the margin
 
