@@ -11,7 +11,7 @@ use Rattle.geometry.specs.Box.{validBox}
 use Rattle.base.proofs.Outcomes.{accepted-injective, require-accepted, andThen-accepted}
 use Rattle.base.proofs.Tests.{and-both}
 use Rattle.codec.specs.Number.{limit16}
-use Rattle.codec.proofs.Every.{every-at, every-holds}
+use Rattle.base.proofs.Every.{every-at, every-holds}
 use Rattle.blocks.specs.Accepted.{GoodTiles, GoodDirectoryBlock, GoodLength, GoodDirectory}
 use Rattle.blocks.specs.Block.{blockAt, entriesIn, headerIn, blockHead}
 use Rattle.blocks.specs.Directory.{directoryBlocks, entriesDue, entryBox, entryCount, tilesDue, entryValid}

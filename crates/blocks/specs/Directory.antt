@@ -6,7 +6,8 @@ use lib.Dec.{eqb, leb}
 use lib.IntN.{ℤ}
 use lib.ListN.{length}
 use Rattle.base.specs.Refusal.{Outcome, accepted, require, andThen, #length, #tiles, #entries, #padding, #box}
-use Rattle.codec.specs.Every.{every, zeros}
+use Rattle.base.specs.Every.{every}
+use Rattle.codec.specs.Zeros.{zeros}
 use Rattle.codec.specs.Number.{u16At, i32At}
 use Rattle.geometry.specs.Box.{validBox}
 use Rattle.blocks.specs.Block.{blockAt, headerIn, entriesIn, blockHead}

@@ -2,7 +2,7 @@
 ghost use mathlib.Core.Path.{_≡_};
 ghost use Prim.Native.Nat.{_+_, _*_, _<_, _≤_};
 ghost use lib.ListN.{length};
-ghost use Rattle.codec.specs.Every.{every};
+ghost use Rattle.base.specs.Every.{every};
 ghost use Rattle.blocks.specs.Layout.{blockSize, payloadAt, entrySize, entriesPerBlock};
 ghost use Rattle.blocks.specs.Directory.{entryOffset, entryBox, entryCount, entryZero, entryValid};
 use crate::layout;

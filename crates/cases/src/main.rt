@@ -1,13 +1,13 @@
 // Runs the geometry cases of document 01 through the public calls: a line for each, `ok` where the call gives what the paper
-// says. The same cases are proved of the definitions in margin's theorem `cases`; this shows the compiled code.
+// says. The same cases are proved of the definitions in geometry's theorem `cases`; this shows the compiled code.
 use geometry::distance;
 use geometry::distance::DistanceAnswer;
+use geometry::margin;
+use geometry::margin::MarginAnswer;
 use libc::STDOUT_FILENO;
-use margin::call;
-use margin::call::MarginAnswer;
 
 fn margin_is(o: [[i32; 2]; 2], e: [[i32; 2]; 2], b: [[i32; 2]; 2], m: i64) -> bool {
-    match call::margin(o, e, b) {
+    match margin::margin(o, e, b) {
         MarginAnswer::Reached(r) => r.margin == m,
         MarginAnswer::Refused(_) => false,
     }

@@ -10,10 +10,10 @@ use lib.ListN.{length, getD, take, drop, replicate, length-append, length-replic
 use lib.Seq.{getD-append-add, getD-take, getD-drop, ext-getD, length-take-le}
 use borrow.Author.Tests.{ltb-true, ltb-false}
 use Rattle.base.proofs.Tests.{by-test}
-use Rattle.codec.specs.Every.{zeros}
+use Rattle.codec.specs.Zeros.{zeros}
 use Rattle.codec.specs.Over.{over}
 use Rattle.codec.specs.Tabulate.{joined}
-use Rattle.codec.proofs.Every.{zeros-at, zeros-hold}
+use Rattle.codec.proofs.Zeros.{zeros-at, zeros-hold}
 use Rattle.codec.proofs.Over.{getD-run, length-over}
 
 -- s has vs from index i on

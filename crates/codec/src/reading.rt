@@ -3,7 +3,7 @@ ghost use mathlib.Core.Path.{_≡_};
 ghost use Prim.Native.Nat.{_+_, _<_, _≤_};
 ghost use lib.ListN.{length};
 ghost use Rattle.codec.specs.Number.{limit16, u16At, u32At, signed, i32At};
-ghost use Rattle.codec.specs.Every.{zeros};
+ghost use Rattle.codec.specs.Zeros.{zeros};
 
 const LIMIT_16: u32 = 0x1_0000;
 

@@ -2,5 +2,9 @@ pub mod Shift
 pub mod Subtracting
 pub mod OneAxis
 pub mod AllAxes
+mod Line
+mod BestEnd
+pub mod BestPoint
+mod Corners
 pub mod Two
 pub mod Theorems

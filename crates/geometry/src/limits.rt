@@ -3,18 +3,18 @@ ghost use mathlib.Core.Path.{_≡_};
 ghost use Rattle.geometry.specs.Box.{withinLimits, validAxis, validBox, validPoint, onAxis, inside};
 use base::both;
 
-pub const LOWEST: i32 = -1_000_000;
+const LOWEST: i32 = -1_000_000;
 
-pub const HIGHEST: i32 = 1_000_000;
+const HIGHEST: i32 = 1_000_000;
 
-pub fn within_limits(x: i32) -> bool
+fn within_limits(x: i32) -> bool
     ensures { λ r. ⌜ r ≡ withinLimits x ⌝ }
 {
     both(LOWEST <= x, x <= HIGHEST)
 }
 
 // Three comparisons: with the ends in order, each is within one limit because the other end is.
-pub fn valid_axis(s: [i32; 2]) -> bool
+fn valid_axis(s: [i32; 2]) -> bool
     ensures { λ r. ⌜ r ≡ validAxis s ⌝ }
 {
     let l = s[0];
@@ -34,7 +34,7 @@ pub fn valid_point(p: [i32; 2]) -> bool
     both(within_limits(p[0]), within_limits(p[1]))
 }
 
-pub fn on_axis(s: [i32; 2], x: i32) -> bool
+fn on_axis(s: [i32; 2], x: i32) -> bool
     ensures { λ r. ⌜ r ≡ onAxis s x ⌝ }
 {
     let l = s[0];

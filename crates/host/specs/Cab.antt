@@ -7,8 +7,8 @@ use lib.ListN.{length, getD}
 use Rattle.base.specs.Refusal.{Outcome, accepted, refused, require, #length, #sync, #check}
 use Rattle.blocks.specs.Checksum.{checkAgrees}
 use Rattle.blocks.specs.Layout.{blockSize, syncByte}
-use Rattle.margin.specs.Calls.{marginCall}
-use Rattle.margin.specs.Margin.{Reached}
+use Rattle.geometry.specs.Calls.{marginCall}
+use Rattle.geometry.specs.Margin.{Reached}
 
 -- "Exported check takes a byte slice: 0, or 1 (not 512 bytes), 2, 3."
 unfoldable pub blockTests : List ℕ → Outcome ℕ

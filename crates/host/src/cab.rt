@@ -3,8 +3,8 @@ ghost use mathlib.Core.Path.{_≡_};
 ghost use Rattle.host.specs.Cab.{blockCheck, boxOf, marginNumber};
 use blocks::checksum;
 use blocks::layout;
-use margin::call::margin_within;
-use margin::call::valid_boxes;
+use geometry::margin::margin_within;
+use geometry::margin::valid_boxes;
 
 // What `nearby_margin` gives for a bad box: no margin is so large.
 pub const BAD_BOX: i64 = 9_000_000_000_000_000_000;

@@ -6,11 +6,11 @@ use lib.IntN.{ℤ}
 use lib.ListN.{length}
 use Rattle.base.specs.Refusal.{Outcome, accepted, refused, require, #k, #stops, #spot, #short}
 use Rattle.blocks.specs.Directory.{directory}
-use Rattle.codec.specs.Every.{every}
+use Rattle.base.specs.Every.{every}
 use Rattle.prune.specs.Prune.{validK}
 use Rattle.stops.specs.Stops.{validStop}
 use Rattle.base.proofs.Outcomes.{require-accepted}
-use Rattle.codec.proofs.Every.{every-at}
+use Rattle.base.proofs.Every.{every-at}
 use Rattle.stops.specs.Arguments.{arguments, stopsDue, room}
 use Rattle.join.specs.Join.{Result, lent, tests, runEnd, joinFrom, joinEnd}
 use Rattle.join.specs.Running.{RunReady}

@@ -2,7 +2,7 @@
 use mathlib.Core.Path.{refl}
 use Rattle.blocks.specs.Checksum.{sums, sumsFrom}
 use Rattle.geometry.specs.Distance.{D, square, gap, minDist, maxDist, closest, farthest, closestPoint, farthestPoint}
-use Rattle.margin.specs.Margin.{margin, reached, reachedFrom, difference, bestPoint, bestEnd, gain, closer}
+use Rattle.geometry.specs.Margin.{margin, reached, reachedFrom, difference, bestPoint, bestEnd, gain, closer}
 use Rattle.search.specs.Lists.{count, total, filter, member}
 use Rattle.search.specs.Order.{lex, insert, sort}
 use Rattle.search.specs.Plan.{ranks, ranked}

@@ -1,4 +1,4 @@
--- Document 01, "Twelve cases", as one table: 1 to 8 are margin's, 9 to 11 are checks of a block, 12 is "the town above".
+-- Document 01, "Twelve cases", as one table: 1 to 8 are geometry's, 9 to 11 are checks of a block, 12 is "the town above".
 use Prim.Native.Nat.{ℕ, _<_, _^_}
 use mathlib.Core.Bool.{true}
 use mathlib.Core.List.{List, [], _∷_, _++_, map}
@@ -10,9 +10,9 @@ use Rattle.blocks.specs.Checksum.{sums}
 use Rattle.blocks.specs.declared.checksum.Sums.{Sums}
 use Rattle.geometry.specs.Box.{inside}
 use Rattle.geometry.specs.Distance.{D, minDist}
-use Rattle.margin.specs.Cases as margin
-use Rattle.margin.specs.Cases.{box}
-use Rattle.margin.specs.Margin.{closer}
+use Rattle.geometry.specs.Cases as geometry
+use Rattle.geometry.specs.Cases.{box}
+use Rattle.geometry.specs.Margin.{closer}
 use Rattle.search.specs.Plan.{Plan}
 use Rattle.search.specs.Run.{Run, join, marks}
 use Rattle.search.specs.declared.Place.{Place}
@@ -53,13 +53,13 @@ abbrev pub answer : ℕ → Run (List (List Place))
 answer k = join (townPlan k) reading (origin ∷ [])
 
 pub data Case : Type 0 where
-  by-margin : margin.Case → Case
+  by-geometry : geometry.Case → Case
   check-of : List ℕ → Sums → Case
   town-with : ℕ → List Place → List ℕ → Case
 
 abbrev pub table : List Case
 table =
-    map by-margin margin.table
+    map by-geometry geometry.table
     ++ check-of (replicate 509 0) (record { a = 0; c = 0 })
     ∷ check-of (1 ∷ replicate 508 0) (record { a = 1; c = 254 })
     ∷ check-of (replicate 508 0 ++ (1 ∷ [])) (record { a = 1; c = 1 })
@@ -68,7 +68,7 @@ table =
 
 -- what a case says: of bytes 1 to 509 whatever the others are; of a run its list and its marks
 abbrev pub Says : Case → Type 0
-Says (by-margin c) = margin.Says c
+Says (by-geometry c) = geometry.Says c
 Says (check-of bytes s) = (sync a c : ℕ) → sums (sync ∷ (bytes ++ (a ∷ c ∷ []))) ≡ s
 Says (town-with k l m) = (answer k .outcome ≡ accepted (l ∷ [])) × (marks (townPlan k) (answer k .openings) ≡ m)
 

@@ -17,8 +17,8 @@ use Rattle.tiles.specs.declared.tile.Site.{Site}
 use Rattle.blocks.proofs.Theorems.{entry-of-accepted}
 use Rattle.geometry.proofs.AllAxes.{Over, in-box, in-test, in-length, closest-in, min-least}
 use Rattle.geometry.proofs.Two.{two, at-x, at-y}
-use Rattle.margin.proofs.AllAxes.{three, over-in}
-use Rattle.margin.proofs.Theorems.{closer-exact, closer-irreflexive, closer-transitive}
+use Rattle.geometry.proofs.BestPoint.{three, over-in}
+use Rattle.geometry.proofs.Theorems.{closer-exact, closer-irreflexive, closer-transitive}
 use Rattle.plan.specs.FilePlan.{entries}
 
 pub box-axes : (f : List ℕ) (t : ℕ) → length (boxAt f t) ≡ 2

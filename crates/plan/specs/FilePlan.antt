@@ -15,7 +15,7 @@ use Rattle.blocks.specs.declared.header.Header.{Header}
 use Rattle.codec.specs.Number.{limit32}
 use Rattle.geometry.specs.Box.{inside}
 use Rattle.geometry.specs.Distance.{D, minDist}
-use Rattle.margin.specs.Margin.{closer}
+use Rattle.geometry.specs.Margin.{closer}
 use Rattle.search.specs.Plan.{Geometry, Directory}
 use Rattle.tiles.specs.Tile.{sitePoint, openTile, sitesAt}
 use Rattle.tiles.specs.declared.tile.Site.{Site}

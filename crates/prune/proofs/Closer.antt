@@ -1,6 +1,6 @@
 -- Closer at two axes, from the tables of the corners. Assumes nothing.
 use Prim.Native.Nat.{ℕ, _<_, _≤_}
-use mathlib.Core.Bool.{true, false, _&&_}
+use mathlib.Core.Bool.{Bool, true, false, _&&_}
 use mathlib.Core.List.{List, [], _∷_, map}
 use mathlib.Core.Path.{_≡_, refl, ap, sym, _∙_}
 use native.Mathlib.Omega.{arith}
@@ -9,30 +9,43 @@ use lib.IntN.{ℤ}
 use lib.ListN.{getD, length}
 use lib.Signed.{leZ}
 use borrow.Author.Tests.{le-ltb}
+use Rattle.base.specs.Every.{every}
 use Rattle.base.specs.Refusal.{accepted}
 use Rattle.blocks.specs.Directory.{directory, boxAt, entryBox}
 use Rattle.codec.specs.Over.{over}
 use Rattle.geometry.specs.Box.{lo, hi, withinLimits, validAxis, validBox, validPoint}
+use Rattle.geometry.specs.Corners.{endAt, corner, corners}
 use Rattle.geometry.specs.Distance.{minDist, maxDist}
-use Rattle.margin.specs.Margin.{closer}
+use Rattle.geometry.specs.Margin.{closer}
 use Rattle.search.specs.Lists.{range}
 use Rattle.base.proofs.Tests.{and-both}
 use Rattle.blocks.proofs.Theorems.{entry-of-accepted}
 use Rattle.codec.proofs.Over.{length-over}
-use Rattle.margin.proofs.Corners.{atCorners, closer-corners}
+use Rattle.geometry.proofs.Theorems.{closer-corners}
 use Rattle.geometry.proofs.Two.{two, axis-x, axis-y, valid-axes-2}
 use Rattle.prune.specs.Corners.{cornerA, cornerB, cornerC, cornerD, FarTable, FarTables, NearOf}
 use Rattle.prune.specs.declared.corners.Nears.{Nears}
 use Rattle.prune.proofs.Filling.{filled-at}
 
+-- four tests in the order of the tables
+in-order : (a b c d : Bool) → ((a && c) && b) && d ≡ (a && b) && (c && d)
+in-order true b true d = refl
+in-order true true false d = refl
+in-order true false false d = refl
+in-order false b c d = refl
+
 module _ (o e b : List (List ℤ)) (vo : validBox o ≡ true) (ve : validBox e ≡ true) (vb : validBox b ≡ true) (po : length o ≡ 2) (pe : length e ≡ 2) (pb : length b ≡ 2) where
+  abbrev below-at : List ℤ → Bool
+  below-at p = ltb (maxDist e p) (minDist b p)
+
   pub closer-2 : closer o e b
       ≡ (ltb (maxDist e (cornerA o)) (minDist b (cornerA o)) && ltb (maxDist e (cornerB o)) (minDist b (cornerB o)))
       && (ltb (maxDist e (cornerC o)) (minDist b (cornerC o)) && ltb (maxDist e (cornerD o)) (minDist b (cornerD o)))
-  unfolding atCorners
+  unfolding every corner endAt
   closer-2 =
       closer-corners o e b vo ve vb (pe ∙ sym po) (pb ∙ sym po)
-      ∙ ap (atCorners (λ c. ltb (maxDist e c) (minDist b c))) (two o [] po)
+      ∙ ap (λ (z : List (List ℤ)). every (λ c. below-at (corner z c)) (corners (length z))) (two o [] po)
+      ∙ in-order (below-at (cornerA o)) (below-at (cornerB o)) (below-at (cornerC o)) (below-at (cornerD o))
 
 -- the corners of a valid box are valid points
 ends : (s : List ℤ) → validAxis s ≡ true → (withinLimits (lo s) ≡ true) × (withinLimits (hi s) ≡ true)

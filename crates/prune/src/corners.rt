@@ -1,5 +1,5 @@
 // Tiles measured from the four corners of O. E is closer than B from O exactly when from each corner far to E is below near to
-// B (margin's `closer-corners`), so each tile is measured once from each corner, and a pair of tiles takes four comparisons.
+// B (geometry's `closer-corners`), so each tile is measured once from each corner, and a pair of tiles takes four comparisons.
 ghost use mathlib.Core.Path.{_≡_};
 ghost use mathlib.Core.Bool.{true, _&&_};
 ghost use mathlib.Core.List.{map};

@@ -8,7 +8,7 @@ ghost use Rattle.base.specs.Refusal.{accepted};
 ghost use Rattle.blocks.specs.Directory.{directory, boxAt, countAt};
 ghost use Rattle.codec.specs.Over.{over};
 ghost use Rattle.geometry.specs.Box.{validBox};
-ghost use Rattle.margin.specs.Margin.{closer};
+ghost use Rattle.geometry.specs.Margin.{closer};
 ghost use Rattle.search.specs.Lists.{range, bit, total};
 ghost use Rattle.search.specs.Pruning.{pruned, prunedCount};
 ghost use Rattle.prune.specs.Corners.{FarTables, NearOf};

@@ -6,7 +6,7 @@ use lib.Dec.{eqb, leb}
 use lib.IntN.{ℤ}
 use lib.ListN.{length}
 use Rattle.base.specs.Refusal.{Outcome, accepted, require, #k, #stops, #spot, #short}
-use Rattle.codec.specs.Every.{every}
+use Rattle.base.specs.Every.{every}
 use Rattle.prune.specs.Prune.{validK}
 use Rattle.stops.specs.Stops.{validStop}
 

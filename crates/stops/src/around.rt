@@ -4,7 +4,7 @@ ghost use mathlib.Core.Bool.{cond};
 ghost use Prim.Native.Nat.{_<_};
 ghost use lib.ListN.{length};
 ghost use lib.Signed.{ltZ};
-ghost use Rattle.codec.specs.Every.{every};
+ghost use Rattle.base.specs.Every.{every};
 ghost use Rattle.plan.specs.Stops.{least, greatest, around};
 ghost use Rattle.stops.specs.Stops.{validStop};
 use crate::stop::stop_at;

@@ -15,7 +15,7 @@ use Rattle.base.proofs.Outcomes.{accepted-injective, require-accepted, andThen-
 use Rattle.blocks.proofs.BlockLaws.{head-good, head-enough}
 use Rattle.blocks.proofs.DirectoryLaws.{directory-good, directory-enough}
 use Rattle.blocks.proofs.OutcomeLaws.{turns-each, turns-all}
-use Rattle.codec.proofs.Every.{every-at, every-holds}
+use Rattle.base.proofs.Every.{every-at, every-holds}
 use Rattle.tiles.specs.Accepted.{GoodTileBlock, GoodTile, GoodFile}
 use Rattle.tiles.specs.Tile.{tileBlock, siteInside, openTile}
 use Rattle.tiles.specs.Validate.{openAll, validate}

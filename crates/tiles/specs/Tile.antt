@@ -9,7 +9,8 @@ use Rattle.blocks.specs.Block.{blockAt, entriesIn, blockHead}
 use Rattle.blocks.specs.Directory.{directoryBlocks, boxAt, countAt}
 use Rattle.blocks.specs.Layout.{tileKind, tilesAt, payloadAt, checkAt, siteSize}
 use Rattle.blocks.specs.declared.header.Header.{Header}
-use Rattle.codec.specs.Every.{every, zeros}
+use Rattle.base.specs.Every.{every}
+use Rattle.codec.specs.Zeros.{zeros}
 use Rattle.codec.specs.Number.{u32At, i32At}
 use Rattle.codec.specs.Tabulate.{tabulate}
 use Rattle.geometry.specs.Box.{inside}

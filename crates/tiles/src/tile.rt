@@ -3,7 +3,7 @@ ghost use mathlib.Core.Path.{_≡_};
 ghost use Prim.Native.Nat.{_+_, _*_, _<_, _≤_};
 ghost use lib.ListN.{length};
 ghost use Rattle.base.specs.Refusal.{accepted, refused};
-ghost use Rattle.codec.specs.Every.{every};
+ghost use Rattle.base.specs.Every.{every};
 ghost use Rattle.codec.specs.Number.{limit16};
 ghost use Rattle.blocks.specs.Layout.{blockSize, payloadAt, siteSize, maxSites};
 ghost use Rattle.blocks.specs.Directory.{directory, countAt};

@@ -15,7 +15,7 @@ use Rattle.blocks.specs.Layout.{positionAt, entriesAt, tilesAt, countOffset, bl
 use Rattle.blocks.specs.Layout.{payloadAt, checkAt, zeroOffset, entrySize}
 use Rattle.blocks.specs.declared.checksum.Sums.{Sums}
 use Rattle.codec.specs.Bytes.{bytes, bytes16, bytes32, bytesSigned}
-use Rattle.codec.specs.Every.{zeros}
+use Rattle.codec.specs.Zeros.{zeros}
 use Rattle.codec.specs.Number.{Bytes, i32At}
 use Rattle.encode.specs.Encode.{headBytes, checkBytes, bodyBytes, blockBytes, boxBytes, entryBytes, siteBytes}
 use Rattle.encode.specs.Supply.{numbersPerBox, boxOf, countOf}

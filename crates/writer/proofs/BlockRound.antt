@@ -14,7 +14,7 @@ use Rattle.blocks.specs.Block.{tilesIn, kindDue}
 use Rattle.blocks.specs.Directory.{directoryBlocks, entriesDue, entryOffset, entryBox, entryCount, entryZero, directoryPadding}
 use Rattle.blocks.specs.Layout.{blockSize, kindAt, tilesAt, reservedAt, payloadAt, checkAt, entrySize, entriesPerBlock}
 use Rattle.blocks.specs.Layout.{siteSize, maxSites, maxTiles, directoryKind, tileKind}
-use Rattle.codec.specs.Every.{zeros}
+use Rattle.codec.specs.Zeros.{zeros}
 use Rattle.codec.specs.Number.{Bytes, u16At}
 use Rattle.codec.specs.Tabulate.{joined}
 use Rattle.encode.specs.Encode.{entryBytes, siteBytes, directoryBytes, tileBytes}
@@ -24,7 +24,8 @@ use Rattle.tiles.specs.Accepted.{GoodTileBlock}
 use Rattle.tiles.specs.Tile.{siteOffset, siteIn, sitePoint, tilePadding}
 use Rattle.tiles.specs.declared.tile.Site.{Site}
 use Rattle.base.proofs.Tests.{and-both, both-and, by-test}
-use Rattle.codec.proofs.Every.{every-at, every-holds, zeros-at, zeros-hold}
+use Rattle.base.proofs.Every.{every-at, every-holds}
+use Rattle.codec.proofs.Zeros.{zeros-at, zeros-hold}
 use Rattle.codec.proofs.Holds.{Holds, holds-each, holds-joined}
 use Rattle.encode.proofs.EncodeLaws.{length-entry, length-site, length-entries, length-sites, due-few, due-within}
 use Rattle.encode.proofs.EncodeLaws.{blocks-few}

@@ -17,7 +17,7 @@ use Rattle.encode.specs.Supply.{Supply, tilesOf, numbersPerBox, boxOf, countOf,
 use Rattle.geometry.specs.Box.{validBox, inside}
 use Rattle.base.proofs.Outcomes.{require-accepted}
 use Rattle.base.proofs.Tests.{and-both, both-and}
-use Rattle.codec.proofs.Every.{every-at, every-holds}
+use Rattle.base.proofs.Every.{every-at, every-holds}
 use Rattle.codec.proofs.Joined.{length-joined}
 use Rattle.codec.proofs.Over.{also}
 use Rattle.encode.proofs.EncodeLaws.{length-directory-block}

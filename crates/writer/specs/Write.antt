@@ -8,7 +8,7 @@ use lib.ListN.{length}
 use Rattle.base.specs.Refusal.{Outcome, accepted, refused, require, andThen, #tiles, #box, #stray, #short, #supply}
 use Rattle.blocks.specs.Directory.{validEntry}
 use Rattle.blocks.specs.Layout.{maxTiles}
-use Rattle.codec.specs.Every.{every}
+use Rattle.base.specs.Every.{every}
 use Rattle.codec.specs.Over.{over}
 use Rattle.encode.specs.Encode.{fileBytes, fileLength}
 use Rattle.encode.specs.Supply.{Supply, tilesOf, numbersPerBox, boxOf, countOf, offset, total, pointOf}

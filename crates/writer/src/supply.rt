@@ -4,7 +4,7 @@ ghost use Prim.Native.Nat.{ℕ, _+_, _*_, _<_, _≤_};
 ghost use lib.ListN.{length};
 ghost use Rattle.blocks.specs.Layout.{maxSites, maxTiles};
 ghost use Rattle.blocks.specs.Outcome.{numberOutcome};
-ghost use Rattle.codec.specs.Every.{every};
+ghost use Rattle.base.specs.Every.{every};
 ghost use Rattle.encode.specs.Supply.{supply, numbersPerBox, boxOf, countOf, total, pointOf};
 ghost use Rattle.encode.specs.Encode.{fileLength};
 ghost use Rattle.geometry.specs.Box.{inside};

@@ -3,7 +3,7 @@ use mathlib.Core.Path.{_≡_, sym, ap, _∙_}
 use lib.Dec.{eqb}
 use borrow.Author.Needs.{needs}
 use Rattle.base.specs.Refusal.{accepted}
-use Rattle.codec.specs.Every.{every}
+use Rattle.base.specs.Every.{every}
 use Rattle.blocks.specs.Block.{headerIn, entriesIn, blockHead}
 use Rattle.blocks.specs.Directory.{entriesDue, tilesDue, directoryPadding, entryValid, directoryBlock}
 use Rattle.blocks.specs.Layout.{directoryKind}

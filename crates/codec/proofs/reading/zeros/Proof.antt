@@ -4,7 +4,7 @@ use native.Mathlib.Omega.{arith}
 use lib.ListN.{getD}
 use borrow.Author.Count.{below-more}
 use borrow.Author.Needs.{needs}
-use Rattle.codec.proofs.Every.{zeros-fail, zeros-hold}
+use Rattle.codec.proofs.Zeros.{zeros-fail, zeros-hold}
 use Rattle.codec.proofs.reading.zeros.Statement.{statement}
 use Rattle.codec.proofs.reading.zeros.Tie as tie
 

@@ -7,8 +7,8 @@ use borrow.Author.Needs.{sfits-of, needs}
 use Rattle.base.proofs.Tests.{and-both}
 use Rattle.blocks.proofs.TestLaws.{passed, failed}
 use Rattle.geometry.specs.Box.{validBox}
-use Rattle.margin.specs.Calls.{marginCall}
-use Rattle.margin.specs.Margin.{margin}
+use Rattle.geometry.specs.Calls.{marginCall}
+use Rattle.geometry.specs.Margin.{margin}
 use Rattle.host.specs.Cab.{marginNumber}
 use Rattle.host.proofs.cab.margin_or_bad.Statement.{statement}
 use Rattle.host.proofs.cab.margin_or_bad.Tie as tie

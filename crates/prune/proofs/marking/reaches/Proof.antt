@@ -4,7 +4,7 @@ use native.Mathlib.Omega.{arith}
 use borrow.Author.Needs.{needs}
 use borrow.Author.Tests.{le-leb, leb-true}
 use Rattle.blocks.specs.Directory.{boxAt, countAt}
-use Rattle.margin.specs.Margin.{closer}
+use Rattle.geometry.specs.Margin.{closer}
 use Rattle.search.specs.Lists.{range, total}
 use Rattle.prune.proofs.Summing.{sum-part}
 use Rattle.prune.proofs.marking.reaches.Statement.{statement}

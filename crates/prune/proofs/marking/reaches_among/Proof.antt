@@ -6,7 +6,7 @@ use lib.Dec.{leb}
 use borrow.Author.Needs.{needs}
 use borrow.Author.Tests.{le-leb}
 use Rattle.blocks.specs.Directory.{boxAt, countAt}
-use Rattle.margin.specs.Margin.{closer}
+use Rattle.geometry.specs.Margin.{closer}
 use Rattle.search.specs.Lists.{range, total}
 use Rattle.blocks.proofs.DirectoryLaws.{directory-good}
 use Rattle.prune.specs.Corners.{NotBelow}

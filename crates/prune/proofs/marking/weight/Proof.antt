@@ -2,7 +2,7 @@ use mathlib.Core.Path.{_≡_, sym, _∙_}
 use native.Mathlib.Omega.{arith}
 use borrow.Author.Needs.{needs}
 use Rattle.blocks.specs.Directory.{boxAt}
-use Rattle.margin.specs.Margin.{closer}
+use Rattle.geometry.specs.Margin.{closer}
 use Rattle.blocks.proofs.Theorems.{entry-of-accepted}
 use Rattle.prune.proofs.Closer.{table-closer}
 use Rattle.prune.proofs.marking.weight.Statement.{statement}

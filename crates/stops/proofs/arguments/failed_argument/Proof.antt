@@ -4,7 +4,7 @@ use native.Mathlib.Omega.{arith}
 use lib.ListN.{length}
 use borrow.Author.Needs.{needs}
 use borrow.Author.Tests.{not-true, not-false}
-use Rattle.codec.specs.Every.{every}
+use Rattle.base.specs.Every.{every}
 use Rattle.prune.specs.Prune.{validK}
 use Rattle.stops.specs.Stops.{validStop}
 use Rattle.stops.specs.Arguments.{stopsDue, arguments}

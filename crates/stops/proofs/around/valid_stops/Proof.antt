@@ -8,7 +8,7 @@ use borrow.Author.Needs.{needs}
 use borrow.Author.Tests.{not-true, not-false}
 use Rattle.geometry.specs.Box.{validPoint}
 use Rattle.stops.specs.Stops.{validStop}
-use Rattle.codec.proofs.Every.{every-holds, every-fails}
+use Rattle.base.proofs.Every.{every-holds, every-fails}
 use Rattle.stops.proofs.around.valid_stops.Statement.{statement}
 use Rattle.stops.proofs.around.valid_stops.Tie as tie
 

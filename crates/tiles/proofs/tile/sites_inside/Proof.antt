@@ -5,7 +5,7 @@ use native.Mathlib.Omega.{arith}
 use borrow.Author.Count.{below-more}
 use borrow.Author.Needs.{needs}
 use Rattle.blocks.proofs.TestLaws.{passed, failed}
-use Rattle.codec.proofs.Every.{every-fails, every-holds}
+use Rattle.base.proofs.Every.{every-fails, every-holds}
 use Rattle.tiles.specs.Tile.{siteInside}
 use Rattle.tiles.proofs.tile.sites_inside.Statement.{statement}
 use Rattle.tiles.proofs.tile.sites_inside.Tie as tie

@@ -6,7 +6,7 @@ use lib.ListN.{length}
 use borrow.Author.Count.{below-more}
 use borrow.Author.Needs.{needs}
 use Rattle.blocks.proofs.TestLaws.{passed, failed}
-use Rattle.codec.proofs.Every.{every-fails, every-holds}
+use Rattle.base.proofs.Every.{every-fails, every-holds}
 use Rattle.writer.specs.Write.{entryFits}
 use Rattle.writer.proofs.supply.entries_fit.Statement.{statement}
 use Rattle.writer.proofs.supply.entries_fit.Tie as tie

@@ -7,11 +7,11 @@ use lib.ListN.{length}
 use borrow.Author.Needs.{needs}
 use borrow.Author.Tests.{eq-eqb, ne-eqb}
 use Rattle.base.specs.Refusal.{accepted, require, #stray, #short}
-use Rattle.codec.specs.Every.{every}
+use Rattle.base.specs.Every.{every}
 use Rattle.encode.specs.Encode.{fileLength}
 use Rattle.encode.specs.Supply.{supply, numbersPerBox, total}
 use Rattle.blocks.proofs.TestLaws.{passed, failed}
-use Rattle.codec.proofs.Every.{every-at}
+use Rattle.base.proofs.Every.{every-at}
 use Rattle.writer.specs.Write.{tilesFit, entryFits, listsFit, tileFits, writeTests}
 use Rattle.writer.proofs.WriteLaws.{tiles-good, entry-good, lists-good}
 use Rattle.writer.proofs.supply.failed_test.Statement.{statement}

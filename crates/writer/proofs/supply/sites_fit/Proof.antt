@@ -7,7 +7,7 @@ use borrow.Author.Needs.{needs}
 use Rattle.encode.specs.Supply.{pointOf}
 use Rattle.geometry.specs.Box.{inside}
 use Rattle.blocks.proofs.TestLaws.{passed, failed}
-use Rattle.codec.proofs.Every.{every-fails, every-holds}
+use Rattle.base.proofs.Every.{every-fails, every-holds}
 use Rattle.writer.specs.Write.{sitesFit}
 use Rattle.writer.proofs.supply.sites_fit.Statement.{statement}
 use Rattle.writer.proofs.supply.sites_fit.Tie as tie

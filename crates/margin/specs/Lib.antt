@@ -1,4 +1,0 @@
-pub mod Margin
-pub mod Calls
-pub mod Claims
-pub mod Cases
