@@ -10,21 +10,38 @@ use Rattle.blocks.specs.Directory.{directory, boxAt}
 use Rattle.blocks.specs.Layout.{blockSize, maxSites}
 use Rattle.blocks.specs.declared.header.Header.{Header}
 use Rattle.codec.specs.Tabulate.{tabulate}
-use Rattle.geometry.specs.Box.{validPoint}
+use Rattle.geometry.specs.Box.{validBox, validPoint}
+use Rattle.geometry.specs.Corners.{corner, corners}
 use Rattle.geometry.specs.Distance.{D, maxDist}
 use Rattle.search.specs.declared.Place.{Place}
-use Rattle.tiles.specs.Tile.{sitePoint, siteIn, openTile}
+use Rattle.tiles.specs.Tile.{sitePoint, siteIn}
 use Rattle.tiles.specs.declared.tile.Site.{Site}
 use Rattle.plan.specs.FilePlan.{openingOf, townOf}
+
+-- the axes of a town
+abbrev pub axisCount : ℕ
+axisCount = 2
 
 -- a tile of a file whose directory is accepted
 pub record TileOf (f : List ℕ) (h : Header) (t : ℕ) : Type 0 where
   pub dir : directory f ≡ accepted h
   pub below : t < h .tiles
 
--- a stop within the limits
-abbrev pub ValidStop : List ℤ → Type 0
-ValidStop p = validPoint p ≡ true
+-- a stop and a region within the limits
+pub record ValidStop (p : List ℤ) : Type 0 where
+  pub valid : validPoint p ≡ true
+  pub axes : length p ≡ axisCount
+
+pub record ValidRegion (o : List (List ℤ)) : Type 0 where
+  pub valid : validBox o ≡ true
+  pub axes : length o ≡ axisCount
+
+-- corner c of a region, for c below their number
+abbrev pub cornerOf : List (List ℤ) → ℕ → List ℤ
+cornerOf o c = corner o c
+
+abbrev pub cornerCount : ℕ
+cornerCount = corners axisCount
 
 -- far distance of a tile from a stop
 unfoldable pub far : List ℕ → List ℤ → ℕ → ℕ

@@ -14,7 +14,7 @@ max-dist-within-requires : tie.Need-max-dist-within-requires
 max-dist-within-requires c κs =
     let s : tie.Start = search in
     let valid = entry-of-accepted (s .args .f .now) (s .args .h) (s .args .t) (s .pre .0 .dir) (s .pre .0 .below) .0 in
-    (rw (c .box-at .ensures) valid, s .pre .1)
+    (rw (c .box-at .ensures) valid, s .pre .1 .valid)
 
 returns : tie.Need-returns
 unfolding far

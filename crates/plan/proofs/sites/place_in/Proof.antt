@@ -18,7 +18,7 @@ squared-dist-requires c κs =
     let told = c .before .struct-told .given in
     let x = local-i32 (r .site-in .result .x) (told .0 .1) in
     let y = local-i32 (r .site-in .result .y) (told .1 .0 .1) in
-    (s .pre .2, simp (x, y) (simp (r .site-in .ensures) (s .pre .0 .valid (s .args .slot) (s .pre .1))))
+    (s .pre .2 .valid, simp (x, y) (simp (r .site-in .ensures) (s .pre .0 .valid (s .args .slot) (s .pre .1))))
 
 returns : tie.Need-returns
 returns c =

@@ -1,0 +1,37 @@
+-- Tiles measured from the corners of a region, and the bound on near.
+use Prim.Native.Nat.{ℕ, _<_, _≤_}
+use mathlib.Core.Path.{_≡_, _∙_, sym}
+use native.Mathlib.Omega.{arith}
+use lib.Dec.{ltb}
+use lib.IntN.{ℤ}
+use mathlib.Core.List.{List}
+use lib.ListN.{length}
+use Rattle.base.specs.Every.{every}
+use Rattle.base.specs.Refusal.{accepted}
+use Rattle.blocks.specs.Directory.{directory, boxAt}
+use Rattle.blocks.specs.declared.header.Header.{Header}
+use Rattle.geometry.specs.Margin.{closer}
+use Rattle.search.specs.Plan.{near}
+use Rattle.blocks.proofs.Theorems.{entry-of-accepted}
+use Rattle.geometry.proofs.Theorems.{closer-corners, min-at-most-max, max-dist-bounded}
+use Rattle.plan.specs.FilePlan.{entries}
+use Rattle.plan.specs.Inner.Seam.{ValidStop, ValidRegion, far, cornerOf, cornerCount}
+use Rattle.plan.proofs.Lawful.{box-axes}
+
+module _ (f : List ℕ) (h : Header) (dir : directory f ≡ accepted h) where
+  -- tile e is closer than tile b from a region exactly when from each corner far of e is below near of b
+  pub closer-by-corners : {o : List (List ℤ)} → ValidRegion o → (e b : ℕ) → e < h .tiles → b < h .tiles
+      → closer o (boxAt f e) (boxAt f b)
+      ≡ every (λ c. ltb (far f (cornerOf o c) e) (near (entries f h) (cornerOf o c) b)) cornerCount
+  unfolding far
+  closer-by-corners {o} v e b i j =
+      let n : (t : ℕ) → length (boxAt f t) ≡ length o = λ t. box-axes f t ∙ sym (v .axes) in
+      rw (v .axes) at (closer-corners o (boxAt f e) (boxAt f b) (v .valid) (entry-of-accepted f h e dir i .0)
+      (entry-of-accepted f h b dir j .0) (n e) (n b))
+
+  pub near-bounded : {p : List ℤ} → ValidStop p → (t : ℕ) → t < h .tiles → near (entries f h) p t ≤ 8000000000000
+  near-bounded {p} v t l =
+      let same : length p ≡ length (boxAt f t) = v .axes ∙ sym (box-axes f t) in
+      let valid = entry-of-accepted f h t dir l .0 in
+      let m = min-at-most-max (boxAt f t) p valid (v .valid) same in
+      omega (arith, rw (v .axes) at (max-dist-bounded (boxAt f t) p valid (v .valid) same))
