@@ -46,14 +46,7 @@ fn put_entry(d: &mut [u8], at: usize, boxes: &[i32], counts: &[u32], t: usize)
 }
 
 // The entries of n tiles from tile `first` on.
-fn put_entries(
-    d: &mut [u8],
-    start: usize,
-    boxes: &[i32],
-    counts: &[u32],
-    first: usize,
-    n: usize,
-)
+fn put_entries(d: &mut [u8], start: usize, boxes: &[i32], counts: &[u32], first: usize, n: usize)
     requires { ⌜
         (start + entrySize * n ≤ length (now d)) × (numbersPerBox * (first + n) ≤ length (now boxes))
         × (first + n ≤ length (now counts)) ⌝ }

@@ -59,15 +59,7 @@ fn put_sites(
 }
 
 // A tile's block at position p, with n sites of the lists from site `first` on.
-fn put_tile(
-    d: &mut [u8],
-    p: usize,
-    xs: &[i32],
-    ys: &[i32],
-    cues: &[u32],
-    first: usize,
-    n: usize,
-)
+fn put_tile(d: &mut [u8], p: usize, xs: &[i32], ys: &[i32], cues: &[u32], first: usize, n: usize)
     requires { ⌜
         (blockSize * p + blockSize ≤ length (now d)) × (n ≤ maxSites) × (first + n ≤ length (now xs))
         × (first + n ≤ length (now ys)) × (first + n ≤ length (now cues)) ⌝ }

@@ -8,7 +8,7 @@ use native.Mathlib.Omega.{arith}
 use lib.IntN.{ℤ, pos}
 use lib.ListN.{length, getD, replicate, length-append}
 use borrow.Author.Tests.{eqb-true, eq-eqb}
-use Rattle.blocks.specs.Block.{positionIn, entriesIn, tilesIn}
+use Rattle.blocks.specs.Block.{positionIn, entriesIn, headerIn}
 use Rattle.blocks.specs.Checksum.{sums, checkAgrees}
 use Rattle.blocks.specs.Directory.{entryOffset, entryBox, entryCount, entryZero}
 use Rattle.blocks.specs.Layout.{positionAt, entriesAt, tilesAt, countOffset, blockSize, syncByte, kindAt, reservedAt}
@@ -16,7 +16,7 @@ use Rattle.blocks.specs.Layout.{payloadAt, checkAt, zeroOffset, entrySize}
 use Rattle.blocks.specs.declared.checksum.Sums.{Sums}
 use Rattle.codec.specs.Bytes.{bytes, bytes16, bytes32, bytesSigned}
 use Rattle.codec.specs.Zeros.{zeros}
-use Rattle.codec.specs.Number.{Bytes, i32At}
+use Rattle.codec.specs.Number.{limit16, Bytes, i32At}
 use Rattle.encode.specs.Encode.{headBytes, checkBytes, bodyBytes, blockBytes, boxBytes, entryBytes, siteBytes}
 use Rattle.encode.specs.Supply.{numbersPerBox, boxOf, countOf}
 use Rattle.tiles.specs.Tile.{siteOffset, siteIn}
@@ -33,7 +33,7 @@ pub record Fields (s : List ℕ) (kind p n t : ℕ) (payload : List ℕ) : Type 
   pub kinds : getD s kindAt 0 ≡ kind
   pub position : positionIn s ≡ p
   pub entries : entriesIn s ≡ n
-  pub tiles : tilesIn s ≡ t
+  pub tiles : headerIn s .tiles ≡ t
   pub reserved : zeros s reservedAt payloadAt ≡ true
   pub held : Holds s payloadAt payload
   pub unused : zeros s (payloadAt + length payload) checkAt ≡ true
@@ -59,7 +59,7 @@ module _ (s : List ℕ) (size : length s ≡ blockSize) where
 
   module _ (kind p n t : ℕ) (payload : List ℕ) where
     -- ---- what stands before the check
-    body-read : p < 65536 → n < 65536 → t < 65536 → Holds s 0 (bodyBytes (headBytes kind p n t) payload) → checkAgrees s ≡ true →
+    body-read : p < limit16 → n < limit16 → t < limit16 → Holds s 0 (bodyBytes (headBytes kind p n t) payload) → checkAgrees s ≡ true →
         Fields s kind p n t payload
     unfolding bodyBytes headBytes bytes16 bytes
     body-read lp ln lt h check =
@@ -108,7 +108,7 @@ module _ (s : List ℕ) (size : length s ≡ blockSize) where
 
     -- ---- the whole block
     module _ (fits : payloadAt + length payload ≤ checkAt) where
-      pub fields-read : p < 65536 → n < 65536 → t < 65536 → Holds s 0 (blockBytes (headBytes kind p n t) payload) →
+      pub fields-read : p < limit16 → n < limit16 → t < limit16 → Holds s 0 (blockBytes (headBytes kind p n t) payload) →
           Fields s kind p n t payload
       unfolding blockBytes
       fields-read lp ln lt h =
@@ -131,7 +131,7 @@ module _ (s : List ℕ) (size : length s ≡ blockSize) where
 
 -- ---- the entry of tile t, as entry i of a block
 module _ (s : List ℕ) (i : ℕ) (boxes : List ℤ) (counts : List ℕ) (t : ℕ) where
-  pub entry-read : Signed boxes → countOf counts t < 65536 → Holds s (entryOffset i) (entryBytes boxes counts t) →
+  pub entry-read : Signed boxes → countOf counts t < limit16 → Holds s (entryOffset i) (entryBytes boxes counts t) →
       (entryBox s i ≡ boxOf boxes t)
       × (entryCount s i ≡ countOf counts t)
       × (entryZero s i ≡ true)

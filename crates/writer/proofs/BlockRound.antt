@@ -10,15 +10,16 @@ use lib.IntN.{ℤ, pos}
 use lib.ListN.{length, getD}
 use borrow.Author.Tests.{eqb-true, eqb-false, eq-eqb, ltb-true, ltb-false}
 use Rattle.blocks.specs.Accepted.{GoodHead, GoodDirectoryBlock}
-use Rattle.blocks.specs.Block.{tilesIn, kindDue}
+use Rattle.blocks.specs.Block.{headerIn, kindDue}
 use Rattle.blocks.specs.Directory.{directoryBlocks, entriesDue, entryOffset, entryBox, entryCount, entryZero, directoryPadding}
 use Rattle.blocks.specs.Layout.{blockSize, kindAt, tilesAt, reservedAt, payloadAt, checkAt, entrySize, entriesPerBlock}
 use Rattle.blocks.specs.Layout.{siteSize, maxSites, maxTiles, directoryKind, tileKind}
+use Rattle.blocks.specs.declared.header.Header.{Header}
 use Rattle.codec.specs.Zeros.{zeros}
-use Rattle.codec.specs.Number.{Bytes, u16At}
+use Rattle.codec.specs.Number.{limit16, Bytes, u16At}
 use Rattle.codec.specs.Tabulate.{joined}
 use Rattle.encode.specs.Encode.{entryBytes, siteBytes, directoryBytes, tileBytes}
-use Rattle.encode.specs.Supply.{boxOf, countOf, pointOf}
+use Rattle.encode.specs.Supply.{headerOf, boxOf, countOf, pointOf}
 use Rattle.geometry.specs.Box as geometry
 use Rattle.tiles.specs.Accepted.{GoodTileBlock}
 use Rattle.tiles.specs.Tile.{siteOffset, siteIn, sitePoint, tilePadding}
@@ -45,52 +46,52 @@ module _ {s : List ℕ} {kind p : ℕ} where
 -- ---- a directory block
 -- its entries are those of its tiles
 abbrev pub Entries : List ℤ → List ℕ → List ℕ → ℕ → Type 0
-Entries boxes counts s p = (i : ℕ) → i < entriesDue (length counts) p →
+Entries boxes counts s p = (i : ℕ) → i < entriesDue (headerOf counts) p →
     (entryBox s i ≡ boxOf boxes (entriesPerBlock * p + i))
     × (entryCount s i ≡ countOf counts (entriesPerBlock * p + i))
 
 module _ (boxes : List ℤ) (counts : List ℕ) (s : List ℕ) (p : ℕ) (size : length s ≡ blockSize) where
   payload : List ℕ
-  payload = joined (entryBytes boxes counts) (entriesPerBlock * p) (entriesDue (length counts) p)
+  payload = joined (entryBytes boxes counts) (entriesPerBlock * p) (entriesDue (headerOf counts) p)
 
   entries-fit : payloadAt + length payload ≤ checkAt
   unfolding payload
   entries-fit =
-      omega (arith, length-entries boxes counts (entriesPerBlock * p) (entriesDue (length counts) p), due-few (length counts) p)
+      omega (arith, length-entries boxes counts (entriesPerBlock * p) (entriesDue (headerOf counts) p), due-few (headerOf counts) p)
 
-  payload-end : payloadAt + length payload ≡ entryOffset (entriesDue (length counts) p)
+  payload-end : payloadAt + length payload ≡ entryOffset (entriesDue (headerOf counts) p)
   unfolding payload entryOffset
-  payload-end = omega (arith, length-entries boxes counts (entriesPerBlock * p) (entriesDue (length counts) p))
+  payload-end = omega (arith, length-entries boxes counts (entriesPerBlock * p) (entriesDue (headerOf counts) p))
 
-  module _ (signed : Signed boxes) (few : length counts ≤ maxTiles) (here : p < directoryBlocks (length counts))
+  module _ (signed : Signed boxes) (few : length counts ≤ maxTiles) (here : p < directoryBlocks (headerOf counts))
       (small : (t : ℕ) → t < length counts → countOf counts t ≤ maxSites)
       (valid : (t : ℕ) → t < length counts → geometry.validBox (boxOf boxes t) ≡ true) where
-    entries-read : Holds s payloadAt payload → (i : ℕ) → i < entriesDue (length counts) p →
+    entries-read : Holds s payloadAt payload → (i : ℕ) → i < entriesDue (headerOf counts) p →
         (entryBox s i ≡ boxOf boxes (entriesPerBlock * p + i))
         × (entryCount s i ≡ countOf counts (entriesPerBlock * p + i))
         × (entryZero s i ≡ true)
     unfolding payload entryOffset
     entries-read h i l =
         let t = entriesPerBlock * p + i in
-        let k : t < length counts = omega (arith, due-within (length counts) p here) in
+        let k : t < length counts = omega (arith, due-within (headerOf counts) p here) in
         entry-read s i boxes counts t signed (omega (arith, small t k))
-        (holds-each s (entryBytes boxes counts) entrySize payloadAt (entriesPerBlock * p) (entriesDue (length counts) p)
+        (holds-each s (entryBytes boxes counts) entrySize payloadAt (entriesPerBlock * p) (entriesDue (headerOf counts) p)
         (λ j m. length-entry boxes counts (entriesPerBlock * p + j)) h i l)
 
     pub directory-read : Holds s 0 (directoryBytes boxes counts p) →
-        GoodDirectoryBlock s p (length counts) × Entries boxes counts s p
+        GoodDirectoryBlock s p (headerOf counts) × Entries boxes counts s p
     unfolding directoryBytes payload directoryPadding
     directory-read h =
-        let n = entriesDue (length counts) p in
+        let n = entriesDue (headerOf counts) p in
         let g = fields-read s size directoryKind p n (length counts) payload entries-fit
-        (omega (arith, blocks-few (length counts)))
-        (omega (arith, due-few (length counts) p)) (omega arith) h in
+        (omega (arith, blocks-few (headerOf counts)))
+        (omega (arith, due-few (headerOf counts) p)) (omega arith) h in
         let e = entries-read (g .held) in
         let tile : (i : ℕ) → i < n → entriesPerBlock * p + i < length counts = λ i l. omega
-        (arith, due-within (length counts) p here) in (
+        (arith, due-within (headerOf counts) p here) in (
           record {
             head = head-of g;
-            tiles = g .tiles;
+            header = ap (λ t. record { tiles = t }) (g .tiles);
             entries = g .entries;
             padding = both-and (both-and (g .reserved) (every-holds (entryZero s) n (λ i l. e i l .2)))
                 (ap (λ k. zeros s k checkAt) (sym payload-end) ∙ g .unused);
@@ -100,11 +101,11 @@ module _ (boxes : List ℤ) (counts : List ℕ) (s : List ℕ) (p : ℕ) (size :
           λ i l. (e i l .0, e i l .1),
         )
 
-  pub directory-held : Bytes s → GoodDirectoryBlock s p (length counts) → Entries boxes counts s p →
+  pub directory-held : Bytes s → GoodDirectoryBlock s p (headerOf counts) → Entries boxes counts s p →
       Holds s 0 (directoryBytes boxes counts p)
   unfolding directoryBytes payload directoryPadding entryOffset
   directory-held byte g e =
-      let n = entriesDue (length counts) p in
+      let n = entriesDue (headerOf counts) p in
       let z = and-both _ _ (g .padding) in
       let y = and-both _ _ (z .0) in
       fields-held s size directoryKind p n (length counts) payload entries-fit byte (record {
@@ -112,7 +113,7 @@ module _ (boxes : List ℤ) (counts : List ℕ) (s : List ℕ) (p : ℕ) (size :
         kinds = kind-of (g .head);
         position = g .head .position;
         entries = g .entries;
-        tiles = g .tiles;
+        tiles = ap (λ (h : Header). h .tiles) (g .header);
         reserved = y .0;
         held = holds-joined s (entryBytes boxes counts) entrySize payloadAt (entriesPerBlock * p) n
             (λ j m. length-entry boxes counts (entriesPerBlock * p + j))
@@ -124,7 +125,7 @@ module _ (boxes : List ℤ) (counts : List ℕ) (s : List ℕ) (p : ℕ) (size :
 
 -- ---- T is zero in a tile: its two bytes and the eight after them
 module _ (s : List ℕ) where
-  tile-zeros : tilesIn s ≡ 0 → zeros s reservedAt payloadAt ≡ true → zeros s tilesAt payloadAt ≡ true
+  tile-zeros : headerIn s .tiles ≡ 0 → zeros s reservedAt payloadAt ≡ true → zeros s tilesAt payloadAt ≡ true
   unfolding u16At
   tile-zeros e z = zeros-hold s tilesAt payloadAt (λ i l k. by-test (ltb i reservedAt) (λ t. first i k (ltb-true i reservedAt t))
       (λ t. zeros-at s reservedAt payloadAt z i (ltb-false i reservedAt t) l))
@@ -133,7 +134,7 @@ module _ (s : List ℕ) where
       first i k l = by-test (eqb i tilesAt) (λ t. rw (eqb-true i tilesAt t) (omega (arith, e)))
           (λ t. let q : i ≡ tilesAt + 1 = omega (arith, eqb-false i tilesAt t) in rw q (omega (arith, e)))
 
-  tiles-zero : zeros s tilesAt payloadAt ≡ true → (tilesIn s ≡ 0) × (zeros s reservedAt payloadAt ≡ true)
+  tiles-zero : zeros s tilesAt payloadAt ≡ true → (headerIn s .tiles ≡ 0) × (zeros s reservedAt payloadAt ≡ true)
   unfolding u16At
   tiles-zero z =
       let a = zeros-at s tilesAt payloadAt z tilesAt (omega arith) (omega arith) in
@@ -162,7 +163,7 @@ module _ (xs ys : List ℤ) (cues : List ℕ) (s : List ℕ) (p first n : ℕ) (
   unfolding sites siteOffset
   sites-end = omega (arith, length-sites xs ys cues first n)
 
-  pub tile-read : Signed xs → Signed ys → Unsigned cues → p < 65536 → (bounds : List (List ℤ)) →
+  pub tile-read : Signed xs → Signed ys → Unsigned cues → p < limit16 → (bounds : List (List ℤ)) →
       ((slot : ℕ) → slot < n → geometry.inside bounds (pointOf xs ys (first + slot)) ≡ true) →
       Holds s 0 (tileBytes xs ys cues p first n) → GoodTileBlock s p bounds n × Sites xs ys cues s first n
   unfolding tileBytes sites tilePadding siteOffset

@@ -16,7 +16,7 @@ use Rattle.blocks.specs.Layout.{blockSize, entriesPerBlock, maxSites}
 use Rattle.codec.specs.Number.{Bytes}
 use Rattle.codec.specs.Tabulate.{joined}
 use Rattle.encode.specs.Encode.{directoryBytes, tileBytesOf, fileBytes, fileLength}
-use Rattle.encode.specs.Supply.{Supply, tilesOf, boxOf, countOf, offset, siteOf}
+use Rattle.encode.specs.Supply.{Supply, headerOf, tilesOf, boxOf, countOf, offset, siteOf}
 use Rattle.tiles.specs.Accepted.{GoodTileBlock, GoodFile}
 use Rattle.tiles.specs.Tile.{siteIn, tilePosition, siteAt}
 use Rattle.base.proofs.Tests.{by-test}
@@ -34,7 +34,7 @@ use Rattle.writer.proofs.BlockRound.{Entries, directory-read, directory
 pub record Reads (f : List ℕ) (s : Supply) : Type 0 where
   pub box : (t : ℕ) → t < tilesOf s → boxAt f t ≡ boxOf (s .boxes) t
   pub count : (t : ℕ) → t < tilesOf s → countAt f t ≡ countOf (s .counts) t
-  pub site : (t slot : ℕ) → t < tilesOf s → slot < countOf (s .counts) t → siteAt f (tilesOf s) t slot ≡ siteOf s t slot
+  pub site : (t slot : ℕ) → t < tilesOf s → slot < countOf (s .counts) t → siteAt f (headerOf (s .counts)) t slot ≡ siteOf s t slot
 
 -- a block of a file of bytes is one of bytes
 pub block-bytes : (f : List ℕ) (p : ℕ) → Bytes f → Bytes (blockAt f p)
@@ -61,56 +61,56 @@ module _ (s : Supply) where
   abbrev tile : ℕ → List ℕ
   tile = tileBytesOf (s .counts) (s .xs) (s .ys) (s .cues)
 
-  length-all : length (joined directory 0 (directoryBlocks (tilesOf s))) ≡ blockSize * directoryBlocks (tilesOf s)
-  length-all = length-joined directory blockSize 0 (directoryBlocks (tilesOf s))
+  length-all : length (joined directory 0 (directoryBlocks (headerOf (s .counts)))) ≡ blockSize * directoryBlocks (headerOf (s .counts))
+  length-all = length-joined directory blockSize 0 (directoryBlocks (headerOf (s .counts)))
       (λ i l. length-directory-block (s .boxes) (s .counts) (0 + i))
 
   module _ (few : (t : ℕ) → t < tilesOf s → countOf (s .counts) t ≤ maxSites) where
     length-tile : (t : ℕ) → t < tilesOf s → length (tile t) ≡ blockSize
     unfolding tileBytesOf
     length-tile t l =
-        length-tile-block (s .xs) (s .ys) (s .cues) (tilePosition (tilesOf s) t) (offset (s .counts) t) (countOf (s .counts) t)
+        length-tile-block (s .xs) (s .ys) (s .cues) (tilePosition (headerOf (s .counts)) t) (offset (s .counts) t) (countOf (s .counts) t)
         (few t l)
 
     tile-width : (k : ℕ) → k < tilesOf s → length (tile (0 + k)) ≡ blockSize
     tile-width k l = ap (λ t. length (tile t)) (zero-add k) ∙ length-tile k l
 
-    pub length-file : length (fileBytes s) ≡ fileLength (tilesOf s)
+    pub length-file : length (fileBytes s) ≡ fileLength (headerOf (s .counts))
     unfolding fileBytes fileLength
     length-file =
         omega (
           arith,
-          length-append (joined directory 0 (directoryBlocks (tilesOf s))) (joined tile 0 (tilesOf s)),
+          length-append (joined directory 0 (directoryBlocks (headerOf (s .counts)))) (joined tile 0 (tilesOf s)),
           length-all,
           length-joined tile blockSize 0 (tilesOf s) tile-width,
         )
 
     -- ---- block by block
     module _ (f : List ℕ) where
-      file-directory : Holds f 0 (fileBytes s) → (p : ℕ) → p < directoryBlocks (tilesOf s) → Holds (blockAt f p) 0 (directory p)
+      file-directory : Holds f 0 (fileBytes s) → (p : ℕ) → p < directoryBlocks (headerOf (s .counts)) → Holds (blockAt f p) 0 (directory p)
       unfolding fileBytes blockAt
       file-directory h p l =
-          let g = holds-left f 0 (joined directory 0 (directoryBlocks (tilesOf s))) (joined tile 0 (tilesOf s)) h in
-          let e = holds-each f directory blockSize 0 0 (directoryBlocks (tilesOf s))
+          let g = holds-left f 0 (joined directory 0 (directoryBlocks (headerOf (s .counts)))) (joined tile 0 (tilesOf s)) h in
+          let e = holds-each f directory blockSize 0 0 (directoryBlocks (headerOf (s .counts)))
           (λ i m. length-directory-block (s .boxes) (s .counts) (0 + i)) g p l in
           let m = length-directory-block (s .boxes) (s .counts) p in
           holds-part (holds-run e (ap directory (zero-add p))) blockSize (blockSize * p) 0 (omega arith) (omega arith)
 
-      file-tile : Holds f 0 (fileBytes s) → (t : ℕ) → t < tilesOf s → Holds (blockAt f (tilePosition (tilesOf s) t)) 0 (tile t)
+      file-tile : Holds f 0 (fileBytes s) → (t : ℕ) → t < tilesOf s → Holds (blockAt f (tilePosition (headerOf (s .counts)) t)) 0 (tile t)
       unfolding fileBytes blockAt tilePosition
       file-tile h t l =
-          let d = directoryBlocks (tilesOf s) in
+          let d = directoryBlocks (headerOf (s .counts)) in
           let u : blockSize * d ≡ 0 + length (joined directory 0 d) = omega (arith, length-all) in
           let g = holds-right f 0 (joined directory 0 d) (joined tile 0 (tilesOf s)) u h in
           let e = holds-each f tile blockSize (blockSize * d) 0 (tilesOf s) tile-width g t l in
           let m = length-tile t l in
           holds-part (holds-run e (ap tile (zero-add t))) blockSize (blockSize * (d + t)) 0 (omega arith) (omega arith)
 
-      blocks-file : ((p : ℕ) → p < directoryBlocks (tilesOf s) → Holds (blockAt f p) 0 (directory p)) →
-          ((t : ℕ) → t < tilesOf s → Holds (blockAt f (tilePosition (tilesOf s) t)) 0 (tile t)) → Holds f 0 (fileBytes s)
+      blocks-file : ((p : ℕ) → p < directoryBlocks (headerOf (s .counts)) → Holds (blockAt f p) 0 (directory p)) →
+          ((t : ℕ) → t < tilesOf s → Holds (blockAt f (tilePosition (headerOf (s .counts)) t)) 0 (tile t)) → Holds f 0 (fileBytes s)
       unfolding fileBytes blockAt tilePosition
       blocks-file h g =
-          let d = directoryBlocks (tilesOf s) in
+          let d = directoryBlocks (headerOf (s .counts)) in
           let u : blockSize * d ≡ 0 + length (joined directory 0 d) = omega (arith, length-all) in
           holds-append f 0 (joined directory 0 d) (joined tile 0 (tilesOf s)) u
           (holds-joined f directory blockSize 0 0 d (λ i m. length-directory-block (s .boxes) (s .counts) (0 + i))
@@ -122,14 +122,14 @@ module _ (s : Supply) where
           (ap tile (sym (zero-add t)))))
 
 -- ---- what is written, read
-module _ (s : Supply) (g : GoodSupply s) (typed : Typed s) (f : List ℕ) (size : length f ≡ fileLength (tilesOf s))
+module _ (s : Supply) (g : GoodSupply s) (typed : Typed s) (f : List ℕ) (size : length f ≡ fileLength (headerOf (s .counts)))
     (h : Holds f 0 (fileBytes s)) where
-  fits : (p : ℕ) → p < directoryBlocks (tilesOf s) + tilesOf s → length (blockAt f p) ≡ blockSize
+  fits : (p : ℕ) → p < directoryBlocks (headerOf (s .counts)) + tilesOf s → length (blockAt f p) ≡ blockSize
   unfolding fileLength
   fits p l = blocks.length-block f p (omega (arith, size))
 
-  directory-at : (p : ℕ) → p < directoryBlocks (tilesOf s) →
-      GoodDirectoryBlock (blockAt f p) p (tilesOf s)
+  directory-at : (p : ℕ) → p < directoryBlocks (headerOf (s .counts)) →
+      GoodDirectoryBlock (blockAt f p) p (headerOf (s .counts))
       × Entries (s .boxes) (s .counts) (blockAt f p) p
   directory-at p l =
       directory-read (s .boxes) (s .counts) (blockAt f p) p (fits p (omega arith)) (typed .boxes) (g .most) l (g .counts)
@@ -139,20 +139,20 @@ module _ (s : Supply) (g : GoodSupply s) (typed : Typed s) (f : List ℕ) (size 
   entry-at : (t : ℕ) → t < tilesOf s → (boxAt f t ≡ boxOf (s .boxes) t) × (countAt f t ≡ countOf (s .counts) t)
   unfolding boxAt countAt
   entry-at t l =
-      let e = directory-at (t / entriesPerBlock) (entry-block (tilesOf s) t l) .1 (t % entriesPerBlock)
-      (entry-due (tilesOf s) t l) in
+      let e = directory-at (t / entriesPerBlock) (entry-block (headerOf (s .counts)) t l) .1 (t % entriesPerBlock)
+      (entry-due (headerOf (s .counts)) t l) in
       let q = tile-entry t in
       (e .0 ∙ ap (boxOf (s .boxes)) q, e .1 ∙ ap (countOf (s .counts)) q)
 
-  tile-at : (t : ℕ) (l : t < tilesOf s) → let p = tilePosition (tilesOf s) t in
+  tile-at : (t : ℕ) (l : t < tilesOf s) → let p = tilePosition (headerOf (s .counts)) t in
       GoodTileBlock (blockAt f p) p (boxOf (s .boxes) t) (countOf (s .counts) t)
       × ((slot : ℕ) → slot < countOf (s .counts) t → siteIn (blockAt f p) slot ≡ siteOf s t slot)
   unfolding tileBytesOf tilePosition
   tile-at t l =
-      let p = directoryBlocks (tilesOf s) + t in
+      let p = directoryBlocks (headerOf (s .counts)) + t in
       tile-read (s .xs) (s .ys) (s .cues) (blockAt f p) p (offset (s .counts) t) (countOf (s .counts) t) (fits p (omega arith))
       (g .counts t l)
-      (typed .xs) (typed .ys) (typed .cues) (omega (arith, blocks-few (tilesOf s), g .most)) (boxOf (s .boxes) t)
+      (typed .xs) (typed .ys) (typed .cues) (omega (arith, blocks-few (headerOf (s .counts)), g .most)) (boxOf (s .boxes) t)
       (λ slot k. g .inside t slot l k)
       (file-tile s (g .counts) f h t l)
 
@@ -164,7 +164,7 @@ module _ (s : Supply) (g : GoodSupply s) (typed : Typed s) (f : List ℕ) (size 
     site = λ t slot l k. tile-at t l .1 slot k;
   }
 
-  pub written-good : GoodFile f (tilesOf s)
+  pub written-good : GoodFile f (headerOf (s .counts))
   unfolding fileLength directoryBlocks
   written-good = record {
     directory = record {
@@ -180,17 +180,17 @@ module _ (s : Supply) (g : GoodSupply s) (typed : Typed s) (f : List ℕ) (size 
   }
 
 -- ---- what is read, written
-pub good-holds : (f : List ℕ) (s : Supply) → Bytes f → GoodFile f (tilesOf s) → Reads f s → Holds f 0 (fileBytes s)
+pub good-holds : (f : List ℕ) (s : Supply) → Bytes f → GoodFile f (headerOf (s .counts)) → Reads f s → Holds f 0 (fileBytes s)
 unfolding boxAt countAt siteAt tileBytesOf tilePosition
 good-holds f s byte g r =
     blocks-file s few f
     (λ p l. directory-held (s .boxes) (s .counts) (blockAt f p) p (size p (omega arith)) (block-bytes f p byte)
     (g .directory .blocks p l)
-    (λ i k. let a = entry-of p i (omega (arith, due-few (tilesOf s) p)) in
+    (λ i k. let a = entry-of p i (omega (arith, due-few (headerOf (s .counts)) p)) in
     let t = entriesPerBlock * p + i in
-    let m : t < tilesOf s = omega (arith, due-within (tilesOf s) p l) in
+    let m : t < tilesOf s = omega (arith, due-within (headerOf (s .counts)) p l) in
     (rw (a .0, a .1) at (r .box t m), rw (a .0, a .1) at (r .count t m))))
-    (λ t l. let p = tilePosition (tilesOf s) t in
+    (λ t l. let p = tilePosition (headerOf (s .counts)) t in
     tile-held (s .xs) (s .ys) (s .cues) (blockAt f p) p (offset (s .counts) t) (countOf (s .counts) t) (size p (position t l))
     (few t l)
     (block-bytes f p byte) (rw (r .count t l) at (g .opened t l)) (λ slot k. r .site t slot l k))
@@ -198,8 +198,8 @@ good-holds f s byte g r =
     few : (t : ℕ) → t < tilesOf s → countOf (s .counts) t ≤ maxSites
     few t l = rw (r .count t l) at (count-small (g .directory) t l)
 
-    size : (p : ℕ) → p < directoryBlocks (tilesOf s) + tilesOf s → length (blockAt f p) ≡ blockSize
+    size : (p : ℕ) → p < directoryBlocks (headerOf (s .counts)) + tilesOf s → length (blockAt f p) ≡ blockSize
     size p l = blocks.length-block f p (block-fits (g .directory) p l)
 
-    position : (t : ℕ) → t < tilesOf s → tilePosition (tilesOf s) t < directoryBlocks (tilesOf s) + tilesOf s
+    position : (t : ℕ) → t < tilesOf s → tilePosition (headerOf (s .counts)) t < directoryBlocks (headerOf (s .counts)) + tilesOf s
     position t l = omega arith

@@ -13,9 +13,10 @@ use lib.Signed.{mag}
 use Rattle.blocks.specs.Block.{blockAt}
 use Rattle.blocks.specs.Directory.{entryOffset, entryBox, entryCount, boxAt, countAt}
 use Rattle.blocks.specs.Layout.{countOffset, entriesPerBlock}
-use Rattle.codec.specs.Number.{Bytes, u32At, i32At}
+use Rattle.blocks.specs.declared.header.Header.{Header}
+use Rattle.codec.specs.Number.{limit32, limitSigned, Bytes, u32At, i32At}
 use Rattle.codec.specs.Tabulate.{tabulate, joined}
-use Rattle.encode.specs.Supply.{Supply, tilesOf, numbersPerBox, boxOf, countOf, offset, total}
+use Rattle.encode.specs.Supply.{Supply, headerOf, tilesOf, numbersPerBox, boxOf, countOf, offset, total}
 use Rattle.tiles.specs.Accepted.{GoodFile}
 use Rattle.tiles.specs.Tile.{siteIn, siteAt}
 use Rattle.tiles.specs.declared.tile.Site.{Site}
@@ -29,35 +30,35 @@ use Rattle.writer.specs.Accepted.{GoodSupply}
 use Rattle.writer.specs.Made.{Signed, Typed, boxNumbers, column, supplyOf}
 use Rattle.writer.proofs.FileLaws.{Reads, block-bytes}
 
-module _ (f : List ℕ) (tiles : ℕ) where
+module _ (f : List ℕ) (h : Header) where
   counts : List ℕ
-  counts = tabulate (countAt f) 0 tiles
+  counts = tabulate (countAt f) 0 (h .tiles)
 
   boxes : List ℤ
-  boxes = joined (λ t. boxNumbers (boxAt f t)) 0 tiles
+  boxes = joined (λ t. boxNumbers (boxAt f t)) 0 (h .tiles)
 
-  tiles-own : length counts ≡ tiles
+  tiles-own : length counts ≡ h .tiles
   unfolding counts
-  tiles-own = length-tabulate (countAt f) 0 tiles
+  tiles-own = length-tabulate (countAt f) 0 (h .tiles)
 
-  count-own : (t : ℕ) → t < tiles → countOf counts t ≡ countAt f t
+  count-own : (t : ℕ) → t < h .tiles → countOf counts t ≡ countAt f t
   unfolding counts
-  count-own t l = getD-tabulate (countAt f) 0 0 tiles t l ∙ ap (countAt f) (zero-add t)
+  count-own t l = getD-tabulate (countAt f) 0 0 (h .tiles) t l ∙ ap (countAt f) (zero-add t)
 
   -- ---- boxes
   numbers-own : (n : ℕ) → length (joined (λ t. boxNumbers (boxAt f t)) 0 n) ≡ numbersPerBox * n
   unfolding boxNumbers
   numbers-own n = length-joined (λ t. boxNumbers (boxAt f t)) numbersPerBox 0 n (λ i l. refl)
 
-  number-own : (t j : ℕ) → t < tiles → j < numbersPerBox →
+  number-own : (t j : ℕ) → t < h .tiles → j < numbersPerBox →
       getD boxes (numbersPerBox * t + j) (pos 0) ≡ getD (boxNumbers (boxAt f t)) j (pos 0)
   unfolding boxes boxNumbers
   number-own t j l k =
       ap (λ i. getD boxes (i + j) (pos 0)) (sym (numbers-own t))
-      ∙ getD-joined (λ t. boxNumbers (boxAt f t)) (pos 0) 0 tiles t j l k
+      ∙ getD-joined (λ t. boxNumbers (boxAt f t)) (pos 0) 0 (h .tiles) t j l k
       ∙ ap (λ i. getD (boxNumbers (boxAt f i)) j (pos 0)) (zero-add t)
 
-  box-own : (t : ℕ) → t < tiles → boxOf boxes t ≡ boxAt f t
+  box-own : (t : ℕ) → t < h .tiles → boxOf boxes t ≡ boxAt f t
   unfolding boxOf boxNumbers boxAt entryBox
   box-own t l =
       let e₀ : getD boxes (numbersPerBox * t) (pos 0) ≡ getD (boxNumbers (boxAt f t)) 0 (pos 0) =
@@ -67,38 +68,38 @@ module _ (f : List ℕ) (tiles : ℕ) where
   -- ---- a field of all sites
   module _ {A : Type 0} (field : Site → A) where
     part : ℕ → List A
-    part t = tabulate (λ slot. field (siteAt f tiles t slot)) 0 (countAt f t)
+    part t = tabulate (λ slot. field (siteAt f h t slot)) 0 (countAt f t)
 
-    column-starts : (t : ℕ) → t ≤ tiles → length (joined part 0 t) ≡ offset counts t
+    column-starts : (t : ℕ) → t ≤ h .tiles → length (joined part 0 t) ≡ offset counts t
     unfolding offset joined part
     column-starts zero l = refl
     column-starts (suc t) l =
         let e : length (part (0 + t)) ≡ countOf counts t =
-        ap (λ i. length (part i)) (zero-add t) ∙ length-tabulate (λ slot. field (siteAt f tiles t slot)) 0 (countAt f t)
+        ap (λ i. length (part i)) (zero-add t) ∙ length-tabulate (λ slot. field (siteAt f h t slot)) 0 (countAt f t)
         ∙ sym (count-own t l) in
         length-joined-next part 0 t ∙ omega (arith, e, column-starts t (omega arith))
 
-    column-length : length (column field f tiles) ≡ total counts
+    column-length : length (column field f h) ≡ total counts
     unfolding column part
-    column-length = column-starts tiles (omega arith) ∙ ap (offset counts) (sym tiles-own)
+    column-length = column-starts (h .tiles) (omega arith) ∙ ap (offset counts) (sym tiles-own)
 
-    column-at : (d : A) (t slot : ℕ) → t < tiles → slot < countAt f t →
-        getD (column field f tiles) (offset counts t + slot) d ≡ field (siteAt f tiles t slot)
+    column-at : (d : A) (t slot : ℕ) → t < h .tiles → slot < countAt f t →
+        getD (column field f h) (offset counts t + slot) d ≡ field (siteAt f h t slot)
     unfolding column part
     column-at d t slot l k =
-        let g : ℕ → A = λ slot. field (siteAt f tiles t slot) in
+        let g : ℕ → A = λ slot. field (siteAt f h t slot) in
         let e = zero-add t in
         let m : slot < length (part (0 + t)) = rw (e, length-tabulate g 0 (countAt f t)) k in
-        ap (λ i. getD (joined part 0 tiles) (i + slot) d) (sym (column-starts t (omega arith)))
-        ∙ getD-joined part d 0 tiles t slot l m ∙ ap (λ i. getD (part i) slot d) e
+        ap (λ i. getD (joined part 0 (h .tiles)) (i + slot) d) (sym (column-starts t (omega arith)))
+        ∙ getD-joined part d 0 (h .tiles) t slot l m ∙ ap (λ i. getD (part i) slot d) e
         ∙ getD-tabulate g d 0 (countAt f t) slot k ∙ ap g (zero-add slot)
 
-  pub reads-own : Reads f (supplyOf f tiles)
+  pub reads-own : Reads f (supplyOf f h)
   unfolding supplyOf counts boxes
   reads-own = record {
     box = λ t l. sym (box-own t (rw tiles-own at l));
     count = λ t l. sym (count-own t (rw tiles-own at l));
-    site = λ t slot l k. let m : t < tiles = rw tiles-own at l in
+    site = λ t slot l k. let m : t < h .tiles = rw tiles-own at l in
         let n : slot < countAt f t = rw (count-own t m) at k in
         rw (
           tiles-own,
@@ -108,23 +109,23 @@ module _ (f : List ℕ) (tiles : ℕ) where
         );
   }
 
-  pub size-own : tilesOf (supplyOf f tiles) ≡ tiles
+  pub header-own : headerOf (supplyOf f h .counts) ≡ h
   unfolding supplyOf counts
-  size-own = tiles-own
+  header-own = ap (λ t. record { tiles = t }) tiles-own
 
-  pub good-own : GoodFile f tiles → GoodSupply (supplyOf f tiles)
+  pub good-own : GoodFile f h → GoodSupply (supplyOf f h)
   unfolding supplyOf counts boxes siteAt
   good-own g =
       record {
         least = rw tiles-own (g .directory .tiles .least);
         most = rw tiles-own (g .directory .tiles .most);
-        numbers = numbers-own tiles ∙ ap (λ k. numbersPerBox * k) (sym tiles-own);
-        boxes = λ t l. let m : t < tiles = rw tiles-own at l in rw (box-own t m) (box-valid (g .directory) t m);
-        counts = λ t l. let m : t < tiles = rw tiles-own at l in rw (count-own t m) (count-small (g .directory) t m);
+        numbers = numbers-own (h .tiles) ∙ ap (λ k. numbersPerBox * k) (sym tiles-own);
+        boxes = λ t l. let m : t < h .tiles = rw tiles-own at l in rw (box-own t m) (box-valid (g .directory) t m);
+        counts = λ t l. let m : t < h .tiles = rw tiles-own at l in rw (count-own t m) (count-small (g .directory) t m);
         xs = column-length (λ (q : Site). q .x);
         ys = column-length (λ (q : Site). q .y);
         cues = column-length (λ (q : Site). q .cue);
-        inside = λ t slot l k. let m : t < tiles = rw tiles-own at l in
+        inside = λ t slot l k. let m : t < h .tiles = rw tiles-own at l in
             let n : slot < countAt f t = rw (count-own t m) at k in
             rw (
               box-own t m,
@@ -143,32 +144,32 @@ module _ (f : List ℕ) (tiles : ℕ) where
     four-all P p q r t z (suc (suc (suc zero))) = t
     four-all P p q r t z (suc (suc (suc (suc j)))) = z
 
-    signed-at : (p i : ℕ) → mag (i32At (blockAt f p) i) < 0x8000_0000
+    signed-at : (p i : ℕ) → mag (i32At (blockAt f p) i) < limitSigned
     unfolding i32At
     signed-at p i = signed-small (u32At (blockAt f p) i) (u32-small (blockAt f p) i (block-bytes f p byte))
 
-    column-signed : (field : Site → ℤ) → ((t slot : ℕ) → mag (field (siteAt f tiles t slot)) < 0x8000_0000) →
-        Signed (column field f tiles)
+    column-signed : (field : Site → ℤ) → ((t slot : ℕ) → mag (field (siteAt f h t slot)) < limitSigned) →
+        Signed (column field f h)
     unfolding column
-    column-signed field h =
-        joined-all (λ t. tabulate (λ slot. field (siteAt f tiles t slot)) 0 (countAt f t)) (λ z. mag z < 0x8000_0000)
-        (pos 0) 0 tiles (lit< tt)
-        (λ t. tabulate-all (λ slot. field (siteAt f tiles t slot)) (λ z. mag z < 0x8000_0000) (pos 0) 0 (countAt f t) (lit< tt)
-        (h t))
+    column-signed field small =
+        joined-all (λ t. tabulate (λ slot. field (siteAt f h t slot)) 0 (countAt f t)) (λ z. mag z < limitSigned)
+        (pos 0) 0 (h .tiles) (lit< tt)
+        (λ t. tabulate-all (λ slot. field (siteAt f h t slot)) (λ z. mag z < limitSigned) (pos 0) 0 (countAt f t) (lit< tt)
+        (small t))
 
-    pub typed-own : Typed (supplyOf f tiles)
+    pub typed-own : Typed (supplyOf f h)
     unfolding supplyOf boxNumbers boxAt entryBox countAt entryCount column siteAt siteIn
     typed-own = record {
-      boxes = joined-all (λ t. boxNumbers (boxAt f t)) (λ z. mag z < 0x8000_0000) (pos 0) 0 tiles (lit< tt)
-          (λ t. four-all (λ z. mag z < 0x8000_0000) (signed-at _ _) (signed-at _ _) (signed-at _ _) (signed-at _ _) (lit< tt));
-      counts = tabulate-all (countAt f) (λ n. n < 0x1_0000_0000) 0 0 tiles (lit< tt)
+      boxes = joined-all (λ t. boxNumbers (boxAt f t)) (λ z. mag z < limitSigned) (pos 0) 0 (h .tiles) (lit< tt)
+          (λ t. four-all (λ z. mag z < limitSigned) (signed-at _ _) (signed-at _ _) (signed-at _ _) (signed-at _ _) (lit< tt));
+      counts = tabulate-all (countAt f) (λ n. n < limit32) 0 0 (h .tiles) (lit< tt)
           (λ t. let p = t / entriesPerBlock in
           omega (arith, u16-small (blockAt f p) (entryOffset (t % entriesPerBlock) + countOffset) (block-bytes f p byte)));
       xs = column-signed (λ (q : Site). q .x) (λ t slot. signed-at _ _);
       ys = column-signed (λ (q : Site). q .y) (λ t slot. signed-at _ _);
-      cues = joined-all (λ t. tabulate (λ slot. siteAt f tiles t slot .cue) 0 (countAt f t)) (λ n. n < 0x1_0000_0000) 0 0 tiles
+      cues = joined-all (λ t. tabulate (λ slot. siteAt f h t slot .cue) 0 (countAt f t)) (λ n. n < limit32) 0 0 (h .tiles)
           (lit< tt)
-          (λ t. tabulate-all (λ slot. siteAt f tiles t slot .cue) (λ n. n < 0x1_0000_0000) 0 0 (countAt f t) (lit< tt)
+          (λ t. tabulate-all (λ slot. siteAt f h t slot .cue) (λ n. n < limit32) 0 0 (countAt f t) (lit< tt)
           (λ slot. u32-small (blockAt f _) _ (block-bytes f _ byte)));
     }
 
@@ -201,22 +202,22 @@ module _ (f : List ℕ) (s : Supply) (g : GoodSupply s) (r : Reads f s) where
       (λ t l. omega (arith, g .numbers))
 
   column-only : {A : Type 0} (field : Site → A) (l : List A) (d : A) → length l ≡ total (s .counts) →
-      ((t slot : ℕ) → t < tilesOf s → slot < countOf (s .counts) t → field (siteAt f (tilesOf s) t slot) ≡ getD l
+      ((t slot : ℕ) → t < tilesOf s → slot < countOf (s .counts) t → field (siteAt f (headerOf (s .counts)) t slot) ≡ getD l
       (offset (s .counts) t + slot) d) →
-      column field f (tilesOf s) ≡ l
+      column field f (headerOf (s .counts)) ≡ l
   unfolding column offset
   column-only field l d n h =
-      joined-same (λ t. tabulate (λ slot. field (siteAt f (tilesOf s) t slot)) 0 (countAt f t))
+      joined-same (λ t. tabulate (λ slot. field (siteAt f (headerOf (s .counts)) t slot)) 0 (countAt f t))
       (λ t. tabulate (λ i. getD l (offset (s .counts) t + i) d) 0 (countOf (s .counts) t)) 0 (tilesOf s)
       (λ t k. let q = zero-add t in
       rw (q, r .count t k)
-      (tabulate-same (λ slot. field (siteAt f (tilesOf s) t slot)) (λ i. getD l (offset (s .counts) t + i) d) 0
+      (tabulate-same (λ slot. field (siteAt f (headerOf (s .counts)) t slot)) (λ i. getD l (offset (s .counts) t + i) d) 0
       (countOf (s .counts) t)
       (λ slot m. let e = zero-add slot in rw e (h t slot k m))))
       ∙ parts l d (offset (s .counts)) (countOf (s .counts)) refl (offset-next (s .counts)) n
       (λ t k. rw n (offset-within (s .counts) t (tilesOf s) k))
 
-  pub only-own : s ≡ supplyOf f (tilesOf s)
+  pub only-own : s ≡ supplyOf f (headerOf (s .counts))
   unfolding supplyOf
   only-own = rw (
     boxes-only,

@@ -8,10 +8,11 @@ use lib.ListN.{length, take, drop}
 use lib.Seq.{take-at, drop-at}
 use Rattle.base.specs.Refusal.{accepted}
 use Rattle.blocks.specs.Directory.{boxAt, countAt}
+use Rattle.blocks.specs.declared.header.Header.{Header}
 use Rattle.codec.specs.Number.{Bytes}
 use Rattle.codec.specs.Tabulate.{tabulate}
 use Rattle.encode.specs.Encode.{fileBytes, fileLength}
-use Rattle.encode.specs.Supply.{Supply, tilesOf, boxOf, countOf, siteOf}
+use Rattle.encode.specs.Supply.{Supply, headerOf, tilesOf, boxOf, countOf, siteOf}
 use Rattle.tiles.specs.Accepted.{GoodFile}
 use Rattle.tiles.specs.Tile.{siteAt, sitesAt}
 use Rattle.tiles.specs.Validate.{validate}
@@ -24,17 +25,17 @@ use Rattle.writer.specs.Accepted.{GoodSupply}
 use Rattle.writer.specs.Made.{Typed, Made, supplyOf}
 use Rattle.writer.specs.Write.{writeTests, writeCall, writeExit}
 use Rattle.writer.proofs.FileLaws.{Reads, length-file, written-reads, written-good, good-holds}
-use Rattle.writer.proofs.SupplyOf.{reads-own, size-own, good-own, typed-own, only-own}
+use Rattle.writer.proofs.SupplyOf.{reads-own, header-own, good-own, typed-own, only-own}
 use Rattle.writer.proofs.WriteLaws.{tests-good, tests-enough, call-accepted, exit-accepted}
 
 -- ---- the call
 -- the writer accepts exactly good lists, where the file fits the output slice, and gives the file's length
 pub write-exactly : (s : Supply) (room n : ℕ) →
-    (writeCall s room ≡ accepted n → GoodSupply s × (fileLength (tilesOf s) ≤ room) × (n ≡ fileLength (tilesOf s)))
-    × (GoodSupply s × (fileLength (tilesOf s) ≤ room) × (n ≡ fileLength (tilesOf s)) → writeCall s room ≡ accepted n)
+    (writeCall s room ≡ accepted n → GoodSupply s × (fileLength (headerOf (s .counts)) ≤ room) × (n ≡ fileLength (headerOf (s .counts))))
+    × (GoodSupply s × (fileLength (headerOf (s .counts)) ≤ room) × (n ≡ fileLength (headerOf (s .counts))) → writeCall s room ≡ accepted n)
 unfolding writeCall
 write-exactly s room n = (
-  λ e. let h = andThen-accepted (writeTests s room) (λ _. accepted (fileLength (tilesOf s))) e in
+  λ e. let h = andThen-accepted (writeTests s room) (λ _. accepted (fileLength (headerOf (s .counts)))) e in
       let g = tests-good s room (h .1) in
       (g .0, g .1, sym (accepted-injective (h .2))),
   λ h. call-accepted s room (tests-enough s room (h .0) (h .1)) ∙ ap accepted (sym (h .2)),
@@ -42,7 +43,7 @@ write-exactly s room n = (
 
 -- accepted, the output slice starts with the file, and "later bytes stay"
 module _ (s : Supply) (out : List ℕ) (n : ℕ) (e : writeCall s (length out) ≡ accepted n) where
-  good : GoodSupply s × (fileLength (tilesOf s) ≤ length out) × (n ≡ fileLength (tilesOf s))
+  good : GoodSupply s × (fileLength (headerOf (s .counts)) ≤ length out) × (n ≡ fileLength (headerOf (s .counts)))
   good = write-exactly s (length out) n .0 e
 
   size : length (fileBytes s) ≡ n
@@ -59,11 +60,11 @@ module _ (s : Supply) (out : List ℕ) (n : ℕ) (e : writeCall s (length out) �
     ap (drop n) laid ∙ drop-at (fileBytes s) (drop n out) n size,
   )
 
--- ---- "A file passes the full check exactly when our writer makes it from some town" (demand 2): with T = tiles, and into an
--- output slice of the file's length
-module _ (f : List ℕ) (tiles : ℕ) where
+-- ---- "A file passes the full check exactly when our writer makes it from some town" (demand 2): with the header h, and into
+-- an output slice of the file's length
+module _ (f : List ℕ) (h : Header) where
   -- what was made: lists that pass the writer's tests, whose bytes are the file
-  module _ (s : Supply) (m : Made f tiles s) where
+  module _ (s : Supply) (m : Made f h s) where
     made-good : GoodSupply s
     made-good = write-exactly s (length f) (length f) .0 (m .answer) .0
 
@@ -73,72 +74,72 @@ module _ (f : List ℕ) (tiles : ℕ) where
         let k = write-exactly s (length f) (length f) .0 (m .answer) .2 in
         sym (m .bytes f refl) ∙ exit-accepted s f (m .answer) ∙ over-all f (fileBytes s) (k ∙ sym n)
 
-    made-length : length f ≡ fileLength (tilesOf s)
+    made-length : length f ≡ fileLength (headerOf (s .counts))
     made-length = write-exactly s (length f) (length f) .0 (m .answer) .2
 
     made-holds : Holds f 0 (fileBytes s)
     made-holds = rw made-bytes (holds-self (fileBytes s))
 
-  good-length : GoodFile f tiles → length f ≡ fileLength tiles
+  good-length : GoodFile f h → length f ≡ fileLength h
   unfolding fileLength
   good-length g = omega (arith, g .directory .size .whole, g .directory .tiles .sum)
 
   -- the lists that are read from a file of bytes that passes
-  makes : Bytes f → GoodFile f tiles → Made f tiles (supplyOf f tiles)
+  makes : Bytes f → GoodFile f h → Made f h (supplyOf f h)
   makes byte g =
-      let s = supplyOf f tiles in
-      let k : tilesOf s ≡ tiles = size-own f tiles in
-      let good = good-own f tiles g in
-      let n : length f ≡ fileLength (tilesOf s) = good-length g ∙ ap fileLength (sym k) in
-      let h = good-holds f s byte (rw k g) (reads-own f tiles) in
+      let s = supplyOf f h in
+      let k : headerOf (s .counts) ≡ h = header-own f h in
+      let good = good-own f h g in
+      let n : length f ≡ fileLength (headerOf (s .counts)) = good-length g ∙ ap fileLength (sym k) in
+      let held = good-holds f s byte (rw k g) (reads-own f h) in
       let l : length (fileBytes s) ≡ length f = length-file s (good .counts) ∙ sym n in
       let e : writeCall s (length f) ≡ accepted (length f) = write-exactly s (length f) (length f) .1
       (good, omega (arith, n), n) in
       record {
-        typed = typed-own f tiles byte;
-        size = k;
+        typed = typed-own f h byte;
+        header = k;
         answer = e;
         bytes = λ out q. exit-accepted s out (ap (writeCall s) q ∙ e) ∙ over-all out (fileBytes s) (q ∙ sym l)
-            ∙ sym (holds-all h (sym l));
+            ∙ sym (holds-all held (sym l));
       }
 
-  passes : (s : Supply) → Made f tiles s → validate f ≡ accepted tiles
+  passes : (s : Supply) → Made f h s → validate f ≡ accepted h
   passes s m =
       let g = written-good s (made-good s m) (m .typed) f (made-length s m) (made-holds s m) in
-      validate-exactly f tiles .1 (rw (m .size) at g)
+      validate-exactly f h .1 (rw (m .header) at g)
 
   pub passes-exactly : Bytes f →
-      (validate f ≡ accepted tiles → (s : Supply) × Made f tiles s)
-      × ((s : Supply) × Made f tiles s → validate f ≡ accepted tiles)
-  passes-exactly byte = (λ e. (supplyOf f tiles, makes byte (validate-exactly f tiles .0 e)), λ h. passes (h .0) (h .1))
+      (validate f ≡ accepted h → (s : Supply) × Made f h s)
+      × ((s : Supply) × Made f h s → validate f ≡ accepted h)
+  passes-exactly byte = (λ e. (supplyOf f h, makes byte (validate-exactly f h .0 e)), λ m. passes (m .0) (m .1))
 
   -- reading back what was written gives the same boxes, counts and sites
-  module _ (s : Supply) (m : Made f tiles s) where
+  module _ (s : Supply) (m : Made f h s) where
     made-reads : Reads f s
     made-reads = written-reads s (made-good s m) (m .typed) f (made-length s m) (made-holds s m)
 
-    pub read-back : (t : ℕ) → t < tiles →
+    pub read-back : (t : ℕ) → t < h .tiles →
         (boxAt f t ≡ boxOf (s .boxes) t)
         × (countAt f t ≡ countOf (s .counts) t)
-        × (sitesAt f tiles t ≡ tabulate (siteOf s t) 0 (countOf (s .counts) t))
+        × (sitesAt f h t ≡ tabulate (siteOf s t) 0 (countOf (s .counts) t))
     unfolding sitesAt
     read-back t l =
         let r = made-reads in
-        let k = m .size in
-        let h : t < tilesOf s = rw k l in (
-          r .box t h,
-          r .count t h,
-          rw (r .count t h) (tabulate-same (siteAt f tiles t) (siteOf s t) 0 (countOf (s .counts) t)
-              (λ slot n. let z = zero-add slot in rw z (rw k at (r .site t slot h n)))),
+        let k = m .header in
+        let n : t < tilesOf s = rw (ap (λ (h : Header). h .tiles) k) l in (
+          r .box t n,
+          r .count t n,
+          rw (r .count t n) (tabulate-same (siteAt f h t) (siteOf s t) 0 (countOf (s .counts) t)
+              (λ slot o. let z = zero-add slot in rw z (rw k at (r .site t slot n o)))),
         )
 
     -- and no lists but these make the file
-    pub only-town : s ≡ supplyOf f tiles
-    only-town = only-own f s (made-good s m) made-reads ∙ ap (supplyOf f) (m .size)
+    pub only-town : s ≡ supplyOf f h
+    only-town = only-own f s (made-good s m) made-reads ∙ ap (supplyOf f) (m .header)
 
 -- ---- the same about what the call leaves in an output slice
 module _ (s : Supply) (typed : Typed s) (out : List ℕ) (n : ℕ) (e : writeCall s (length out) ≡ accepted n) where
-  made-from : Made (take n (writeExit s out)) (tilesOf s) s
+  made-from : Made (take n (writeExit s out)) (headerOf (s .counts)) s
   made-from =
       let f = take n (writeExit s out) in
       let q : f ≡ fileBytes s = written-file s out n e .0 in
@@ -148,14 +149,14 @@ module _ (s : Supply) (typed : Typed s) (out : List ℕ) (n : ℕ) (e : writeCal
       write-exactly s (length f) (length f) .1 (g .0, omega (arith, k, g .2), k ∙ g .2) in
       record {
         typed = typed;
-        size = refl;
+        header = refl;
         answer = answer;
         bytes = λ o l. exit-accepted s o (ap (writeCall s) l ∙ answer) ∙ over-all o (fileBytes s) (l ∙ ap length q) ∙ sym q;
       }
 
-  -- what the writer leaves passes the full check, with T
-  pub written-passes : validate (take n (writeExit s out)) ≡ accepted (tilesOf s)
-  written-passes = passes (take n (writeExit s out)) (tilesOf s) s made-from
+  -- what the writer leaves passes the full check
+  pub written-passes : validate (take n (writeExit s out)) ≡ accepted (headerOf (s .counts))
+  written-passes = passes (take n (writeExit s out)) (headerOf (s .counts)) s made-from
 
 -- two towns that differ give different files
 pub different-towns : (s r : Supply) → Typed s → Typed r → (out other : List ℕ) (n k : ℕ) →
@@ -163,7 +164,7 @@ pub different-towns : (s r : Supply) → Typed s → Typed r → (out other : Li
     writeCall r (length other) ≡ accepted k → take n (writeExit s out) ≡ take k (writeExit r other) → s ≡ r
 different-towns s r ts tr out other n k e h q =
     let f = take n (writeExit s out) in
-    let m : Made f (tilesOf s) s = made-from s ts out n e in
-    let w : Made f (tilesOf r) r = rw q (made-from r tr other k h) in
-    let t : tilesOf s ≡ tilesOf r = accepted-injective (sym (passes f (tilesOf s) s m) ∙ passes f (tilesOf r) r w) in
-    only-town f (tilesOf s) s m ∙ ap (supplyOf f) t ∙ sym (only-town f (tilesOf r) r w)
+    let m : Made f (headerOf (s .counts)) s = made-from s ts out n e in
+    let w : Made f (headerOf (r .counts)) r = rw q (made-from r tr other k h) in
+    let t : headerOf (s .counts) ≡ headerOf (r .counts) = accepted-injective (sym (passes f _ s m) ∙ passes f _ r w) in
+    only-town f _ s m ∙ ap (supplyOf f) t ∙ sym (only-town f _ r w)

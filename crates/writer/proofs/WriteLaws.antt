@@ -13,7 +13,7 @@ use Rattle.blocks.specs.Layout.{blockSize, maxSites, maxTiles}
 use Rattle.codec.specs.Over.{over}
 use Rattle.codec.specs.Tabulate.{joined}
 use Rattle.encode.specs.Encode.{directoryBytes, tileBytesOf, fileBytes, fileLength}
-use Rattle.encode.specs.Supply.{Supply, tilesOf, numbersPerBox, boxOf, countOf, offset, total, pointOf}
+use Rattle.encode.specs.Supply.{Supply, headerOf, tilesOf, numbersPerBox, boxOf, countOf, offset, total, pointOf}
 use Rattle.geometry.specs.Box.{validBox, inside}
 use Rattle.base.proofs.Outcomes.{require-accepted}
 use Rattle.base.proofs.Tests.{and-both, both-and}
@@ -57,7 +57,7 @@ tile-test boxes counts xs ys t e₁ e₂ e₃ = rw (e₁, e₂, e₃)
 
 -- ---- all tests
 module _ (s : Supply) (room : ℕ) where
-  pub tests-good : {u : Unit} → writeTests s room ≡ accepted u → GoodSupply s × (fileLength (tilesOf s) ≤ room)
+  pub tests-good : {u : Unit} → writeTests s room ≡ accepted u → GoodSupply s × (fileLength (headerOf (s .counts)) ≤ room)
   unfolding writeTests
   tests-good e =
       let a = require-accepted _ _ _ _ e in
@@ -82,10 +82,10 @@ module _ (s : Supply) (room : ℕ) where
           inside = λ t slot k m. tile-good (s .boxes) (s .counts) (s .xs) (s .ys) t
               (every-at (tileFits (s .boxes) (s .counts) (s .xs) (s .ys)) (tilesOf s) t (g .0) k) slot m;
         },
-        leb-true (fileLength (tilesOf s)) room (h .0),
+        leb-true (fileLength (headerOf (s .counts))) room (h .0),
       )
 
-  pub tests-enough : GoodSupply s → fileLength (tilesOf s) ≤ room → writeTests s room ≡ accepted tt
+  pub tests-enough : GoodSupply s → fileLength (headerOf (s .counts)) ≤ room → writeTests s room ≡ accepted tt
   unfolding writeTests tilesFit entryFits listsFit tileFits sitesFit
   tests-enough g h =
       let v = every-holds (entryFits (s .boxes) (s .counts)) (tilesOf s)
@@ -103,7 +103,7 @@ module _ (s : Supply) (room : ℕ) where
         eq-eqb (length (s .ys)) (total (s .counts)) (g .ys),
         eq-eqb (length (s .cues)) (total (s .counts)) (g .cues),
         w,
-        le-leb (fileLength (tilesOf s)) room h,
+        le-leb (fileLength (headerOf (s .counts))) room h,
       )
 
   -- ---- the call
@@ -111,7 +111,7 @@ module _ (s : Supply) (room : ℕ) where
   unfolding writeCall
   call-refused e = rw e
 
-  pub call-accepted : writeTests s room ≡ accepted tt → writeCall s room ≡ accepted (fileLength (tilesOf s))
+  pub call-accepted : writeTests s room ≡ accepted tt → writeCall s room ≡ accepted (fileLength (headerOf (s .counts)))
   unfolding writeCall
   call-accepted e = rw e
 
@@ -125,14 +125,14 @@ module _ (s : Supply) (out : List ℕ) where
   exit-accepted e = rw e
 
   pub file-row : {d₁ d₂ : List ℕ} →
-      d₁ ≡ over out 0 (joined (directoryBytes (s .boxes) (s .counts)) 0 (directoryBlocks (tilesOf s))) →
-      d₂ ≡ over d₁ (blockSize * directoryBlocks (tilesOf s))
+      d₁ ≡ over out 0 (joined (directoryBytes (s .boxes) (s .counts)) 0 (directoryBlocks (headerOf (s .counts)))) →
+      d₂ ≡ over d₁ (blockSize * directoryBlocks (headerOf (s .counts)))
       (joined (tileBytesOf (s .counts) (s .xs) (s .ys) (s .cues)) 0 (tilesOf s)) →
       d₂ ≡ over out 0 (fileBytes s)
   unfolding fileBytes
   file-row e₁ e₂ =
       let g = directoryBytes (s .boxes) (s .counts) in
-      let n = length-joined g blockSize 0 (directoryBlocks (tilesOf s))
+      let n = length-joined g blockSize 0 (directoryBlocks (headerOf (s .counts)))
       (λ i l. length-directory-block (s .boxes) (s .counts) (0 + i)) in
-      also out 0 (blockSize * directoryBlocks (tilesOf s)) (joined g 0 (directoryBlocks (tilesOf s)))
+      also out 0 (blockSize * directoryBlocks (headerOf (s .counts))) (joined g 0 (directoryBlocks (headerOf (s .counts))))
       (joined (tileBytesOf (s .counts) (s .xs) (s .ys) (s .cues)) 0 (tilesOf s)) e₁ e₂ (omega (arith, n))

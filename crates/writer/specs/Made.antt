@@ -8,8 +8,10 @@ use lib.ListN.{getD, length}
 use lib.Signed.{mag}
 use Rattle.base.specs.Refusal.{accepted}
 use Rattle.blocks.specs.Directory.{boxAt, countAt}
+use Rattle.blocks.specs.declared.header.Header.{Header}
+use Rattle.codec.specs.Number.{limit32, limitSigned}
 use Rattle.codec.specs.Tabulate.{tabulate, joined}
-use Rattle.encode.specs.Supply.{Supply, tilesOf}
+use Rattle.encode.specs.Supply.{Supply, headerOf}
 use Rattle.geometry.specs.Box.{lo, hi}
 use Rattle.tiles.specs.Tile.{siteAt}
 use Rattle.tiles.specs.declared.tile.Site.{Site}
@@ -17,10 +19,10 @@ use Rattle.writer.specs.Write.{writeCall, writeExit}
 
 -- lists of unsigned and of signed 32-bit numbers, as slices hold them
 abbrev pub Unsigned : List ℕ → Type 0
-Unsigned l = (i : ℕ) → getD l i 0 < 0x1_0000_0000
+Unsigned l = (i : ℕ) → getD l i 0 < limit32
 
 abbrev pub Signed : List ℤ → Type 0
-Signed l = (i : ℕ) → mag (getD l i (pos 0)) < 0x8000_0000
+Signed l = (i : ℕ) → mag (getD l i (pos 0)) < limitSigned
 
 pub record Typed (s : Supply) : Type 0 where
   pub boxes : Signed (s .boxes)
@@ -29,11 +31,11 @@ pub record Typed (s : Supply) : Type 0 where
   pub ys : Signed (s .ys)
   pub cues : Unsigned (s .cues)
 
--- the writer makes exactly this file from these lists, with T = tiles: into an output slice of the file's length, whatever it
+-- the writer makes exactly this file, with the header h, from these lists: into an output slice of the file's length, whatever it
 -- held before
-pub record Made (f : List ℕ) (tiles : ℕ) (s : Supply) : Type 0 where
+pub record Made (f : List ℕ) (h : Header) (s : Supply) : Type 0 where
   pub typed : Typed s
-  pub size : tilesOf s ≡ tiles
+  pub header : headerOf (s .counts) ≡ h
   pub answer : writeCall s (length f) ≡ accepted (length f)
   pub bytes : (out : List ℕ) → length out ≡ length f → writeExit s out ≡ f
 
@@ -42,15 +44,15 @@ unfoldable pub boxNumbers : List (List ℤ) → List ℤ
 boxNumbers b = lo (getD b 0 []) ∷ lo (getD b 1 []) ∷ hi (getD b 0 []) ∷ hi (getD b 1 []) ∷ []
 
 -- a field of all sites, in tile order
-unfoldable pub column : {A : Type 0} → (Site → A) → List ℕ → ℕ → List A
-column field f tiles = joined (λ t. tabulate (λ slot. field (siteAt f tiles t slot)) 0 (countAt f t)) 0 tiles
+unfoldable pub column : {A : Type 0} → (Site → A) → List ℕ → Header → List A
+column field f h = joined (λ t. tabulate (λ slot. field (siteAt f h t slot)) 0 (countAt f t)) 0 (h .tiles)
 
--- the lists that a file with T = tiles holds
-unfoldable pub supplyOf : List ℕ → ℕ → Supply
-supplyOf f tiles = record {
-  boxes = joined (λ t. boxNumbers (boxAt f t)) 0 tiles;
-  counts = tabulate (countAt f) 0 tiles;
-  xs = column (λ site. site .x) f tiles;
-  ys = column (λ site. site .y) f tiles;
-  cues = column (λ site. site .cue) f tiles;
+-- the lists that a file with the header h holds
+unfoldable pub supplyOf : List ℕ → Header → Supply
+supplyOf f h = record {
+  boxes = joined (λ t. boxNumbers (boxAt f t)) 0 (h .tiles);
+  counts = tabulate (countAt f) 0 (h .tiles);
+  xs = column (λ site. site .x) f h;
+  ys = column (λ site. site .y) f h;
+  cues = column (λ site. site .cue) f h;
 }

@@ -11,8 +11,10 @@ use Rattle.blocks.specs.Layout.{maxTiles}
 use Rattle.base.specs.Every.{every}
 use Rattle.codec.specs.Over.{over}
 use Rattle.encode.specs.Encode.{fileBytes, fileLength}
-use Rattle.encode.specs.Supply.{Supply, tilesOf, numbersPerBox, boxOf, countOf, offset, total, pointOf}
+use Rattle.encode.specs.Supply.{Supply, headerOf, tilesOf, numbersPerBox, boxOf, countOf, offset, total, pointOf}
 use Rattle.geometry.specs.Box.{inside}
+use Rattle.writer.specs.declared.write.WriteAnswer.{WriteAnswer}
+use Rattle.writer.specs.declared.write.WriteAnswer.the-variants.{Written, Refused}
 
 -- 6: "T is 0, over 960"
 unfoldable pub tilesFit : ℕ → Bool
@@ -42,12 +44,17 @@ writeTests s room =
     (require (every (entryFits (s .boxes) (s .counts)) (tilesOf s)) #box 0
     (require (listsFit (total (s .counts)) (length (s .xs)) (length (s .ys)) (length (s .cues))) #supply 0
     (require (every (tileFits (s .boxes) (s .counts) (s .xs) (s .ys)) (tilesOf s)) #stray 0
-    (require (leb (fileLength (tilesOf s)) room) #short 0
+    (require (leb (fileLength (headerOf (s .counts))) room) #short 0
     (accepted tt))))))
+
+-- what the writer's answer comes to
+abbrev pub writeOutcome : WriteAnswer → Outcome ℕ
+writeOutcome (Written n) = accepted n
+writeOutcome (Refused r) = refused (r .number) (r .block)
 
 -- of these lists and an output slice of this length: "It gives the file's length in bytes"
 unfoldable pub writeCall : Supply → ℕ → Outcome ℕ
-writeCall s room = andThen (writeTests s room) (λ _. accepted (fileLength (tilesOf s)))
+writeCall s room = andThen (writeTests s room) (λ _. accepted (fileLength (headerOf (s .counts))))
 
 -- "writes the file; later bytes stay"; "refused, it writes nothing"
 abbrev pub leaves : Outcome ℕ → List ℕ → List ℕ → List ℕ

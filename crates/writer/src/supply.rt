@@ -11,14 +11,16 @@ ghost use Rattle.geometry.specs.Box.{inside};
 ghost use Rattle.writer.specs.Write.{tilesFit, entryFits, listsFit, sitesFit, tileFits, writeTests};
 use base::both;
 use blocks::directory::directory_blocks;
+use blocks::header::Header;
 use blocks::layout;
 use encode::lists::NUMBERS_PER_BOX;
+use encode::lists::header_of;
 use encode::lists::wide;
 use geometry::limits::inside;
 use geometry::limits::valid_box;
 
 // The box of tile t.
-pub fn box_of(boxes: &[i32], t: usize) -> [[i32; 2]; 2]
+fn box_of(boxes: &[i32], t: usize) -> [[i32; 2]; 2]
     requires { ⌜ numbersPerBox * t + numbersPerBox ≤ length (now boxes) ⌝ }
     ensures { λ r. ⌜ r ≡ boxOf (now (boxes .entry)) t ⌝ }
 {
@@ -31,14 +33,14 @@ pub fn box_of(boxes: &[i32], t: usize) -> [[i32; 2]; 2]
 }
 
 // Test 6.
-pub fn tiles_fit(t: usize) -> bool
+fn tiles_fit(t: usize) -> bool
     ensures { λ r. ⌜ r ≡ tilesFit t ⌝ }
 {
     both(1 <= t, t <= layout::MAX_TILES)
 }
 
 // Test 9 of tile t.
-pub fn entry_fits(boxes: &[i32], counts: &[u32], t: usize) -> bool
+fn entry_fits(boxes: &[i32], counts: &[u32], t: usize) -> bool
     requires { ⌜ (numbersPerBox * t + numbersPerBox ≤ length (now boxes)) × (t < length (now counts)) ⌝ }
     ensures { λ r. ⌜ r ≡ entryFits (now (boxes .entry)) (now (counts .entry)) t ⌝ }
 {
@@ -48,7 +50,7 @@ pub fn entry_fits(boxes: &[i32], counts: &[u32], t: usize) -> bool
     )
 }
 
-pub fn entries_fit(boxes: &[i32], counts: &[u32]) -> bool
+fn entries_fit(boxes: &[i32], counts: &[u32]) -> bool
     requires { ⌜ length (now boxes) ≡ numbersPerBox * length (now counts) ⌝ }
     ensures { λ r. ⌜ r ≡ every (entryFits (now (boxes .entry)) (now (counts .entry))) (length (now (counts .entry))) ⌝ }
 {
@@ -63,7 +65,7 @@ pub fn entries_fit(boxes: &[i32], counts: &[u32]) -> bool
 }
 
 // The sum of counts that passed test 9.
-pub fn sum_of(counts: &[u32]) -> usize
+fn sum_of(counts: &[u32]) -> usize
     requires { ⌜ (length (now counts) ≤ maxTiles) × ((t : ℕ) → t < length (now counts) → countOf (now counts) t ≤ maxSites) ⌝ }
     ensures { λ r. ⌜ r ≡ total (now (counts .entry)) ⌝ }
 {
@@ -77,14 +79,14 @@ pub fn sum_of(counts: &[u32]) -> usize
 }
 
 // Test 15 of the site lists.
-pub fn lists_fit(sum: usize, x: usize, y: usize, cue: usize) -> bool
+fn lists_fit(sum: usize, x: usize, y: usize, cue: usize) -> bool
     ensures { λ r. ⌜ r ≡ listsFit sum x y cue ⌝ }
 {
     both(both(x == sum, y == sum), cue == sum)
 }
 
 // Test 10 of site i of the lists.
-pub fn site_fits(bounds: [[i32; 2]; 2], xs: &[i32], ys: &[i32], i: usize) -> bool
+fn site_fits(bounds: [[i32; 2]; 2], xs: &[i32], ys: &[i32], i: usize) -> bool
     requires { ⌜ (i < length (now xs)) × (i < length (now ys)) ⌝ }
     ensures { λ r. ⌜ r ≡ inside bounds (pointOf (now (xs .entry)) (now (ys .entry)) i) ⌝ }
 {
@@ -94,7 +96,7 @@ pub fn site_fits(bounds: [[i32; 2]; 2], xs: &[i32], ys: &[i32], i: usize) -> boo
 }
 
 // Test 10 of n sites of the lists from site `first` on.
-pub fn sites_fit(bounds: [[i32; 2]; 2], xs: &[i32], ys: &[i32], first: usize, n: usize) -> bool
+fn sites_fit(bounds: [[i32; 2]; 2], xs: &[i32], ys: &[i32], first: usize, n: usize) -> bool
     requires { ⌜ (first + n ≤ length (now xs)) × (first + n ≤ length (now ys)) ⌝ }
     ensures { λ r. ⌜ r ≡ sitesFit bounds (now (xs .entry)) (now (ys .entry)) first n ⌝ }
 {
@@ -109,7 +111,7 @@ pub fn sites_fit(bounds: [[i32; 2]; 2], xs: &[i32], ys: &[i32], first: usize, n:
 }
 
 // Test 10.
-pub fn tiles_inside(boxes: &[i32], counts: &[u32], xs: &[i32], ys: &[i32]) -> bool
+fn tiles_inside(boxes: &[i32], counts: &[u32], xs: &[i32], ys: &[i32]) -> bool
     requires { ⌜
         (length (now boxes) ≡ numbersPerBox * length (now counts)) × (length (now xs) ≡ total (now counts))
         × (length (now ys) ≡ total (now counts)) ⌝ }
@@ -130,12 +132,12 @@ pub fn tiles_inside(boxes: &[i32], counts: &[u32], xs: &[i32], ys: &[i32]) -> bo
     true
 }
 
-// The file's length in bytes, of t tiles.
-pub fn file_length(t: usize) -> usize
-    requires { ⌜ t ≤ maxTiles ⌝ }
-    ensures { λ r. ⌜ r ≡ fileLength t ⌝ }
+// The file's length in bytes.
+pub fn file_length(h: Header) -> usize
+    requires { ⌜ h .tiles ≤ maxTiles ⌝ }
+    ensures { λ r. ⌜ r ≡ fileLength h ⌝ }
 {
-    layout::BLOCK_SIZE * (directory_blocks(t) + t)
+    layout::BLOCK_SIZE * (directory_blocks(h) + h.tiles)
 }
 
 // The number of the first test that the lists and an output slice of this length fail, or 0.
@@ -164,7 +166,7 @@ pub fn failed_test(
         return base::SUPPLY;
     }
     let inside = tiles_inside(boxes, counts, xs, ys);
-    let fits = file_length(counts.len()) <= room;
+    let fits = file_length(header_of(counts)) <= room;
     if !inside {
         return base::STRAY;
     }

@@ -1,18 +1,22 @@
 // The writer's call.
 ghost use mathlib.Core.Path.{_≡_};
 ghost use lib.ListN.{length};
-ghost use Rattle.blocks.specs.Outcome.{answerOutcome};
 ghost use Rattle.encode.specs.Supply.{supply};
-ghost use Rattle.writer.specs.Write.{writeCall, writeExit};
+ghost use Rattle.writer.specs.Write.{writeOutcome, writeCall, writeExit};
 use crate::supply::failed_test;
 use crate::supply::file_length;
-use blocks::block;
-use blocks::block::Answer;
+use base::Refusal;
 use encode::directory::put_directory;
+use encode::lists::header_of;
 use encode::tile::put_tiles;
 
-// Writes the file of a town: four numbers of a box and a count for each tile, and the sites in tile order. Gives the file's
-// length, or the first refusal.
+// What the writer answers: the file's length in bytes, or the first refusal.
+pub enum WriteAnswer {
+    Written(usize),
+    Refused(Refusal),
+}
+
+// Writes the file of a town: four numbers of a box and a count for each tile, and the sites in tile order.
 pub fn write(
     boxes: &[i32],
     counts: &[u32],
@@ -20,9 +24,9 @@ pub fn write(
     ys: &[i32],
     cues: &[u32],
     out: &mut [u8],
-) -> Answer
+) -> WriteAnswer
     ensures answer { λ r. ⌜
-        answerOutcome r ≡ writeCall
+        writeOutcome r ≡ writeCall
         (supply (now (boxes .entry)) (now (counts .entry)) (now (xs .entry)) (now (ys .entry)) (now (cues .entry)))
         (length (now (out .entry))) ⌝ }
     ensures output { λ r. ⌜
@@ -31,9 +35,12 @@ pub fn write(
 {
     let failed = failed_test(boxes, counts, xs, ys, cues, out.len());
     if failed != 0 {
-        return block::refused(failed, 0);
+        return WriteAnswer::Refused(Refusal {
+            number: failed,
+            block: 0,
+        });
     }
     put_directory(out, boxes, counts);
     put_tiles(out, counts, xs, ys, cues);
-    Answer::Accepted(file_length(counts.len()))
+    WriteAnswer::Written(file_length(header_of(counts)))
 }

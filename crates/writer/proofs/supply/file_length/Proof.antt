@@ -14,7 +14,7 @@ mul-result c = search needs
 
 returns : tie.Need-returns
 unfolding fileLength
-returns c = simp (c .directory-blocks .ensures .0)
+returns c = let d : tie.After-directory-blocks = search in simp (d .directory-blocks .ensures .0)
 
 pub file-length-spec : {M : Type 1} → statement M
 file-length-spec = tie.close (tie.spec directory-blocks-requires add-result mul-result returns)

@@ -5,7 +5,7 @@ use lib.ListN.{length}
 use borrow.Author.Needs.{needs}
 use Rattle.base.specs.Refusal.{accepted}
 use Rattle.encode.specs.Encode.{fileLength}
-use Rattle.encode.specs.Supply.{supply}
+use Rattle.encode.specs.Supply.{supply, headerOf}
 use Rattle.blocks.proofs.OutcomeLaws.{number-accepted, number-refused}
 use Rattle.writer.specs.Accepted.{GoodSupply}
 use Rattle.writer.specs.Write.{writeTests}
@@ -13,40 +13,46 @@ use Rattle.writer.proofs.WriteLaws.{tests-good, call-refused, call-acce
 use Rattle.writer.proofs.write.write.Statement.{statement}
 use Rattle.writer.proofs.write.write.Tie as tie
 
-accepted-tests : (c : tie.Else1) → let a = c .before .before .before .before .before .args in
+accepted-tests : (c : tie.Else1) →
+    let s : tie.Start = search in
+    let a = s .args in
     writeTests (supply (a .boxes .now) (a .counts .now) (a .xs .now) (a .ys .now) (a .cues .now)) (length (a .out .now))
     ≡ accepted tt
-accepted-tests c = number-accepted (c .before .failed-test .result) 0 (c .before .failed-test .ensures) (c .if1 .left)
+accepted-tests c =
+    let t : tie.After-failed-test = search in
+    number-accepted (t .failed-test .result) 0 (t .failed-test .ensures) (c .if1 .left)
 
-good : (c : tie.Else1) → let a = c .before .before .before .before .before .args in
+good : (c : tie.Else1) →
+    let s : tie.Start = search in
+    let a = s .args in
     GoodSupply (supply (a .boxes .now) (a .counts .now) (a .xs .now) (a .ys .now) (a .cues .now))
-    × (fileLength (length (a .counts .now)) ≤ length (a .out .now))
+    × (fileLength (headerOf (a .counts .now)) ≤ length (a .out .now))
 good c = tests-good _ _ (accepted-tests c)
 
 failed-test-requires : tie.Need-failed-test-requires
 failed-test-requires c κs = search needs
 
-refused-requires : tie.Need-refused-requires
-refused-requires c κs = search needs
-
 returns : tie.Need-returns
 returns c =
-    let a = c .before .before .before .before .before .before .args in
-    let n = c .before .before .failed-test in
+    let b : tie.Start = search in
+    let t : tie.After-failed-test = search in
+    let a = b .args in
+    let n = t .failed-test in
     let s = supply (a .boxes .now) (a .counts .now) (a .xs .now) (a .ys .now) (a .cues .now) in
-    let e = call-refused s (length (a .out .now)) (number-refused (n .result) 0 (n .ensures) (c .before .if1 .taken)) in
-    (c .refused .ensures ∙ sym e, sym (exit-refused s (a .out .now) e))
+    let e = call-refused s (length (a .out .now)) (number-refused (n .result) 0 (n .ensures) (c .if1 .taken)) in
+    (sym e, sym (exit-refused s (a .out .now) e))
 
 put-directory-requires : tie.Need-put-directory-requires
 unfolding fileLength
 put-directory-requires c κs =
-    let g = good (c .before) in
+    let g = good search in
     (omega (arith, g .1), g .0 .numbers, g .0 .most)
 
 put-tiles-requires : tie.Need-put-tiles-requires
 put-tiles-requires c κs =
-    let g = good (c .before .before .before .before .before) in (
-      omega (arith, g .1, c .before .before .before .put-directory .kept .0),
+    let d : tie.After-put-directory = search in
+    let g = good search in (
+      omega (arith, g .1, d .put-directory .kept .0),
       g .0 .most,
       g .0 .counts,
       g .0 .xs,
@@ -54,22 +60,26 @@ put-tiles-requires c κs =
       g .0 .cues,
     )
 
+header-of-requires : tie.Need-header-of-requires
+header-of-requires c κs = search needs
+
 file-length-requires : tie.Need-file-length-requires
-file-length-requires c κs = good (c .before .before .before .before .before .before .before .before) .0 .most
+file-length-requires c κs = let g = good search in omega (arith, g .0 .most, c .header-of .ensures .1)
 
 same-length : tie.Need-same-length
 same-length c = search needs
 
 returns-2 : tie.Need-returns-2
 returns-2 c =
-    let c₁ = c .before .before .before .before .before .before .before in
-    let c₂ = c₁ .before .before in
-    let a = c₂ .before .before .before .before .before .args in
+    let h : tie.After-header-of = search in
+    let t : tie.After-put-tiles = search in
+    let d : tie.After-put-directory = search in
+    let b : tie.Start = search in
+    let a = b .args in
     let s = supply (a .boxes .now) (a .counts .now) (a .xs .now) (a .ys .now) (a .cues .now) in
-    let e = call-accepted s (length (a .out .now)) (accepted-tests c₂) in (
-      ap accepted (c .file-length .ensures) ∙ sym e,
-      file-row s (a .out .now) (c₁ .put-directory .ensures) (c .before .before .before .put-tiles .ensures)
-          ∙ sym (exit-accepted s (a .out .now) e),
+    let e = call-accepted s (length (a .out .now)) (accepted-tests search) in (
+      ap accepted (c .file-length .ensures ∙ ap fileLength (h .header-of .ensures .0)) ∙ sym e,
+      file-row s (a .out .now) (d .put-directory .ensures) (t .put-tiles .ensures) ∙ sym (exit-accepted s (a .out .now) e),
     )
 
 pub write-spec : {M : Type 1} → statement M
@@ -77,10 +87,10 @@ write-spec =
     tie.close
     (tie.spec
     failed-test-requires
-    refused-requires
     returns
     put-directory-requires
     put-tiles-requires
+    header-of-requires
     file-length-requires
     same-length
     returns-2)
