@@ -6,5 +6,6 @@ mod Line
 mod BestEnd
 pub mod BestPoint
 mod Corners
+mod Around
 pub mod Two
 pub mod Theorems

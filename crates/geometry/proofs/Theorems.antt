@@ -13,6 +13,8 @@ use lib.ListN.{length}
 use lib.Signed.{leZ-yes}
 use borrow.Author.Tests.{ltb-true, lt-ltb}
 use Rattle.base.specs.Every.{every}
+use Rattle.base.specs.Lists.{All}
+use Rattle.geometry.specs.Around.{row, points, around, SmallestAround}
 use Rattle.geometry.specs.Box.{validBox, validPoint, inside}
 use Rattle.geometry.specs.Cases.{table, AllSay}
 use Rattle.geometry.specs.Claims.{Least, Largest, LargestDifference}
@@ -22,6 +24,7 @@ use Rattle.geometry.specs.Margin.{gain, bestEnd, bestPoint, difference, 
 use Rattle.base.proofs.Every.{every-at, every-holds}
 use Rattle.base.proofs.Tests.{true-T, by-test, iff-eq}
 use Rattle.geometry.proofs.AllAxes.{in-box, in-test, over, closest-in, min-least, farthest-in, max-largest, within, distance-bound, lowest-point, within-box, in-valid, in-length}
+use Rattle.geometry.proofs.Around.{rows-at, all-rows, around-axes, around-valid, around-holds, around-least}
 use Rattle.geometry.proofs.BestPoint.{Three, three, best-in, best-over-e, best-over-b, best-most, over-in}
 use Rattle.geometry.proofs.Corners.{corner-in, best-corner}
 use Rattle.geometry.proofs.Shift.{axisBound, less-sub, at-most-sub, abs-difference}
@@ -67,6 +70,21 @@ module _ (o : List (List ℤ)) (vo : validBox o ≡ true) (c : ℕ) where
 
   pub corner-axes : length (corner o c) ≡ length o
   corner-axes = in-length (corner-in o vo c)
+
+-- ---- points by columns
+
+-- "the smallest box around the stops": of n points, n > 0, with valid coordinates in columns
+pub around-smallest : (cols : List (List ℤ)) (n : ℕ) → 0 < n → All (λ c. length c ≡ n) cols → All (λ p. validPoint p ≡ true) (points cols n)
+    → SmallestAround (length cols) (points cols n) (around cols)
+unfolding points
+around-smallest cols n some long v = record {
+  axes = around-axes n cols;
+  valid = around-valid n cols long some (λ i l. rw (zero-add i) at (rows-at (λ p. validPoint p ≡ true) cols 0 n v i l));
+  holds = all-rows (λ p. inside (around cols) p ≡ true) cols 0 n (λ i l. rw (zero-add i) (in-test (around-holds n cols long i l)));
+  smallest = λ b e h q i.
+      in-test (around-least n cols long some b e
+      (λ j l. in-box b (row cols j) (rw (zero-add j) at (rows-at (λ p. inside b p ≡ true) cols 0 n h j l))) q (in-box (around cols) q i));
+}
 
 -- ---- the margin
 

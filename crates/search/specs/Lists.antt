@@ -4,6 +4,7 @@ use mathlib.Core.Bool.{Bool, true, false, cond, _||_}
 use mathlib.Core.List.{List, [], _∷_}
 use mathlib.Core.Path.{_≡_}
 use lib.Dec.{eqb}
+pub use Rattle.base.specs.Lists.{All}
 
 -- the n numbers from a on
 abbrev pub range : ℕ → ℕ → List ℕ
@@ -33,11 +34,6 @@ filter p (x ∷ l) = cond (p x) (x ∷ filter p l) (filter p l)
 unfoldable pub member : ℕ → List ℕ → Bool
 member n [] = false
 member n (x ∷ l) = eqb n x || member n l
-
--- a property of every element
-abbrev pub All : {A : Type 0} → (A → Type 0) → List A → Type 0
-All P [] = Unit {0}
-All P (x ∷ l) = P x × All P l
 
 -- no element stands in it twice
 abbrev pub Distinct : {A : Type 0} → List A → Type 0
