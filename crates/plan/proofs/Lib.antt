@@ -1,4 +1,5 @@
 pub mod Lawful
 pub mod Openings
 pub mod Measures
+pub mod Tables
 pub mod Theorems

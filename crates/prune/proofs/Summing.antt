@@ -46,10 +46,6 @@ module _ (p : ℕ → Bool) (w : ℕ → ℕ) where
   pub sum-part : (a b n : ℕ) → a ≤ b → b ≤ n → total p w (range a (b - a)) ≤ total p w (range 0 n)
   sum-part a b n h l = rw (zero-add a) at (part-most 0 a (b - a) n (omega arith))
 
-pub bit-small : (b : Bool) → bit b ≤ 1
-bit-small true = omega arith
-bit-small false = omega arith
-
 -- how many pass a test
 module _ (p : ℕ → Bool) where
   pub count-turn : (e n : ℕ) → e < n → bit (p e) + count p (range (e + 1) (n - (e + 1))) ≡ count p (range e (n - e))

@@ -8,7 +8,6 @@ use native.Mathlib.Numerals.{add-one}
 use native.Mathlib.Omega.{arith}
 use lib.ListN.{length, take, set}
 use lib.Seq.{take-set-le, take-suc-set}
-use mir.Val.{boolByte}
 use Rattle.search.specs.Lists.{range, bit, filter}
 use Rattle.base.proofs.Tests.{by-test}
 
@@ -25,8 +24,3 @@ module _ (w : ℕ → Bool) where
   pub gather-done : (l : List ℕ) (m t n : ℕ) → n ≤ t → take m l ≡ take m l ++ filter w (range t (n - t))
   unfolding filter
   gather-done l m t n h = let d : n - t ≡ 0 = omega arith in rw (d, append-nil (take m l))
-
--- a test as a number
-pub bit-byte : (b : Bool) → boolByte b ≡ bit b
-bit-byte true = refl
-bit-byte false = refl

@@ -1,10 +1,29 @@
-// The comparisons of the search: pairs of numbers in order, and with them places by rank and against the key of a tile.
+// What the search compares: pairs of numbers in order, and with them places by rank and against the key of a tile; its limits and
+// marks.
 ghost use mathlib.Core.Path.{_≡_};
 ghost use Rattle.search.specs.Order.{lex};
+ghost use Rattle.search.specs.Limits.{validK};
 ghost use Rattle.search.specs.Run.{rank, aheadOf};
+use base::both;
 
 // Slots of a tile in a site number: tile × 40 + slot.
 pub const SLOTS: u32 = 40;
+
+// Marks of a tile; one that is neither opened nor pruned has 0.
+pub const OPENED: u8 = 2;
+
+pub const PRUNED: u8 = 1;
+
+pub const MAX_K: u32 = 64;
+
+pub const MAX_STOPS: usize = 256;
+
+// Test 11.
+pub fn valid_k(k: u32) -> bool
+    ensures { λ r. ⌜ r ≡ validK k ⌝ }
+{
+    both(1 <= k, k <= MAX_K)
+}
 
 // A place of a list: the distance, the site as tile × 40 + slot, and the cue.
 pub struct Place {

@@ -1,17 +1,20 @@
--- A table filled element by element: one turn of the loop, its end, and reading it. Assumes nothing.
+-- For the crates above: a table filled element by element (one turn of the loop, its end, and reading it), and tests as numbers.
 use Prim.Native.Nat.{ℕ, zero, suc, _+_, _-_, _<_, _≤_}
+use mathlib.Core.Bool.{Bool, true, false}
 use mathlib.Core.List.{List, map}
 use mathlib.Core.Path.{_≡_, refl, sym, ap, _∙_}
 use native.Mathlib.Nat.{zero-add, add-suc, add-zero, suc-add}
 use native.Mathlib.Numerals.{add-one}
 use native.Mathlib.Omega.{arith}
 use lib.ListN.{length, getD, set}
+use mir.Val.{boolByte}
 use Rattle.codec.specs.Over.{over}
-use Rattle.search.specs.Lists.{range}
+use Rattle.search.specs.Lists.{range, bit}
 use Rattle.codec.proofs.Over.{over-nil, over-cons, getD-run}
 
 module _ (g : ℕ → ℕ) where
-  pub fill-turn : (d : List ℕ) (t n : ℕ) → t < n → over (set d t (g t)) (t + 1) (map g (range (t + 1) (n - (t + 1)))) ≡ over d t (map g (range t (n - t)))
+  pub fill-turn : (d : List ℕ) (t n : ℕ) → t < n
+      → over (set d t (g t)) (t + 1) (map g (range (t + 1) (n - (t + 1)))) ≡ over d t (map g (range t (n - t)))
   fill-turn d t n h =
       let e : n - t ≡ suc (n - (t + 1)) = omega arith in
       rw e (sym (over-cons d t (g t) (map g (range (suc t) (n - (t + 1)))) ∙ rw (add-one t)))
@@ -34,3 +37,13 @@ module _ (g : ℕ → ℕ) where
       ap (λ (i : ℕ). getD (over d 0 (map g (range 0 n))) i 0) (sym (zero-add t))
       ∙ getD-run d 0 t (map g (range 0 n)) (omega arith) (omega arith)
       ∙ range-at 0 n t k ∙ rw (zero-add t)
+
+-- ---- a test as a number
+
+pub bit-small : (b : Bool) → bit b ≤ 1
+bit-small true = omega arith
+bit-small false = omega arith
+
+pub bit-byte : (b : Bool) → boolByte b ≡ bit b
+bit-byte true = refl
+bit-byte false = refl

@@ -1,7 +1,7 @@
 use borrow.Author.Needs.{needs}
-use Rattle.prune.specs.Prune.{validK}
-use Rattle.prune.proofs.call.valid_k.Statement.{statement}
-use Rattle.prune.proofs.call.valid_k.Tie as tie
+use Rattle.search.specs.Limits.{validK}
+use Rattle.search.proofs.valid_k.Statement.{statement}
+use Rattle.search.proofs.valid_k.Tie as tie
 
 both-requires : tie.Need-both-requires
 both-requires c κs = search needs

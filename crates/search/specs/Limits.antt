@@ -1,0 +1,18 @@
+-- Document 01, "Numbers given to bad input", 11 and 12: how many places and how many stops a call may ask for.
+use Prim.Native.Nat.{ℕ, _*_}
+use mathlib.Core.Bool.{Bool, _&&_}
+use lib.Dec.{leb}
+
+abbrev pub maxK : ℕ
+maxK = 64
+
+abbrev pub maxStops : ℕ
+maxStops = 256
+
+-- places of a run
+abbrev pub maxPlaces : ℕ
+maxPlaces = maxStops * maxK
+
+-- 11: "k: 0 or over 64"
+unfoldable pub validK : ℕ → Bool
+validK k = leb 1 k && leb k maxK
