@@ -1,47 +1,81 @@
--- What the tests of the arguments show. Assumes nothing.
+-- What the tests of the arguments show.
 use Prim.Native.Nat.{ℕ, _*_, _≤_}
 use mathlib.Core.Bool.{true, _&&_}
-use mathlib.Core.Path.{_≡_}
+use mathlib.Core.List.{List, [], _∷_}
+use mathlib.Core.Path.{_≡_, refl}
 use native.Mathlib.Nat.{mul-le-mul}
 use lib.Dec.{eqb, leb}
-use borrow.Author.Tests.{leb-true, eqb-true}
-use Rattle.prune.specs.Prune.{validK}
-use Rattle.base.proofs.Tests.{and-both}
-use Rattle.stops.specs.Arguments.{stopsDue, room}
+use lib.IntN.{ℤ}
+use lib.ListN.{length}
+use borrow.Author.Tests.{leb-true, eqb-true, eq-eqb}
+use Rattle.base.specs.Lists.{All}
+use Rattle.base.specs.Refusal.{accepted, #k, #stops, #spot, #short}
+use Rattle.search.specs.Limits.{validK, maxK, maxStops, maxPlaces}
+use Rattle.base.proofs.Every.{every-at}
+use Rattle.base.proofs.Outcomes.{require-accepted}
+use Rattle.base.proofs.Tests.{and-both, by-test}
+use Rattle.stops.specs.Arguments.{equalColumns, stopsDue, stopsValid, room, arguments}
+use Rattle.stops.specs.Inner.Good.{GoodArguments}
+use Rattle.stops.specs.Stops.{stopCount, validStop}
+use Rattle.stops.specs.declared.arguments.Lengths.{Lengths}
 
-pub record GoodK (k : ℕ) : Type 0 where
-  pub some : 1 ≤ k
-  pub few : k ≤ 64
-
-pub good-k : (k : ℕ) → validK k ≡ true → GoodK k
+pub good-k : (k : ℕ) → validK k ≡ true → (1 ≤ k) × (k ≤ maxK)
 unfolding validK
-good-k k e = let p = and-both (leb 1 k) (leb k 64) e in record { some = leb-true 1 k (p .0); few = leb-true k 64 (p .1) }
+good-k k e = let p = and-both (leb 1 k) (leb k maxK) e in (leb-true 1 k (p .0), leb-true k maxK (p .1))
 
-pub record GoodStops (n m : ℕ) : Type 0 where
-  pub some : 1 ≤ n
-  pub few : n ≤ 256
-  pub same : m ≡ n
+columns-equal : (n : ℕ) (cols : List (List ℤ)) → equalColumns n cols ≡ true → All (λ c. length c ≡ n) cols
+unfolding equalColumns
+columns-equal n [] e = tt
+columns-equal n (c ∷ cols) e =
+    let p = and-both (eqb (length c) n) (equalColumns n cols) e in
+    (eqb-true (length c) n (p .0), columns-equal n cols (p .1))
 
-pub good-stops : (n m : ℕ) → stopsDue n m ≡ true → GoodStops n m
+-- of two columns the second is looked at
+pub two-columns : (xs ys : List ℤ) → eqb (length ys) (length xs) ≡ equalColumns (length xs) (xs ∷ ys ∷ [])
+unfolding equalColumns
+two-columns xs ys = rw (eq-eqb (length xs) (length xs) refl) (by-test (eqb (length ys) (length xs)) (λ e. rw e) (λ e. rw e))
+
+pub good-stops : (cols : List (List ℤ)) → stopsDue cols ≡ true
+    → (1 ≤ stopCount cols) × ((stopCount cols ≤ maxStops) × All (λ c. length c ≡ stopCount cols) cols)
 unfolding stopsDue
-good-stops n m e =
-    let p = and-both (leb 1 n && leb n 256) (eqb m n) e in
-    let q = and-both (leb 1 n) (leb n 256) (p .0) in
-    record { some = leb-true 1 n (q .0); few = leb-true n 256 (q .1); same = eqb-true m n (p .1) }
+good-stops cols e =
+    let n = stopCount cols in
+    let p = and-both (leb 1 n && leb n maxStops) (equalColumns n cols) e in
+    let q = and-both (leb 1 n) (leb n maxStops) (p .0) in
+    (leb-true 1 n (q .0), (leb-true n maxStops (q .1), columns-equal n cols (p .1)))
 
-pub few-places : (n m k : ℕ) → GoodStops n m → GoodK k → n * k ≤ 16384
-few-places n m k g h = mul-le-mul {n₁ = n} {m₁ = k} {n₂ = 256} {m₂ = 64} (g .few) (h .few)
+pub few-places : {n k : ℕ} → n ≤ maxStops → k ≤ maxK → n * k ≤ maxPlaces
+few-places {n} {k} h g = mul-le-mul {n₁ = n} {m₁ = k} {n₂ = maxStops} {m₂ = maxK} h g
 
-pub record Room (n tiles d s c m : ℕ) : Type 0 where
-  pub dists : n ≤ d
-  pub sites : n ≤ s
-  pub cues : n ≤ c
-  pub marks : tiles ≤ m
-
-pub good-room : (n tiles d s c m : ℕ) → room n tiles d s c m ≡ true → Room n tiles d s c m
+good-room : (n tiles : ℕ) (l : Lengths) → room n tiles l ≡ true
+    → (n ≤ l .dist) × ((n ≤ l .site) × ((n ≤ l .cue) × (tiles ≤ l .marks)))
 unfolding room
-good-room n tiles d s c m e =
-    let p = and-both (leb n d && leb n s) (leb n c && leb tiles m) e in
-    let q = and-both (leb n d) (leb n s) (p .0) in
-    let r = and-both (leb n c) (leb tiles m) (p .1) in
-    record { dists = leb-true n d (q .0); sites = leb-true n s (q .1); cues = leb-true n c (r .0); marks = leb-true tiles m (r .1) }
+good-room n tiles l e =
+    let p = and-both (leb n (l .dist) && leb n (l .site)) (leb n (l .cue) && leb tiles (l .marks)) e in
+    let q = and-both (leb n (l .dist)) (leb n (l .site)) (p .0) in
+    let r = and-both (leb n (l .cue)) (leb tiles (l .marks)) (p .1) in
+    (leb-true n _ (q .0), (leb-true n _ (q .1), (leb-true n _ (r .0), leb-true tiles _ (r .1))))
+
+pub arguments-good : (tiles : ℕ) (cols : List (List ℤ)) (k : ℕ) (l : Lengths) → arguments tiles cols k l ≡ accepted tt
+    → GoodArguments tiles cols k l
+unfolding arguments stopsValid
+arguments-good tiles cols k l e =
+    let a = require-accepted (validK k) #k 0 _ e in
+    let b = require-accepted (stopsDue cols) #stops 0 _ (a .1) in
+    let c = require-accepted (stopsValid cols) #spot 0 _ (b .1) in
+    let d = require-accepted (room (stopCount cols * k) tiles l) #short 0 _ (c .1) in
+    let gk = good-k k (a .0) in
+    let gs = good-stops cols (b .0) in
+    let gr = good-room (stopCount cols * k) tiles l (d .0) in
+    record {
+      some-k = gk .0;
+      few-k = gk .1;
+      some = gs .0;
+      few = gs .1 .0;
+      same = gs .1 .1;
+      valid = λ i h. every-at (validStop cols) (stopCount cols) i (c .0) h;
+      dist = gr .0;
+      site = gr .1 .0;
+      cue = gr .1 .1 .0;
+      marks = gr .1 .1 .1;
+    }

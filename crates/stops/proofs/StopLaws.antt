@@ -9,7 +9,7 @@ use lib.IntN.{ℤ, pos}
 use lib.ListN.{length, getD, drop}
 use lib.Seq.{drop-cons}
 use lib.Signed.{ltZ}
-use Rattle.plan.specs.Stops.{foremost, least, greatest}
+use Rattle.geometry.specs.Around.{foremost, least, greatest}
 
 -- the rest of the list is looked at from the best so far
 module _ (lt : ℤ → ℤ → Bool) (xs : List ℤ) where

@@ -1,28 +1,38 @@
 -- Tests 11 to 14 of the join, in their order (document 01, "Numbers given to bad input").
 use Prim.Native.Nat.{ℕ, _*_}
-use mathlib.Core.Bool.{Bool, _&&_}
-use mathlib.Core.List.{List}
+use mathlib.Core.Bool.{Bool, true, _&&_}
+use mathlib.Core.List.{List, [], _∷_}
 use lib.Dec.{eqb, leb}
 use lib.IntN.{ℤ}
 use lib.ListN.{length}
-use Rattle.base.specs.Refusal.{Outcome, accepted, require, #k, #stops, #spot, #short}
 use Rattle.base.specs.Every.{every}
-use Rattle.prune.specs.Prune.{validK}
-use Rattle.stops.specs.Stops.{validStop}
+use Rattle.base.specs.Refusal.{Outcome, accepted, require, #k, #stops, #spot, #short}
+use Rattle.search.specs.Limits.{validK, maxStops}
+use Rattle.stops.specs.Stops.{stopCount, validStop}
+use Rattle.stops.specs.declared.arguments.Lengths.{Lengths}
+
+-- every column has n coordinates
+unfoldable pub equalColumns : ℕ → List (List ℤ) → Bool
+equalColumns n [] = true
+equalColumns n (c ∷ cols) = eqb (length c) n && equalColumns n cols
 
 -- 12: "none, over 256, or unequal x and y slices"
-unfoldable pub stopsDue : ℕ → ℕ → Bool
-stopsDue n m = (leb 1 n && leb n 256) && eqb m n
+unfoldable pub stopsDue : List (List ℤ) → Bool
+stopsDue cols = (leb 1 (stopCount cols) && leb (stopCount cols) maxStops) && equalColumns (stopCount cols) cols
+
+-- 13, of all stops
+unfoldable pub stopsValid : List (List ℤ) → Bool
+stopsValid cols = every (validStop cols) (stopCount cols)
 
 -- 14: "an output slice shorter than needed: n × k for each of the join's three, T for marks"
-unfoldable pub room : ℕ → ℕ → ℕ → ℕ → ℕ → ℕ → Bool
-room n tiles d s c m = (leb n d && leb n s) && (leb n c && leb tiles m)
+unfoldable pub room : ℕ → ℕ → Lengths → Bool
+room n tiles l = (leb n (l .dist) && leb n (l .site)) && (leb n (l .cue) && leb tiles (l .marks))
 
--- of stops xs, ys and k, for T = tiles, with output slices of d, s, c and m elements
-unfoldable pub arguments : ℕ → List ℤ → List ℤ → ℕ → ℕ → ℕ → ℕ → ℕ → Outcome Unit
-arguments tiles xs ys k d s c m =
+-- of stops and k, for T = tiles
+unfoldable pub arguments : ℕ → List (List ℤ) → ℕ → Lengths → Outcome Unit
+arguments tiles cols k l =
     require (validK k) #k 0
-    (require (stopsDue (length xs) (length ys)) #stops 0
-    (require (every (validStop xs ys) (length xs)) #spot 0
-    (require (room (length xs * k) tiles d s c m) #short 0
+    (require (stopsDue cols) #stops 0
+    (require (stopsValid cols) #spot 0
+    (require (room (stopCount cols * k) tiles l) #short 0
     (accepted tt))))

@@ -1,51 +1,54 @@
 // Tests 11 to 14 of the join.
+ghost use mathlib.Core.List.{[], _∷_};
 ghost use mathlib.Core.Path.{_≡_};
 ghost use Rattle.blocks.specs.Outcome.{numberOutcome};
 ghost use Rattle.stops.specs.Arguments.{stopsDue, room, arguments};
 use crate::around::valid_stops;
 use base::both;
-use prune::call::valid_k;
+use search::MAX_STOPS;
+use search::valid_k;
 
-pub const MAX_STOPS: usize = 256;
+// The lengths of the output slices.
+pub struct Lengths {
+    pub dist: usize,
+    pub site: usize,
+    pub cue: usize,
+    pub marks: usize,
+}
 
-// Test 12, of the lengths of the x and the y slice.
-fn stops_due(n: usize, m: usize) -> bool
-    ensures { λ r. ⌜ r ≡ stopsDue n m ⌝ }
+// Test 12.
+fn stops_due(xs: &[i32], ys: &[i32]) -> bool
+    ensures { λ r. ⌜ r ≡ stopsDue (now (xs .entry) ∷ now (ys .entry) ∷ []) ⌝ }
 {
-    both(both(1 <= n, n <= MAX_STOPS), m == n)
+    let n = xs.len();
+    both(both(1 <= n, n <= MAX_STOPS), ys.len() == n)
 }
 
 // Test 14: n places in each of three slices, and T marks.
-fn room(n: usize, tiles: usize, d: usize, s: usize, c: usize, m: usize) -> bool
-    ensures { λ r. ⌜ r ≡ room n tiles d s c m ⌝ }
+fn room(n: usize, tiles: usize, l: Lengths) -> bool
+    ensures { λ r. ⌜ r ≡ room n tiles l ⌝ }
 {
-    both(both(n <= d, n <= s), both(n <= c, tiles <= m))
+    both(
+        both(n <= l.dist, n <= l.site),
+        both(n <= l.cue, tiles <= l.marks),
+    )
 }
 
-// The number of the first test that the arguments fail, or 0. The slices are given by their lengths.
-pub fn failed_argument(
-    tiles: usize,
-    xs: &[i32],
-    ys: &[i32],
-    k: u32,
-    d: usize,
-    s: usize,
-    c: usize,
-    m: usize,
-) -> u32
-    ensures { λ r. ⌜ numberOutcome r 0 ≡ arguments tiles (now (xs .entry)) (now (ys .entry)) k d s c m ⌝ }
+// The number of the first test that the arguments fail, or 0.
+pub fn failed_argument(tiles: usize, xs: &[i32], ys: &[i32], k: u32, l: Lengths) -> u32
+    ensures { λ r. ⌜ numberOutcome r 0 ≡ arguments tiles (now (xs .entry) ∷ now (ys .entry) ∷ []) k l ⌝ }
 {
     if !valid_k(k) {
         return base::K;
     }
-    if !stops_due(xs.len(), ys.len()) {
+    if !stops_due(xs, ys) {
         return base::STOPS;
     }
     if !valid_stops(xs, ys) {
         return base::SPOT;
     }
     let n = xs.len() * (k as usize);
-    if !room(n, tiles, d, s, c, m) {
+    if !room(n, tiles, l) {
         return base::SHORT;
     }
     0

@@ -1,19 +1,20 @@
 // The stops of a run: the test of their coordinates, and the smallest box around them.
 ghost use mathlib.Core.Path.{_≡_};
 ghost use mathlib.Core.Bool.{cond};
+ghost use mathlib.Core.List.{[], _∷_};
 ghost use Prim.Native.Nat.{_<_};
 ghost use lib.ListN.{length};
 ghost use lib.Signed.{ltZ};
-ghost use Rattle.base.specs.Every.{every};
-ghost use Rattle.plan.specs.Stops.{least, greatest, around};
-ghost use Rattle.stops.specs.Stops.{validStop};
+ghost use Rattle.geometry.specs.Around.{least, greatest, around};
+ghost use Rattle.stops.specs.Arguments.{stopsValid};
 use crate::stop::stop_at;
 use geometry::limits::valid_point;
+use plan::region::Region;
 
 // Test 13.
 pub fn valid_stops(xs: &[i32], ys: &[i32]) -> bool
     requires { ⌜ length (now ys) ≡ length (now xs) ⌝ }
-    ensures { λ r. ⌜ r ≡ every (validStop (now (xs .entry)) (now (ys .entry))) (length (now (xs .entry))) ⌝ }
+    ensures { λ r. ⌜ r ≡ stopsValid (now (xs .entry) ∷ now (ys .entry) ∷ []) ⌝ }
 {
     let mut i: usize = 0;
     while i < xs.len() {
@@ -63,9 +64,10 @@ fn greatest(xs: &[i32]) -> i32
     a
 }
 
-pub fn around(xs: &[i32], ys: &[i32]) -> [[i32; 2]; 2]
+// The smallest box around the stops.
+pub fn around(xs: &[i32], ys: &[i32]) -> Region
     requires { ⌜ (0 < length (now xs)) × (0 < length (now ys)) ⌝ }
-    ensures { λ r. ⌜ r ≡ around (now (xs .entry)) (now (ys .entry)) ⌝ }
+    ensures { λ r. ⌜ r ≡ around (now (xs .entry) ∷ now (ys .entry) ∷ []) ⌝ }
 {
     let low_x = least(xs);
     let high_x = greatest(xs);

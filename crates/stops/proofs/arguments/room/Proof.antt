@@ -1,3 +1,4 @@
+use native.Mathlib.Omega.{arith}
 use borrow.Author.Needs.{needs}
 use Rattle.stops.specs.Arguments.{room}
 use Rattle.stops.proofs.arguments.room.Statement.{statement}
@@ -14,7 +15,10 @@ both-requires-3 c κs = search needs
 
 returns : tie.Need-returns
 unfolding room
-returns c = simp (c .both3 .ensures, c .before .both2 .ensures, c .before .before .both .ensures)
+returns c =
+    let a : tie.After-both = search in
+    let b : tie.After-both2 = search in
+    rw (c .both3 .ensures, a .both .ensures, b .both2 .ensures)
 
 pub room-spec : {M : Type 1} → statement M
 room-spec = tie.close (tie.spec both-requires both-requires-2 both-requires-3 returns)

@@ -1,5 +1,6 @@
 use borrow.Author.Needs.{needs}
 use Rattle.stops.specs.Arguments.{stopsDue}
+use Rattle.stops.proofs.ArgumentLaws.{two-columns}
 use Rattle.stops.proofs.arguments.stops_due.Statement.{statement}
 use Rattle.stops.proofs.arguments.stops_due.Tie as tie
 
@@ -11,7 +12,9 @@ both-requires-2 c κs = search needs
 
 returns : tie.Need-returns
 unfolding stopsDue
-returns c = simp (c .both2 .ensures, c .before .both .ensures)
+returns c =
+    let s : tie.Start = search in
+    rw (c .both2 .ensures, c .before .both .ensures, two-columns (s .args .xs .now) (s .args .ys .now))
 
 pub stops-due-spec : {M : Type 1} → statement M
 stops-due-spec = tie.close (tie.spec both-requires both-requires-2 returns)

@@ -2,7 +2,7 @@ use mir.Facts.{toZ-ofZ}
 use mir.Syntax.{w32}
 use mir.Val.{SFits}
 use borrow.Author.Needs.{sfits-of, needs}
-use Rattle.plan.specs.Stops.{around}
+use Rattle.geometry.specs.Around.{around}
 use Rattle.stops.proofs.around.around.Statement.{statement}
 use Rattle.stops.proofs.around.around.Tie as tie
 

@@ -8,7 +8,7 @@ use mir.Facts.{toZ-ofZ}
 use mir.Syntax.{w32}
 use mir.Val.{toZ, SFits}
 use borrow.Author.Needs.{sfits-of, needs}
-use Rattle.plan.specs.Stops.{foremost, greatest}
+use Rattle.geometry.specs.Around.{foremost, greatest}
 use Rattle.stops.proofs.StopLaws.{foremost-turn, foremost-done, greatest-start}
 use Rattle.stops.proofs.around.greatest.Statement.{statement}
 use Rattle.stops.proofs.around.greatest.Tie as tie

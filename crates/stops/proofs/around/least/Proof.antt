@@ -8,7 +8,7 @@ use mir.Facts.{toZ-ofZ}
 use mir.Syntax.{w32}
 use mir.Val.{toZ, SFits}
 use borrow.Author.Needs.{sfits-of, needs}
-use Rattle.plan.specs.Stops.{foremost, least}
+use Rattle.geometry.specs.Around.{foremost, least}
 use Rattle.stops.proofs.StopLaws.{foremost-turn, foremost-done, least-start}
 use Rattle.stops.proofs.around.least.Statement.{statement}
 use Rattle.stops.proofs.around.least.Tie as tie
