@@ -1,5 +1,4 @@
-pub mod Linking
-pub mod RunLaws
-pub mod CallLaws
+pub mod Running
+pub mod Calling
 pub mod Theorems
 pub mod Cases

@@ -13,7 +13,8 @@ use Rattle.geometry.specs.Distance.{D, minDist}
 use Rattle.geometry.specs.Cases as geometry
 use Rattle.geometry.specs.Cases.{box}
 use Rattle.geometry.specs.Margin.{closer}
-use Rattle.search.specs.Plan.{Plan}
+use Rattle.plan.specs.FilePlan.{plane}
+use Rattle.search.specs.Plan.{Directory}
 use Rattle.search.specs.Run.{Run, join, marks}
 use Rattle.search.specs.declared.Place.{Place}
 use Rattle.tiles.specs.Tile.{sitePoint}
@@ -33,24 +34,11 @@ reading t = getD (accepted (siteOf (pos 10) 7) ∷ accepted (siteOf (negℤ (pos
 abbrev pub origin : List ℤ
 origin = pos 0 ∷ pos 0 ∷ []
 
-abbrev pub townPlan : ℕ → Plan
-townPlan k = record {
-  Site = Site;
-  Stop = List ℤ;
-  Box = List (List ℤ);
-  cue = λ s. s .cue;
-  Inside = λ b s. (inside b (sitePoint s) ≡ true) × (s .cue < 2 ^ 32);
-  D = λ p s. D p (sitePoint s);
-  minDist = λ p b. minDist b p;
-  closer = closer (box (pos 0) (pos 0) (pos 0) (pos 0));
-  tiles = 3;
-  box = λ t. getD boxes t [];
-  size = λ t. 1;
-  k = k;
-}
+abbrev pub directory : Directory plane
+directory = record { tiles = 3; box = λ t. getD boxes t []; size = λ t. 1 }
 
 abbrev pub answer : ℕ → Run (List (List Place))
-answer k = join (townPlan k) reading (origin ∷ [])
+answer k = join directory (box (pos 0) (pos 0) (pos 0) (pos 0)) k reading (origin ∷ [])
 
 pub data Case : Type 0 where
   by-geometry : geometry.Case → Case
@@ -70,7 +58,9 @@ table =
 abbrev pub Says : Case → Type 0
 Says (by-geometry c) = geometry.Says c
 Says (check-of bytes s) = (sync a c : ℕ) → sums (sync ∷ (bytes ++ (a ∷ c ∷ []))) ≡ s
-Says (town-with k l m) = (answer k .outcome ≡ accepted (l ∷ [])) × (marks (townPlan k) (answer k .openings) ≡ m)
+Says (town-with k l m) =
+    (answer k .outcome ≡ accepted (l ∷ []))
+    × (marks directory (box (pos 0) (pos 0) (pos 0) (pos 0)) k (answer k .openings) ≡ m)
 
 abbrev pub AllSay : List Case → Type 0
 AllSay [] = Unit

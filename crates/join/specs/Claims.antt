@@ -7,52 +7,59 @@ use mathlib.Core.Path.{_≡_}
 use lib.Dec.{eqb}
 use lib.IntN.{ℤ}
 use lib.ListN.{length, getD, take}
+use Rattle.base.specs.Refusal.{accepted}
 use Rattle.blocks.specs.Block.{blockAt}
+use Rattle.blocks.specs.Directory.{directory}
 use Rattle.blocks.specs.Same.{SameDirectory}
-use Rattle.list.specs.List.{placeAt}
-use Rattle.plan.specs.FilePlan.{openingOf}
-use Rattle.plan.specs.Stops.{stopsOf}
+use Rattle.blocks.specs.declared.header.Header.{Header}
+use Rattle.geometry.specs.Around.{around, SmallestAround}
+use Rattle.list.specs.Lists.{Slices, placeAt}
+use Rattle.plan.specs.FilePlan.{plane, entries, openingOf}
 use Rattle.search.specs.FullSearch.{fullSearch, Fits, Changes}
 use Rattle.search.specs.Lists.{count, member, All, Distinct}
-use Rattle.search.specs.Plan.{Plan, Town}
+use Rattle.search.specs.Plan.{Town}
 use Rattle.search.specs.Pruning.{pruned}
-use Rattle.search.specs.Run.{noPlace, placesUsed}
+use Rattle.search.specs.Run.{noPlace, placesUsed, openedMark, prunedMark}
+use Rattle.stops.specs.Stops.{stopCount, stopsOf}
 use Rattle.tiles.specs.Tile.{tilePosition}
-use Rattle.join.specs.Join.{Result, Slices, planFor, runFor, joinEnd}
+use Rattle.join.specs.Join.{Result, runFor, joinEnd}
 
-module _ (f : List ℕ) (xs ys : List ℤ) (k : ℕ) (out : Slices) (r : Result) where
-  -- the file as the search sees it, the tiles opened, and the slices at the end
-  abbrev pub plan : Plan
-  plan = planFor f (r .tiles) xs ys k
-
+module _ (f : List ℕ) (cols : List (List ℤ)) (k : ℕ) (out : Slices) (h : Header) where
+  -- the tiles opened, and the slices at the end
   abbrev pub opened : List ℕ
-  opened = runFor f (r .tiles) xs ys k .openings
+  opened = runFor f h cols k .openings
 
   abbrev pub left : Slices
-  left = joinEnd f xs ys k out .slices
+  left = joinEnd f cols k out .slices
 
   -- "any town that agrees with the directory and the opened tiles, whatever its other tiles hold"
-  abbrev pub Agreeing : Town plan → Type 0
-  Agreeing town = Fits plan (openingOf f (r .tiles)) opened town
+  abbrev pub Agreeing : Town plane → Type 0
+  Agreeing town = Fits (entries f h) (openingOf f h) opened town
 
-  pub record Demand3 : Type 0 where
+  pub record Demand3 (r : Result) : Type 0 where
+    -- T is the directory's, and the box of 'struck' "the smallest box around the stops"
+    pub header : directory f ≡ accepted h
+    pub tiles : r .tiles ≡ h .tiles
+    pub smallest : SmallestAround (length cols) (stopsOf cols) (around cols)
     -- "For every stop, the join's list equals what a full search of that town gives: the same distance, site and cue at each place"
-    pub lists : (town : Town plan) → Agreeing town → (i j : ℕ) → i < length xs → j < k
-        → placeAt (left .dist) (left .site) (left .cue) (i * k + j) ≡ getD (fullSearch plan (getD (stopsOf xs ys) i []) town) j noPlace
+    pub lists : (town : Town plane) → Agreeing town → (i j : ℕ) → i < stopCount cols → j < k
+        → placeAt (left .lists) (i * k + j) ≡ getD (fullSearch (entries f h) k (getD (stopsOf cols) i []) town) j noPlace
     -- "A tile was opened exactly when some other filling of it .. changes what the full search gives for at least one stop"
-    pub opened-exactly : (town : Town plan) → Agreeing town → (t : ℕ) → (member t opened ≡ true) ↔ Changes plan town (stopsOf xs ys) t
+    pub opened-exactly : (town : Town plane) → Agreeing town → (t : ℕ)
+        → (member t opened ≡ true) ↔ Changes (entries f h) k town (stopsOf cols) t
     -- "A tile is marked 2 exactly when it was opened and 1 exactly when it is struck"
-    pub marked-opened : (t : ℕ) → t < r .tiles → (getD (left .marks) t 0 ≡ 2) ↔ (member t opened ≡ true)
-    pub marked-pruned : (t : ℕ) → t < r .tiles → (getD (left .marks) t 0 ≡ 1) ↔ (pruned plan t ≡ true)
+    pub marked-opened : (t : ℕ) → t < h .tiles → (getD (left .marks) t 0 ≡ openedMark) ↔ (member t opened ≡ true)
+    pub marked-pruned : (t : ℕ) → t < h .tiles
+        → (getD (left .marks) t 0 ≡ prunedMark) ↔ (pruned (entries f h) (around cols) k t ≡ true)
     -- "no struck tile is opened", and each tile once
-    pub none-pruned : All (λ t. pruned plan t ≡ false) opened
+    pub none-pruned : All (λ t. pruned (entries f h) (around cols) k t ≡ false) opened
     pub once : Distinct opened
     -- "the counts are as the papers define them": those of the marks, and the places used
-    pub count-opened : r .opened ≡ count (λ m. eqb m 2) (take (r .tiles) (left .marks))
-    pub count-pruned : r .pruned ≡ count (λ m. eqb m 1) (take (r .tiles) (left .marks))
-    pub count-used : r .used ≡ placesUsed plan
+    pub count-opened : r .opened ≡ count (λ m. eqb m openedMark) (take (h .tiles) (left .marks))
+    pub count-pruned : r .pruned ≡ count (λ m. eqb m prunedMark) (take (h .tiles) (left .marks))
+    pub count-used : r .used ≡ placesUsed (entries f h) k
     -- "Any file of the same length, equal to this one in every byte of the directory and of the opened tiles, gets an answer with
     -- the same lists, marks and counts"
-    pub other-files : (g : List ℕ) → SameDirectory f g (r .tiles)
-        → All (λ t. blockAt g (tilePosition (r .tiles) t) ≡ blockAt f (tilePosition (r .tiles) t)) opened
-        → joinEnd g xs ys k out ≡ joinEnd f xs ys k out
+    pub other-files : (g : List ℕ) → SameDirectory f g h
+        → All (λ t. blockAt g (tilePosition h t) ≡ blockAt f (tilePosition h t)) opened
+        → joinEnd g cols k out ≡ joinEnd f cols k out

@@ -1,19 +1,27 @@
 -- Document 01, "The join": what the call comes to, and what it leaves in the four slices.
+--
+--   Result, joinOutcome    what the answer carries
+--   runFor                 the run of the search on a file
+--   tests                  tests 1 to 14
+--   filled, ended, runEnd  the end of a run
+--   End, joinEnd           what the call comes to, and the slices at its end
 use Prim.Native.Nat.{ℕ, _*_}
 use mathlib.Core.List.{List}
 use lib.IntN.{ℤ}
-use lib.ListN.{length, replicate}
+use lib.ListN.{length}
 use Rattle.base.specs.Refusal.{Outcome, accepted, refused, andThen}
 use Rattle.blocks.specs.Directory.{directory}
+use Rattle.blocks.specs.declared.header.Header.{Header}
 use Rattle.codec.specs.Over.{over}
-use Rattle.list.specs.List.{dists, sites, cues}
-use Rattle.plan.specs.FilePlan.{planOf, openingOf}
-use Rattle.plan.specs.Stops.{stopsOf, around}
-use Rattle.search.specs.Plan.{Plan}
+use Rattle.geometry.specs.Around.{around}
+use Rattle.list.specs.Lists.{Slices, lay, cleared}
+use Rattle.plan.specs.FilePlan.{entries, openingOf}
 use Rattle.search.specs.Pruning.{prunedCount}
-use Rattle.search.specs.Run.{Run, join, slices, placesUsed, marks, openedCount}
+use Rattle.search.specs.Run.{Run, join, slices, placesUsed, marks}
 use Rattle.search.specs.declared.Place.{Place}
 use Rattle.stops.specs.Arguments.{arguments}
+use Rattle.stops.specs.Stops.{stopCount, stopsOf}
+use Rattle.stops.specs.declared.arguments.Lengths.{Lengths}
 use Rattle.join.specs.declared.call.JoinAnswer.{JoinAnswer}
 use Rattle.join.specs.declared.call.JoinAnswer.the-variants.{Joined, Refused}
 
@@ -24,77 +32,61 @@ pub record Result : Type 0 where
   pub opened : ℕ
   pub pruned : ℕ
 
-abbrev pub noResult : Result
-noResult = record { used = 0; tiles = 0; opened = 0; pruned = 0 }
-
 abbrev pub joinOutcome : JoinAnswer → Outcome Result
-joinOutcome (Joined used tiles opened pruned) = accepted (record { used = used; tiles = tiles; opened = opened; pruned = pruned })
+joinOutcome (Joined used tiles opened pruned) =
+    accepted (record { used = used; tiles = tiles; opened = opened; pruned = pruned })
 joinOutcome (Refused r) = refused (r .number) (r .block)
-
--- the four output slices
-pub record Slices : Type 0 where
-  pub dist : List ℕ
-  pub site : List ℕ
-  pub cue : List ℕ
-  pub marks : List ℕ
-
-abbrev pub lent : List ℕ → List ℕ → List ℕ → List ℕ → Slices
-lent d s c m = record { dist = d; site = s; cue = c; marks = m }
 
 -- what the call comes to, and the slices at its end
 pub record End : Type 0 where
   pub outcome : Outcome Result
   pub slices : Slices
 
--- the file as the search sees it from "the smallest box around the stops", and its run
-abbrev pub planFor : List ℕ → ℕ → List ℤ → List ℤ → ℕ → Plan
-planFor f tiles xs ys k = planOf f tiles (around xs ys) k
+-- the stops by columns; "O is the smallest box around the stops"
+unfoldable pub runFor : List ℕ → Header → List (List ℤ) → ℕ → Run (List (List Place))
+runFor f h cols k = join (entries f h) (around cols) k (openingOf f h) (stopsOf cols)
 
-unfoldable pub runFor : List ℕ → ℕ → List ℤ → List ℤ → ℕ → Run (List (List Place))
-runFor f tiles xs ys k = join (planFor f tiles xs ys k) (openingOf f tiles) (stopsOf xs ys)
+abbrev pub lengthsOf : Slices → Lengths
+lengthsOf out = record {
+  dist = length (out .lists .dist);
+  site = length (out .lists .site);
+  cue = length (out .lists .cue);
+  marks = length (out .marks);
+}
 
--- "1; each directory block 2 to 9 in table order; 11 to 14": gives T
-unfoldable pub tests : List ℕ → List ℤ → List ℤ → ℕ → Slices → Outcome ℕ
-tests f xs ys k out =
-    andThen (directory f) (λ tiles.
-    andThen (arguments tiles xs ys k (length (out .dist)) (length (out .site)) (length (out .cue)) (length (out .marks))) (λ _.
-    accepted tiles))
+-- "1; each directory block 2 to 9 in table order; 11 to 14": gives the header
+unfoldable pub tests : List ℕ → List (List ℤ) → ℕ → Slices → Outcome Header
+tests f cols k out =
+    andThen (directory f) (λ h.
+    andThen (arguments (h .tiles) cols k (lengthsOf out)) (λ _.
+    accepted h))
 
 -- n × k places and T marks over the slices; "elements past these never change"
 unfoldable pub filled : List Place → List ℕ → Slices → Slices
-filled l m out = record {
-  dist = over (out .dist) 0 (dists l);
-  site = over (out .site) 0 (sites l);
-  cue = over (out .cue) 0 (cues l);
-  marks = over (out .marks) 0 m;
-}
+filled l m out = record { lists = lay (out .lists) 0 l; marks = over (out .marks) 0 m }
 
--- "A refusal by an opening, the first included, leaves the first n × k places and T marks zero"
-unfoldable pub cleared : ℕ → ℕ → Slices → Slices
-cleared n tiles out = record {
-  dist = over (out .dist) 0 (replicate n 0);
-  site = over (out .site) 0 (replicate n 0);
-  cue = over (out .cue) 0 (replicate n 0);
-  marks = over (out .marks) 0 (replicate tiles 0);
+-- the end of a run: its lists, marks and counts, or its refusal. "A refusal by an opening, the first included, leaves the first
+-- n × k places and T marks zero"
+unfoldable pub ended : List ℕ → Header → List (List ℤ) → ℕ → List ℕ → Slices → Outcome (List (List Place)) → End
+ended f h cols k opened out (accepted ls) = record {
+  outcome = accepted (record {
+    used = placesUsed (entries f h) k;
+    tiles = h .tiles;
+    opened = length opened;
+    pruned = prunedCount (entries f h) (around cols) k;
+  });
+  slices = filled (slices k ls) (marks (entries f h) (around cols) k opened) out;
 }
+ended f h cols k opened out (refused number block) =
+    record { outcome = refused number block; slices = cleared 0 (stopCount cols * k) (h .tiles) out }
 
--- the end of a run: its lists, marks and counts, or its refusal
-unfoldable pub ended : (G : Plan) → ℕ → List ℕ → Slices → Outcome (List (List Place)) → End
-ended G n openings out (accepted ls) = record {
-  outcome = accepted (record { used = placesUsed G; tiles = G .tiles; opened = openedCount G openings; pruned = prunedCount G });
-  slices = filled (slices G ls) (marks G openings) out;
-}
-ended G n openings out (refused number block) = record { outcome = refused number block; slices = cleared n (G .tiles) out }
-
-unfoldable pub runEnd : List ℕ → ℕ → List ℤ → List ℤ → ℕ → Slices → End
-runEnd f tiles xs ys k out =
-    let r = runFor f tiles xs ys k in
-    ended (planFor f tiles xs ys k) (length xs * k) (r .openings) out (r .outcome)
+unfoldable pub runEnd : List ℕ → Header → List (List ℤ) → ℕ → Slices → End
+runEnd f h cols k out = let r = runFor f h cols k in ended f h cols k (r .openings) out (r .outcome)
 
 -- the whole call: "any earlier [refusal] leaves the lent slices unchanged"
-unfoldable pub joinFrom : List ℕ → List ℤ → List ℤ → ℕ → Slices → Outcome ℕ → End
-joinFrom f xs ys k out (accepted tiles) = runEnd f tiles xs ys k out
-joinFrom f xs ys k out (refused number block) = record { outcome = refused number block; slices = out }
+unfoldable pub joinFrom : List ℕ → List (List ℤ) → ℕ → Slices → Outcome Header → End
+joinFrom f cols k out (accepted h) = runEnd f h cols k out
+joinFrom f cols k out (refused number block) = record { outcome = refused number block; slices = out }
 
-unfoldable pub joinEnd : List ℕ → List ℤ → List ℤ → ℕ → Slices → End
-joinEnd f xs ys k out = joinFrom f xs ys k out (tests f xs ys k out)
+unfoldable pub joinEnd : List ℕ → List (List ℤ) → ℕ → Slices → End
+joinEnd f cols k out = joinFrom f cols k out (tests f cols k out)

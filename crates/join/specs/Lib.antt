@@ -1,4 +1,4 @@
 pub mod Join
-pub mod Running
 pub mod Claims
 pub mod Cases
+pub mod Inner

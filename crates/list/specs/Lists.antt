@@ -4,10 +4,13 @@
 --   placeAt              the place at an index
 --   dists, sites, cues   what each slice holds of a list of places
 --   lay                  the slices with a list of places written from an index on
+--   Slices, lent         these three and the marks
+--   cleared              the four slices with places and marks zero
 use Prim.Native.Nat.{ℕ}
 use mathlib.Core.List.{List, map}
-use lib.ListN.{getD}
+use lib.ListN.{getD, replicate}
 use Rattle.codec.specs.Over.{over}
+use Rattle.search.specs.Run.{noPlace, noMark}
 use Rattle.search.specs.declared.Place.{Place}
 
 pub record Lists : Type 0 where
@@ -36,4 +39,19 @@ lay o at l = record {
   dist = over (o .dist) at (dists l);
   site = over (o .site) at (sites l);
   cue = over (o .cue) at (cues l);
+}
+
+-- "Marks, one byte for each tile" beside them
+pub record Slices : Type 0 where
+  pub lists : Lists
+  pub marks : List ℕ
+
+abbrev pub lent : List ℕ → List ℕ → List ℕ → List ℕ → Slices
+lent d s c m = record { lists = lists d s c; marks = m }
+
+-- n places from index at on and T marks; "elements past these never change"
+unfoldable pub cleared : ℕ → ℕ → ℕ → Slices → Slices
+cleared at n tiles o = record {
+  lists = lay (o .lists) at (replicate n noPlace);
+  marks = over (o .marks) 0 (replicate tiles noMark);
 }

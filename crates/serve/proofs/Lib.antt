@@ -1,5 +1,3 @@
-pub mod Taking
-pub mod Small
-pub mod Going
-pub mod Turning
-pub mod Rises
+pub mod Marking
+pub mod TileLoop
+pub mod StopLoop

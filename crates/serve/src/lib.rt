@@ -1,2 +1,3 @@
-// The stops served in turn: the walk of each. The call is serving::serve_all.
+// The stops served in turn: the walk of each over the waiting tiles. The call is serving::serve_all.
+pub mod marks;
 pub mod serving;

@@ -1,81 +1,111 @@
 // Serving the stops: for each, the waiting tiles by key, until its list is full ahead of the next key.
-ghost use mathlib.Core.List.{[]};
-ghost use Prim.Native.Nat.{_*_, _≤_};
-ghost use lib.ListN.{length, take};
-ghost use Rattle.blocks.specs.Outcome.{answerOutcome};
-ghost use Rattle.plan.specs.Stops.{stopsOf};
-ghost use Rattle.queue.specs.Queue.{waits};
-ghost use Rattle.search.specs.Lists.{range, filter};
-ghost use Rattle.serve.specs.Serving.{walkStop, byKey, walkStops, Rising, TileReady, TileTaken, StopReady, StopServed, StopsReady, StopsServed};
-use blocks::block::Answer;
+ghost use mathlib.Core.List.{[], _∷_};
+ghost use mathlib.Core.Path.{_≡_};
+ghost use Prim.Native.Nat.{_*_};
+ghost use lib.ListN.{length};
+ghost use Rattle.base.specs.Refusal.{accepted, andThen};
+ghost use Rattle.list.specs.Lists.{lent};
+ghost use Rattle.plan.specs.FilePlan.{openingOf};
+ghost use Rattle.queue.specs.Inner.Keys.{waiting};
+ghost use Rattle.tiles.specs.Outcome.{openingOutcome};
+ghost use Rattle.serve.specs.Inner.Serving.{servingOutcome, TileReady, withSites, afterTile};
+ghost use Rattle.serve.specs.Inner.Serving.{StopReady, StopServed, walkOf, StopsReady, StopsServed, walksOf};
+use crate::marks::open_once;
+use base::Refusal;
+use blocks::header::Header;
+use blocks::layout::MAX_TILES;
 use list::last_ahead;
-use marks::opening::open_once;
+use places::tile::Target;
 use places::tile::add_tile;
 use queue::gather::gather;
 use queue::keys::NONE;
 use queue::keys::fill_keys;
 use queue::keys::next_key;
 use stops::stop::stop_at;
+use tiles::tile::Opening;
 
-// Takes tile t for the stop p: opens it, once a run, and puts its sites into the list. The number of places used then.
+// The answer of serving: the places used by the stop served last, or the refusal of an opening.
+pub enum Serving {
+    Served(usize),
+    Refused(Refusal),
+}
+
+// What a refused opening makes of serving.
+fn passed_on(answer: Opening) -> Serving
+    ensures { λ r. ⌜ servingOutcome r ≡ openingOutcome answer ⌝ }
+{
+    match answer {
+        Opening::Opened(n) => Serving::Served(n),
+        Opening::Refused(r) => Serving::Refused(r),
+    }
+}
+
+// Takes tile t for a stop: opens it, once a run, and puts its sites into the list.
 fn take_tile(
     f: &[u8],
-    tiles: usize,
+    h: Header,
     t: usize,
-    p: [i32; 2],
-    k: usize,
-    at: usize,
+    target: Target,
     used: usize,
     dist: &mut [u64],
     site: &mut [u32],
     cue: &mut [u32],
     marks: &mut [u8],
-) -> Answer
-    requires { ⌜ TileReady (now f) tiles t p k at used (now dist) (now site) (now cue) (now marks) ⌝ }
-    ensures { λ r. ⌜ TileTaken (now (f .entry)) tiles t p k at used (now (dist .entry)) (now (site .entry)) (now (cue .entry)) (now (marks .entry)) (answerOutcome r) (now (dist .exit)) (now (site .exit)) (now (cue .exit)) (now (marks .exit)) ⌝ }
+) -> Serving
+    requires { ⌜ TileReady (now f) h t target used (lent (now dist) (now site) (now cue) (now marks)) ⌝ }
+    ensures { λ r. ⌜ servingOutcome r ≡ andThen (openingOf (now (f .entry)) h t)
+        (λ l. accepted (length (withSites t target used l
+        (lent (now (dist .entry)) (now (site .entry)) (now (cue .entry)) (now (marks .entry)) .lists)))) ⌝ }
+    ensures { λ r. ⌜ lent (now (dist .exit)) (now (site .exit)) (now (cue .exit)) (now (marks .exit))
+        ≡ afterTile t target used (openingOf (now (f .entry)) h t)
+        (lent (now (dist .entry)) (now (site .entry)) (now (cue .entry)) (now (marks .entry))) ⌝ }
 {
-    let answer = open_once(f, tiles, t, marks);
-    let Answer::Accepted(_) = answer else {
-        return answer;
+    let answer = open_once(f, h, t, marks);
+    let Opening::Opened(_) = answer else {
+        return passed_on(answer);
     };
-    Answer::Accepted(add_tile(f, tiles, t, p, dist, site, cue, at, used, k))
+    Serving::Served(add_tile(f, h, t, target, used, dist, site, cue))
 }
 
-// Serves the stop p: its list from index `at` on. The number of places used.
+// Serves one stop, over the waiting tiles: its list.
 fn serve_stop(
     f: &[u8],
-    tiles: usize,
+    h: Header,
     order: &[usize],
-    m: usize,
-    p: [i32; 2],
-    k: usize,
-    at: usize,
+    target: Target,
     keys: &mut [u64],
     dist: &mut [u64],
     site: &mut [u32],
     cue: &mut [u32],
     marks: &mut [u8],
-) -> Answer
-    requires { ⌜ StopReady (now f) tiles (now order) m p k at (now keys) (now dist) (now site) (now cue) (now marks) ⌝ }
-    ensures { λ r. ⌜ StopServed (now (f .entry)) tiles k at (walkStop (now (f .entry)) tiles k p (byKey (now (f .entry)) tiles k p (take m (now (order .entry)))) []) (now (dist .entry)) (now (site .entry)) (now (cue .entry)) (now (marks .entry)) (answerOutcome r) (now (dist .exit)) (now (site .exit)) (now (cue .exit)) (now (marks .exit)) ⌝ }
+) -> Serving
+    requires { ⌜ StopReady (now f) h (now order) target (now keys)
+        (lent (now dist) (now site) (now cue) (now marks)) ⌝ }
+    ensures { λ r. ⌜ StopServed (now (f .entry)) h
+        (walkOf (now (f .entry)) h (now (order .entry)) (target .stop) (target .k)) (target .k) (target .at)
+        (lent (now (dist .entry)) (now (site .entry)) (now (cue .entry)) (now (marks .entry))) (servingOutcome r)
+        (lent (now (dist .exit)) (now (site .exit)) (now (cue .exit)) (now (marks .exit))) ⌝ }
 {
-    fill_keys(f, tiles, order, m, p, keys);
+    let p = target.stop;
+    let at = target.at;
+    let k = target.k;
+    fill_keys(f, h, order, p, keys);
     let mut used: usize = 0;
     let mut from: usize = 0;
     let mut bound: u64 = 0;
     loop {
-        let least = next_key(keys, m, from, bound);
+        let least = next_key(keys, order.len(), from, bound);
         let j = least.at;
         let key = least.key;
         if key == NONE {
-            return Answer::Accepted(used);
+            return Serving::Served(used);
         }
         let t = order[j];
         if last_ahead(dist, site, at, used, k, key, t as u32) {
-            return Answer::Accepted(used);
+            return Serving::Served(used);
         }
-        let answer = take_tile(f, tiles, t, p, k, at, used, dist, site, cue, marks);
-        let Answer::Accepted(n) = answer else {
+        let answer = take_tile(f, h, t, target, used, dist, site, cue, marks);
+        let Serving::Served(n) = answer else {
             return answer;
         };
         used = n;
@@ -85,70 +115,40 @@ fn serve_stop(
     }
 }
 
-// Serves the stops in turn, over the m waiting tiles: the list of stop i from index i × k on. The places used by the last stop.
-fn serve_each(
+// Serves the stops in turn, over the tiles that neither the marks nor the directory rule out: the list of stop i from index
+// i × k on. The places used by the last stop.
+pub fn serve_all(
     f: &[u8],
-    tiles: usize,
-    order: &[usize],
-    m: usize,
+    h: Header,
     xs: &[i32],
     ys: &[i32],
     k: usize,
-    keys: &mut [u64],
     dist: &mut [u64],
     site: &mut [u32],
     cue: &mut [u32],
     marks: &mut [u8],
-) -> Answer
-    requires { ⌜ StopsReady (now f) tiles (now xs) (now ys) k (now dist) (now site) (now cue) (now marks) × (Rising tiles (now order) m × (m ≤ length (now keys))) ⌝ }
-    ensures { λ r. ⌜ StopsServed (now (f .entry)) tiles k (length (now (xs .entry)) * k) (walkStops (now (f .entry)) tiles k (take m (now (order .entry))) (stopsOf (now (xs .entry)) (now (ys .entry)))) (now (dist .entry)) (now (site .entry)) (now (cue .entry)) (now (marks .entry)) (answerOutcome r) (now (dist .exit)) (now (site .exit)) (now (cue .exit)) (now (marks .exit)) ⌝ }
+) -> Serving
+    requires { ⌜ StopsReady (now f) h (now xs ∷ now ys ∷ []) k (lent (now dist) (now site) (now cue) (now marks)) ⌝ }
+    ensures { λ r. ⌜ StopsServed h (walksOf (now (f .entry)) h (waiting (now (f .entry)) h (now (marks .entry)))
+        (now (xs .entry) ∷ now (ys .entry) ∷ []) k) k (length (now (xs .entry)) * k)
+        (lent (now (dist .entry)) (now (site .entry)) (now (cue .entry)) (now (marks .entry))) (servingOutcome r)
+        (lent (now (dist .exit)) (now (site .exit)) (now (cue .exit)) (now (marks .exit))) ⌝ }
 {
+    let mut order = [0usize; MAX_TILES];
+    let mut keys = [0u64; MAX_TILES];
+    let m = gather(f, h, marks, &mut order);
     let mut i: usize = 0;
     let mut at: usize = 0;
     let mut used: usize = 0;
     while i < xs.len() {
-        let p = stop_at(xs, ys, i);
-        let answer = serve_stop(f, tiles, order, m, p, k, at, keys, dist, site, cue, marks);
-        let Answer::Accepted(n) = answer else {
+        let target = Target { stop: stop_at(xs, ys, i), at, k };
+        let answer = serve_stop(f, h, &order[..m], target, &mut keys, dist, site, cue, marks);
+        let Serving::Served(n) = answer else {
             return answer;
         };
         used = n;
         i += 1;
         at += k;
     }
-    Answer::Accepted(used)
-}
-
-// Serves all stops, over the tiles that neither the marks nor the directory rule out.
-pub fn serve_all(
-    f: &[u8],
-    tiles: usize,
-    xs: &[i32],
-    ys: &[i32],
-    k: usize,
-    dist: &mut [u64],
-    site: &mut [u32],
-    cue: &mut [u32],
-    marks: &mut [u8],
-) -> Answer
-    requires { ⌜ StopsReady (now f) tiles (now xs) (now ys) k (now dist) (now site) (now cue) (now marks) ⌝ }
-    ensures { λ r. ⌜ StopsServed (now (f .entry)) tiles k (length (now (xs .entry)) * k) (walkStops (now (f .entry)) tiles k (filter (waits (now (f .entry)) (now (marks .entry))) (range 0 tiles)) (stopsOf (now (xs .entry)) (now (ys .entry)))) (now (dist .entry)) (now (site .entry)) (now (cue .entry)) (now (marks .entry)) (answerOutcome r) (now (dist .exit)) (now (site .exit)) (now (cue .exit)) (now (marks .exit)) ⌝ }
-{
-    let mut order = [0usize; 960];
-    let mut keys = [0u64; 960];
-    let m = gather(f, tiles, marks, &mut order);
-    serve_each(
-        f,
-        tiles,
-        &order,
-        m,
-        xs,
-        ys,
-        k,
-        &mut keys,
-        dist,
-        site,
-        cue,
-        marks,
-    )
+    Serving::Served(used)
 }

@@ -1,0 +1,254 @@
+-- The run from its start to its end: what serving finds, and what the definitions make of what it leaves.
+use Prim.Native.Nat.{ℕ, _*_, _<_, _≤_}
+use mathlib.Core.Bool.{Bool, true, false, not, _&&_}
+use mathlib.Core.List.{List, [], _∷_, map}
+use mathlib.Core.Path.{_≡_, refl, sym, ap, _∙_}
+use native.Mathlib.Nat.{zero-add}
+use native.Mathlib.Omega.{arith}
+use lib.Dec.{eqb, ltb}
+use lib.IntN.{ℤ}
+use lib.ListN.{length, getD, take, replicate, length-replicate}
+use lib.Seq.{take-at}
+use Rattle.base.specs.Lists.{All}
+use Rattle.base.specs.Refusal.{Outcome, accepted, refused, andThen}
+use Rattle.blocks.specs.declared.header.Header.{Header}
+use Rattle.codec.specs.Number.{Bytes}
+use Rattle.codec.specs.Over.{over}
+use Rattle.geometry.specs.Around.{points, around, SmallestAround}
+use Rattle.geometry.specs.Box.{validPoint}
+use Rattle.list.specs.Lists.{Slices, lay, cleared}
+use Rattle.plan.specs.FilePlan.{plane, entries, openingOf}
+use Rattle.plan.specs.Inner.Seam.{axisCount, ValidRegion}
+use Rattle.prune.specs.Prune.{pruneMarks}
+use Rattle.queue.specs.Inner.Keys.{waits, waiting}
+use Rattle.search.specs.Lists.{range, bit, count, member, filter}
+use Rattle.search.specs.Limits.{maxK, maxPlaces}
+use Rattle.search.specs.Plan.{Lawful, ranked}
+use Rattle.search.specs.Pruning.{pruned, prunedCount}
+use Rattle.search.specs.Run.{noPlace, candidate, candidates, queue, join, slices, placesUsed, mark, marks, openedMark, prunedMark}
+use Rattle.search.specs.declared.Place.{Place}
+use Rattle.serve.specs.Inner.Marks.{markAll}
+use Rattle.serve.specs.Inner.Serving.{lastLength, walksOf, StopsReady, StopsServed}
+use Rattle.stops.specs.Stops.{stopCount, stopsOf, validStop}
+use Rattle.base.proofs.Outcomes.{andThen-accepted, accepted-injective, accepted-refused}
+use Rattle.codec.proofs.Over.{over-under, over-eq, length-over}
+use Rattle.geometry.proofs.Around.{all-rows}
+use Rattle.geometry.proofs.Theorems.{around-smallest}
+use Rattle.list.proofs.Laying.{lay-under, lay-long}
+use Rattle.list.proofs.Padding.{clear-all}
+use Rattle.plan.proofs.Tables.{filled-at, range-length, bit-small}
+use Rattle.plan.proofs.Theorems.{plan-lawful, opening-checked}
+use Rattle.search.proofs.Cut.{join-cut, cuts-length}
+use Rattle.search.proofs.Equation.{Alike, withNew-member}
+use Rattle.search.proofs.Lists.{all-map, all-mem, mem-all, member-mem, mem-member, filter-same, range-below}
+use Rattle.search.proofs.Marks.{slices-length}
+use Rattle.search.proofs.Theorems.{places-used, opened-count, only-tiles}
+use Rattle.serve.proofs.Marking.{marks-end}
+use Rattle.stops.proofs.ArgumentLaws.{few-places}
+use Rattle.stops.proofs.StopLaws.{stops-length}
+use Rattle.join.specs.Inner.Running.{RunReady, walksFor, Attempted}
+use Rattle.join.specs.Join.{Result, runFor, filled, ended, runEnd}
+
+-- ---- words for lists
+
+last-of : (n m : ℕ) (ls : List (List Place)) → 0 < length ls → All (λ l. length l ≡ n) ls → lastLength m ls ≡ n
+last-of n m [] h a = absurd (omega arith)
+last-of n m (l ∷ []) h a = a .0
+last-of n m (l ∷ k ∷ ls) h a = last-of n (length l) (k ∷ ls) (omega arith) (a .1)
+
+refused-from : {A : Type 0} (o : Outcome A) (g : A → ℕ) {x y : ℕ} → refused x y ≡ andThen o (λ a. accepted (g a)) → o ≡ refused x y
+refused-from (accepted a) g e = accepted-refused {o = accepted (g a)} refl (sym e)
+refused-from (refused x y) g e = cc
+
+-- what was laid at the start, taken
+pub take-over : (n : ℕ) (l vs : List ℕ) → length vs ≡ n → n ≤ length l → take n (over l 0 vs) ≡ vs
+take-over n l vs e h = rw (over-eq l 0 vs (omega arith)) (take-at vs _ n e)
+
+eq-bit : (b : Bool) → eqb (bit b) prunedMark ≡ b
+eq-bit true = refl
+eq-bit false = refl
+
+-- ---- the tiles that wait by the marks of pruning are the candidates
+waiting-is : (f : List ℕ) (h : Header) (o : List (List ℤ)) (k : ℕ) (m : List ℕ) → h .tiles ≤ length m
+    → waiting f h (over m 0 (pruneMarks f h o k)) ≡ candidates (entries f h) o k
+unfolding waits candidate pruneMarks
+waiting-is f h o k m l =
+    let tiles = h .tiles in
+    let ms = over m 0 (map (λ t. bit (pruned (entries f h) o k t)) (range 0 tiles)) in
+    filter-same (waits f h ms) (candidate (entries f h) o k) (range 0 tiles)
+    (all-map (range 0 tiles)
+    (λ t i. ap (λ b. not b && ltb 0 (ranked (entries f h) t))
+    (ap (λ (n : ℕ). eqb n prunedMark) (filled-at (λ t. bit (pruned (entries f h) o k t)) m tiles t l i)
+    ∙ eq-bit (pruned (entries f h) o k t)))
+    (range-below 0 tiles tiles (omega arith)))
+
+-- ---- the run of a call whose tests have passed
+
+module _ {f : List ℕ} {h : Header} {cols : List (List ℤ)} {k : ℕ} {out : Slices} (r : RunReady f h cols k out) where
+  abbrev O : List (List ℤ)
+  O = around cols
+
+  abbrev n : ℕ
+  n = stopCount cols * k
+
+  pub few-enough : n ≤ maxPlaces
+  few-enough = few-places (r .args .few) (r .args .few-k)
+
+  pub smallest : SmallestAround (length cols) (stopsOf cols) O
+  unfolding points validStop
+  smallest = around-smallest cols (stopCount cols) (r .args .some) (r .args .same)
+      (all-rows (λ p. validPoint p ≡ true) cols 0 (stopCount cols) (λ i l. rw (zero-add i) (r .args .valid i l)))
+
+  pub region : ValidRegion O
+  region = record { valid = smallest .valid; axes = smallest .axes ∙ r .axes }
+
+  pub lawful : Lawful (entries f h) O
+  lawful = plan-lawful f h O (r .dir) (region .valid) (region .axes)
+
+  alike : Bytes f → Alike [] (runFor f h cols k) (walksFor f h cols k .asked) (walksFor f h cols k .out)
+  unfolding runFor
+  alike b = join-cut (entries f h) O k lawful (openingOf f h) (opening-checked f h b) (r .args .some-k) (stopsOf cols)
+      (smallest .holds)
+
+  -- ---- before the stops are served: places zero, tiles pruned
+
+  abbrev pub started : Slices
+  started = record {
+    lists = lay (out .lists) 0 (replicate n noPlace);
+    marks = over (out .marks) 0 (pruneMarks f h O k);
+  }
+
+  pub stops-ready : StopsReady f h cols k started
+  unfolding pruneMarks
+  stops-ready =
+      let a = r .args in
+      let lm = length-over (out .marks) 0 (map (λ t. bit (pruned (entries f h) O k t)) (range 0 (h .tiles))) in
+      record {
+        dir = r .dir;
+        same = a .same;
+        valid = a .valid;
+        some = a .some-k;
+        few = few-enough;
+        long = lay-long (out .lists) 0 (replicate n noPlace) n (a .dist, (a .site, a .cue));
+        clear = clear-all (out .lists) n (a .dist, (a .site, a .cue));
+        marks = rw lm (a .marks);
+        opens = λ t l e.
+            let b = bit-small (pruned (entries f h) O k t) in
+            let q = filled-at (λ i. bit (pruned (entries f h) O k i)) (out .marks) (h .tiles) t (a .marks) l in
+            absurd (omega (arith, e));
+      }
+
+  -- ---- after it
+
+  covered : cleared 0 n (h .tiles) started ≡ cleared 0 n (h .tiles) out
+  unfolding cleared pruneMarks
+  covered =
+      let a = range-length (λ t. bit (pruned (entries f h) O k t)) 0 (h .tiles) in
+      let b = length-replicate {A = ℕ} (h .tiles) 0 in
+      let zeros = replicate n noPlace in
+      rw (
+        lay-under (out .lists) 0 0 zeros zeros (omega arith) (omega arith),
+        over-under (out .marks) 0 0 (map (λ t. bit (pruned (entries f h) O k t)) (range 0 (h .tiles)))
+            (replicate (h .tiles) 0) (omega arith) (omega arith),
+      )
+
+  lists-cover : (ls : List (List Place)) → walksFor f h cols k .out ≡ accepted ls
+      → lay (started .lists) 0 (slices k ls) ≡ lay (out .lists) 0 (slices k ls)
+  lists-cover ls e =
+      let a = cuts-length (entries f h) k (openingOf f h) (queue (entries f h) O k) (stopsOf cols) ls e in
+      let b = slices-length k ls in
+      let q : length (slices k ls) ≡ n = b ∙ ap (λ (m : ℕ). m * k) (a ∙ stops-length cols) in
+      let z = length-replicate n noPlace in
+      lay-under (out .lists) 0 0 (replicate n noPlace) (slices k ls) (omega arith) (omega arith)
+
+  pub attempted : {o : Outcome ℕ} {p : ℕ} {out′ : Slices} → p ≡ prunedCount (entries f h) O k → p ≤ h .tiles
+      → StopsServed h (walksOf f h (waiting f h (started .marks)) cols k) k n started o out′
+      → Attempted f h cols k out o p out′
+  unfolding queue
+  attempted {o} {p} {out′} counted few served =
+      let w : walksOf f h (waiting f h (started .marks)) cols k ≡ walksFor f h cols k =
+      ap (λ z. walksOf f h z cols k) (waiting-is f h O k (out .marks) (r .args .marks)) in
+      let v : StopsServed h (walksFor f h cols k) k n started o out′ = rw w at served in
+      record {
+        counted = counted;
+        few = few;
+        outcome = v .outcome;
+        answered = λ ls e. v .answered ls e ∙ rw (lists-cover ls e);
+        under = v .under ∙ covered;
+      }
+
+  -- ---- its end
+
+  module _ (b : Bytes f) where
+    asked-tiles : All (λ t. t < h .tiles) (walksFor f h cols k .asked)
+    unfolding runFor member
+    asked-tiles =
+        let asked = walksFor f h cols k .asked in
+        let a = only-tiles (entries f h) O k (openingOf f h) (stopsOf cols) in
+        mem-all asked
+        (λ t i. all-mem (λ u. u < h .tiles) a
+        (member-mem t (join (entries f h) O k (openingOf f h) (stopsOf cols) .openings)
+        (rw (alike b .openings) (withNew-member t [] asked ∙ mem-member t asked i))))
+
+    -- the marks that serving leaves are those of the run
+    marks-are : markAll (started .marks) (walksFor f h cols k .asked)
+        ≡ over (out .marks) 0 (marks (entries f h) O k (runFor f h cols k .openings))
+    unfolding pruneMarks
+    marks-are =
+        marks-end (entries f h) O k (walksFor f h cols k .asked) (out .marks) (r .args .marks) asked-tiles
+        ∙ ap (λ u. over (out .marks) 0 (marks (entries f h) O k u)) (sym (alike b .openings))
+
+    -- and those opened are counted
+    opened-is : count (λ m. eqb m openedMark) (take (h .tiles) (over (out .marks) 0
+        (marks (entries f h) O k (runFor f h cols k .openings)))) ≡ length (runFor f h cols k .openings)
+    unfolding runFor marks
+    opened-is =
+        let opened = join (entries f h) O k (openingOf f h) (stopsOf cols) .openings in
+        let l = range-length (mark (entries f h) O k opened) 0 (h .tiles) in
+        rw (take-over (h .tiles) (out .marks) (map (mark (entries f h) O k opened) (range 0 (h .tiles))) l (r .args .marks))
+        (opened-count (entries f h) O k (openingOf f h) (stopsOf cols))
+
+    used-is : (ls : List (List Place)) → walksFor f h cols k .out ≡ accepted ls → lastLength 0 ls ≡ placesUsed (entries f h) k
+    unfolding runFor
+    used-is ls e =
+        let a = cuts-length (entries f h) k (openingOf f h) (queue (entries f h) O k) (stopsOf cols) ls e in
+        let q = stops-length cols in
+        last-of (placesUsed (entries f h) k) 0 ls (omega (arith, r .args .some))
+        (places-used (entries f h) O k lawful (openingOf f h) (opening-checked f h b) (stopsOf cols) (smallest .holds) ls
+        (alike b .outcome ∙ e))
+
+    module _ {out′ : Slices} where
+      pub used-few : {used p : ℕ} → Attempted f h cols k out (accepted used) p out′ → used ≤ maxK
+      unfolding placesUsed
+      used-few {used} t =
+          let a = andThen-accepted (walksFor f h cols k .out) (λ ls. accepted (lastLength 0 ls)) (sym (t .outcome)) in
+          let u : used ≡ placesUsed (entries f h) k = sym (accepted-injective (a .2)) ∙ used-is (a .0) (a .1) in
+          omega (arith, r .args .few-k, u)
+
+      pub run-answers : {used opened p : ℕ} → Attempted f h cols k out (accepted used) p out′
+          → opened ≡ count (λ m. eqb m openedMark) (take (h .tiles) (out′ .marks))
+          → record {
+            outcome = accepted (record { used = used; tiles = h .tiles; opened = opened; pruned = p });
+            slices = out′;
+          } ≡ runEnd f h cols k out
+      unfolding runEnd ended filled
+      run-answers {used} {opened} {p} t o =
+          let a = andThen-accepted (walksFor f h cols k .out) (λ ls. accepted (lastLength 0 ls)) (sym (t .outcome)) in
+          let ls = a .0 in
+          let u : used ≡ placesUsed (entries f h) k = sym (accepted-injective (a .2)) ∙ used-is ls (a .1) in
+          let s : out′ ≡ record {
+            lists = lay (out .lists) 0 (slices k ls);
+            marks = over (out .marks) 0 (marks (entries f h) O k (runFor f h cols k .openings));
+          } = t .answered ls (a .1) ∙ rw marks-are in
+          let c : opened ≡ length (runFor f h cols k .openings) =
+          o ∙ ap (λ (z : Slices). count (λ m. eqb m openedMark) (take (h .tiles) (z .marks))) s ∙ opened-is in
+          let e : runFor f h cols k .outcome ≡ accepted ls = alike b .outcome ∙ a .1 in
+          rw (e, u, c, t .counted, s)
+
+      pub run-refuses : {x y p : ℕ} → Attempted f h cols k out (refused x y) p out′
+          → record { outcome = refused x y; slices = cleared 0 n (h .tiles) out′ } ≡ runEnd f h cols k out
+      unfolding runEnd ended
+      run-refuses {x} {y} t =
+          let w = refused-from (walksFor f h cols k .out) (λ ls. lastLength 0 ls) (t .outcome) in
+          let e : runFor f h cols k .outcome ≡ refused x y = alike b .outcome ∙ w in
+          rw (e, t .under)

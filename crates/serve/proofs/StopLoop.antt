@@ -1,0 +1,212 @@
+-- The loop over the stops: what holds at each turn, and how it starts, goes on and ends.
+use Prim.Native.Nat.{ℕ, suc, _+_, _*_, _-_, _<_, _≤_}
+use mathlib.Core.List.{List, [], _∷_, _++_}
+use mathlib.Core.Path.{_≡_, refl, sym, ap, _∙_}
+use native.Mathlib.Nat.{suc-mul, mul-le-mul-right}
+use native.Mathlib.Numerals.{add-one}
+use native.Mathlib.Omega.{arith}
+use lib.IntN.{ℤ}
+use lib.ListN.{length, replicate, length-replicate}
+use Rattle.base.specs.Refusal.{Outcome, accepted, refused, andThen}
+use Rattle.blocks.specs.declared.header.Header.{Header}
+use Rattle.codec.specs.Over.{over}
+use Rattle.geometry.specs.Around.{rows, points}
+use Rattle.list.specs.Lists.{Slices, lay, cleared}
+use Rattle.plan.specs.FilePlan.{entries, openingOf}
+use Rattle.search.specs.Inner.Walk.{Trace, cutWalks}
+use Rattle.search.specs.Run.{noPlace, inOrder, slices}
+use Rattle.search.specs.declared.Place.{Place}
+use Rattle.stops.specs.Stops.{stopCount, stopAt}
+use Rattle.base.proofs.Outcomes.{andThen-accepted, accepted-injective, accepted-refused}
+use Rattle.list.proofs.Laying.{lay-nil, lay-under, lay-lengths}
+use Rattle.list.proofs.Padding.{Clear, clear-kept, stop-laid}
+use Rattle.search.proofs.Cut.{cuts-end, cuts-refused, cuts-next}
+use Rattle.serve.specs.Inner.Marks.{markAll, OpenedOpen}
+use Rattle.serve.specs.Inner.Serving.{walkOf, walksOf, lastLength, StopServed, StopsServed}
+use Rattle.serve.proofs.Marking.{length-mark-all, mark-all-append}
+
+module _ (f : List ℕ) (h : Header) (order : List ℕ) (cols : List (List ℤ)) (k : ℕ) (o₀ : Slices) where
+  abbrev pub whole : Trace (List (List Place))
+  whole = walksOf f h order cols k
+
+  -- the stops from i on
+  abbrev pub rest : ℕ → Trace (List (List Place))
+  rest i = cutWalks (entries f h) k (openingOf f h) (inOrder (entries f h) order) (rows cols i (stopCount cols - i))
+
+  abbrev pub allPlaces : ℕ
+  allPlaces = stopCount cols * k
+
+  -- what the lists of the stops still to come make of the whole
+  pub record Ends (o : Slices) (at used : ℕ) (ls : List (List Place)) : Type 0 where
+    pub all : List (List Place)
+    pub out : whole .out ≡ accepted all
+    pub laid : lay (o .lists) at (slices k ls) ≡ lay (o₀ .lists) 0 (slices k all)
+    pub last : lastLength used ls ≡ lastLength 0 all
+
+  pub record StopTurn (o : Slices) (i at used : ℕ) : Type 0 where
+    pub bound : i ≤ stopCount cols
+    pub place : at ≡ i * k
+    pub d : length (o .lists .dist) ≡ length (o₀ .lists .dist)
+    pub s : length (o .lists .site) ≡ length (o₀ .lists .site)
+    pub c : length (o .lists .cue) ≡ length (o₀ .lists .cue)
+    pub m : length (o .marks) ≡ length (o₀ .marks)
+    pub clear : Clear (o .lists) at allPlaces
+    pub opens : OpenedOpen f h (o .marks)
+    pub fine : (ls : List (List Place)) → rest i .out ≡ accepted ls → Ends o at used ls
+    pub bad : (a b : ℕ) → rest i .out ≡ refused a b → whole .out ≡ refused a b
+    pub asked : markAll (o₀ .marks) (whole .asked) ≡ markAll (o .marks) (rest i .asked)
+    pub under : cleared 0 allPlaces (h .tiles) o ≡ cleared 0 allPlaces (h .tiles) o₀
+
+  pub turn-starts : Clear (o₀ .lists) 0 allPlaces → OpenedOpen f h (o₀ .marks) → StopTurn o₀ 0 0 0
+  unfolding points
+  turn-starts clear opens = record {
+    bound = omega arith;
+    place = omega arith;
+    d = refl;
+    s = refl;
+    c = refl;
+    m = refl;
+    clear = clear;
+    opens = opens;
+    fine = λ ls e. record { all = ls; out = e; laid = refl; last = refl };
+    bad = λ a b e. e;
+    asked = refl;
+    under = refl;
+  }
+
+  -- what covers a stop's places, over all of them
+  covered : (o o′ : Slices) (at : ℕ) → at + k ≤ allPlaces → cleared at k (h .tiles) o′ ≡ cleared at k (h .tiles) o
+      → cleared 0 allPlaces (h .tiles) o′ ≡ cleared 0 allPlaces (h .tiles) o
+  unfolding cleared
+  covered o o′ at fits e =
+      let zeros = replicate allPlaces noPlace in
+      let few = replicate k noPlace in
+      let a = length-replicate k noPlace in
+      let b = length-replicate allPlaces noPlace in
+      let lists : lay (o′ .lists) 0 zeros ≡ lay (o .lists) 0 zeros =
+      sym (lay-under (o′ .lists) at 0 few zeros (omega arith) (omega arith))
+      ∙ ap (λ (z : Slices). lay (z .lists) 0 zeros) e
+      ∙ lay-under (o .lists) at 0 few zeros (omega arith) (omega arith) in
+      rw (lists, ap (λ (z : Slices). z .marks) e)
+
+  module _ {o : Slices} {i at used : ℕ} (turn : StopTurn o i at used) where
+    -- no stop is left
+    pub turn-ends : stopCount cols ≤ i → StopsServed h whole k allPlaces o₀ (accepted used) o
+    unfolding rows markAll slices
+    turn-ends l = record {
+      outcome = rw (end .out) (ap accepted (end .last));
+      answered = λ ls q. rw (← (accepted-injective (sym (end .out) ∙ q)), ← (end .laid), lay-nil (o .lists) at, marks);
+      under = turn .under;
+    }
+      where
+        none : rest i ≡ record { asked = []; out = accepted [] }
+        none =
+            let e : stopCount cols - i ≡ 0 = omega arith in
+            rw e (cuts-end (entries f h) k (openingOf f h) (inOrder (entries f h) order))
+
+        end : Ends o at used []
+        end = turn .fine [] (ap (λ w. w .out) none)
+
+        marks : markAll (o₀ .marks) (whole .asked) ≡ o .marks
+        marks = turn .asked ∙ ap (λ w. markAll (o .marks) (w .asked)) none
+
+    -- the stop at i
+    module _ (l : i < stopCount cols) {r : Outcome ℕ} {o′ : Slices}
+        (x : StopServed f h (walkOf f h order (stopAt cols i) k) k at o r o′) where
+      abbrev stop : Trace (List Place)
+      stop = walkOf f h order (stopAt cols i) k
+
+      fits : at + k ≤ allPlaces
+      fits =
+          let a = suc-mul i k in
+          let c = mul-le-mul-right {m = suc i} {n = stopCount cols} k l in
+          omega (arith, turn .place)
+
+      stops-are : rows cols i (stopCount cols - i) ≡ stopAt cols i ∷ rows cols (i + 1) (stopCount cols - (i + 1))
+      unfolding rows
+      stops-are = let e : stopCount cols - i ≡ suc (stopCount cols - (i + 1)) = omega arith in rw (e, add-one i)
+
+      -- it is refused
+      pub turn-refused : (a b : ℕ) → r ≡ refused a b → StopsServed h whole k allPlaces o₀ (refused a b) o′
+      turn-refused a b e =
+          let q : stop .out ≡ refused a b = lengths (stop .out) (sym (x .outcome) ∙ e) in
+          let w : whole .out ≡ refused a b = turn .bad a b (rw stops-are
+          (cuts-refused (entries f h) k (openingOf f h) (inOrder (entries f h) order) (stopAt cols i) _ a b q)) in
+          record {
+            outcome = rw w;
+            answered = λ ls z. accepted-refused z w;
+            under = covered o o′ at fits (x .under) ∙ turn .under;
+          }
+        where
+          lengths : (z : Outcome (List Place)) → andThen z (λ l. accepted (length l)) ≡ refused a b → z ≡ refused a b
+          lengths (accepted l) w = accepted-refused refl w
+          lengths (refused n p) w = cc
+
+      -- it is served
+      module _ (n : ℕ) (e : r ≡ accepted n) where
+        found : (l : List Place) × (stop .out ≡ accepted l) × (_≡_ {A = Outcome ℕ} (accepted (length l)) (accepted n))
+        found = andThen-accepted (stop .out) (λ l. accepted (length l)) (sym (x .outcome) ∙ e)
+
+        list : List Place
+        list = found .0
+
+        came : stop .out ≡ accepted list
+        unfolding list
+        came = found .1
+
+        few : length list ≤ k
+        few = x .few list came
+
+        number : length list ≡ n
+        unfolding list
+        number = accepted-injective (found .2)
+
+        lists-are : o′ .lists ≡ lay (o .lists) at list
+        lists-are = ap (λ z. z .lists) (x .answered list came)
+
+        marks-are : o′ .marks ≡ markAll (o .marks) (stop .asked)
+        marks-are = ap (λ z. z .marks) (x .answered list came)
+
+        rest-is : rest i ≡ record {
+          asked = stop .asked ++ rest (i + 1) .asked;
+          out = andThen (rest (i + 1) .out) (λ ls. accepted (list ∷ ls));
+        }
+        rest-is = rw stops-are
+            (cuts-next (entries f h) k (openingOf f h) (inOrder (entries f h) order) (stopAt cols i) _ list came)
+
+        fine : (ls : List (List Place)) → rest (i + 1) .out ≡ accepted ls → Ends o′ (at + k) n ls
+        fine ls z =
+            let p = turn .fine (list ∷ ls) (ap (λ w. w .out) rest-is ∙ rw z) in
+            let w = fits in
+            record {
+              all = p .all;
+              out = p .out;
+              laid = ap (λ y. lay y (at + k) (slices k ls)) lists-are
+                  ∙ stop-laid k (o .lists) at list (λ j a b. turn .clear j a (omega arith)) few ls ∙ p .laid;
+              last = ap (λ (y : ℕ). lastLength y ls) (sym number) ∙ p .last;
+            }
+
+        pub turn-next : StopTurn o′ (i + 1) (at + k) n
+        turn-next =
+            let q = lay-lengths (o .lists) at list in
+            let u = suc-mul i k in
+            let v : (i + 1) * k ≡ suc i * k = ap (λ (j : ℕ). j * k) (add-one i) in
+            let w = fits in
+            let s = few in
+            record {
+              bound = omega arith;
+              place = omega (arith, turn .place);
+              d = ap (λ z. length (z .dist)) lists-are ∙ q .0 ∙ turn .d;
+              s = ap (λ z. length (z .site)) lists-are ∙ q .1 .0 ∙ turn .s;
+              c = ap (λ z. length (z .cue)) lists-are ∙ q .1 .1 ∙ turn .c;
+              m = ap length marks-are ∙ length-mark-all (o .marks) (stop .asked) ∙ turn .m;
+              clear = rw lists-are
+                  (clear-kept (o .lists) at list at (at + k) allPlaces (omega arith) (omega arith) (turn .clear));
+              opens = x .opens list came;
+              fine = fine;
+              bad = λ a b z. turn .bad a b (ap (λ w. w .out) rest-is ∙ rw z);
+              asked = turn .asked ∙ ap (λ w. markAll (o .marks) (w .asked)) rest-is
+                  ∙ mark-all-append (o .marks) (stop .asked) (rest (i + 1) .asked)
+                  ∙ ap (λ z. markAll z (rest (i + 1) .asked)) (sym marks-are);
+              under = covered o o′ at fits (x .under) ∙ turn .under;
+            }

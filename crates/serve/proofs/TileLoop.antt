@@ -1,0 +1,197 @@
+-- The loop over the tiles of one stop: what holds at each turn, and how it starts, goes on and ends.
+use Prim.Native.Nat.{ℕ, _+_, _<_, _≤_}
+use mathlib.Core.Bool.{true, false}
+use mathlib.Core.List.{List, [], _∷_}
+use mathlib.Core.Path.{_≡_, refl, sym, ap, _∙_}
+use native.Mathlib.Omega.{arith}
+use lib.Dec.{eqb}
+use lib.ListN.{length, getD, set, replicate, length-set, length-replicate}
+use lib.Seq.{getD-set-other}
+use borrow.Author.Tests.{eqb-true, eqb-false}
+use Rattle.base.specs.Refusal.{Outcome, accepted, refused}
+use Rattle.blocks.specs.declared.header.Header.{Header}
+use Rattle.codec.specs.Over.{over}
+use Rattle.codec.specs.Tabulate.{tabulate}
+use Rattle.list.specs.Inner.Keeping.{places, Adds, Ready}
+use Rattle.list.specs.Lists.{Slices, lay, cleared}
+use Rattle.places.specs.declared.tile.Target.{Target}
+use Rattle.plan.specs.FilePlan.{plane, entries, openingOf}
+use Rattle.queue.specs.Inner.Keys.{none, Keyed, IsLeast, living}
+use Rattle.queue.specs.declared.keys.Least.{Least}
+use Rattle.search.specs.Inner.Cut.{lastAhead}
+use Rattle.search.specs.Inner.Walk.{Trace, cutWalk}
+use Rattle.search.specs.Plan.{near}
+use Rattle.search.specs.Run.{noPlace, inOrder, tilePlaces, openedMark}
+use Rattle.search.specs.declared.Place.{Place}
+use Rattle.tiles.specs.declared.tile.Site.{Site}
+use Rattle.base.proofs.Outcomes.{accepted-injective, accepted-refused}
+use Rattle.base.proofs.Tests.{by-test}
+use Rattle.codec.proofs.Over.{over-set}
+use Rattle.list.proofs.Added.{added-list, added-ready, added-laid}
+use Rattle.list.proofs.Laying.{places-length, lay-self, lay-under}
+use Rattle.plan.proofs.Theorems.{opens-own-town}
+use Rattle.queue.proofs.Waiting.{living-start, living-none, living-next, keyed-next, living-fewer}
+use Rattle.search.proofs.Cut.{cut-full, cut-refused, cut-opens, cut-end}
+use Rattle.serve.specs.Inner.Marks.{markAll, OpenedOpen}
+use Rattle.serve.specs.Inner.Serving.{walkOf, withSites, afterTile, StopReady, StopServed}
+
+module _ (f : List ℕ) (h : Header) (order : List ℕ) (g : Target) (o₀ : Slices) where
+  -- the whole walk, and what is left of it
+  abbrev pub whole : Trace (List Place)
+  whole = walkOf f h order (g .stop) (g .k)
+
+  abbrev pub rest : List ℕ → List Place → Trace (List Place)
+  rest keys l =
+      cutWalk (entries f h) (g .k) (openingOf f h) (g .stop) (inOrder (entries f h) (living order keys) (g .stop)) l
+
+  -- the list as the slices hold it
+  abbrev found : Slices → ℕ → List Place
+  found o used = places (o .lists) (g .at) used
+
+  pub record TileTurn (keys : List ℕ) (o : Slices) (used : ℕ) : Type 0 where
+    pub ready : Ready (o .lists) (g .at) used (g .k)
+    pub laid : o .lists ≡ lay (o₀ .lists) (g .at) (found o used)
+    pub keyed : Keyed order (near (entries f h) (g .stop)) keys
+    pub opens : OpenedOpen f h (o .marks)
+    pub long : length (o .marks) ≡ length (o₀ .marks)
+    pub out : whole .out ≡ rest keys (found o used) .out
+    pub asked : markAll (o₀ .marks) (whole .asked) ≡ markAll (o .marks) (rest keys (found o used) .asked)
+    pub under : over (o .marks) 0 (replicate (h .tiles) 0) ≡ over (o₀ .marks) 0 (replicate (h .tiles) 0)
+
+  module _ {keys : List ℕ} {o : Slices} {used : ℕ} (turn : TileTurn keys o used) where
+    -- the stop's places cover what was written
+    covered : cleared (g .at) (g .k) (h .tiles) o ≡ cleared (g .at) (g .k) (h .tiles) o₀
+    unfolding cleared
+    covered =
+        let n = places-length (o .lists) (g .at) used in
+        let m = length-replicate (g .k) noPlace in
+        let zeros = replicate (g .k) noPlace in
+        let few = turn .ready .few in
+        let lists : lay (o .lists) (g .at) zeros ≡ lay (o₀ .lists) (g .at) zeros =
+        ap (λ z. lay z (g .at) zeros) (turn .laid)
+        ∙ lay-under (o₀ .lists) (g .at) (g .at) (found o used) zeros (omega arith) (omega arith) in
+        rw (lists, turn .under)
+
+    -- the walk ends here, with this list
+    turn-ends : rest keys (found o used) ≡ record { asked = []; out = accepted (found o used) }
+        → StopServed f h whole (g .k) (g .at) o₀ (accepted used) o
+    unfolding markAll
+    turn-ends e =
+        let n = places-length (o .lists) (g .at) used in
+        let answer : whole .out ≡ accepted (found o used) = turn .out ∙ ap (λ w. w .out) e in
+        let same : (l : List Place) → whole .out ≡ accepted l → found o used ≡ l =
+        λ l q. accepted-injective (sym answer ∙ q) in
+        let marks : markAll (o₀ .marks) (whole .asked) ≡ o .marks = turn .asked ∙ ap (λ w. markAll (o .marks) (w .asked)) e in
+        record {
+          outcome = rw answer (ap accepted (sym n));
+          few = λ l q. rw (← (same l q)) (omega (arith, turn .ready .few));
+          answered = λ l q. rw (← (same l q), marks, ← (turn .laid));
+          opens = λ l q. turn .opens;
+          under = covered;
+        }
+
+    -- the next key
+    module _ (r : Least) (s : IsLeast keys (length order) r) where
+      -- no tile waits
+      pub turn-none : none ≤ r .key → StopServed f h whole (g .k) (g .at) o₀ (accepted used) o
+      turn-none e = turn-ends (rw (living-none (entries f h) (g .stop) order keys r s e)
+          (cut-end (entries f h) (g .k) (openingOf f h) (g .stop) (found o used)))
+
+      module _ (below : r .key < none) where
+        abbrev tile : ℕ
+        tile = getD order (r .at) 0
+
+        abbrev others : List ℕ
+        others = inOrder (entries f h) (living order (set keys (r .at) none)) (g .stop)
+
+        key-is : r .key ≡ near (entries f h) (g .stop) tile
+        key-is = let a = s .here below in sym (a .1) ∙ turn .keyed .key (r .at) (a .0) (rw (a .1) below)
+
+        waits : inOrder (entries f h) (living order keys) (g .stop) ≡ tile ∷ others
+        waits = living-next (entries f h) (g .stop) order keys (turn .keyed) r s below
+
+        -- the list is full ahead of the next key
+        pub turn-full : lastAhead (g .k) (found o used) (r .key) tile ≡ true
+            → StopServed f h whole (g .k) (g .at) o₀ (accepted used) o
+        turn-full e = turn-ends (rw waits
+            (cut-full (entries f h) (g .k) (openingOf f h) (g .stop) tile others (found o used) (rw (← key-is) e)))
+
+        module _ (free : lastAhead (g .k) (found o used) (r .key) tile ≡ false) where
+          not-full : lastAhead (g .k) (found o used) (near (entries f h) (g .stop) tile) tile ≡ false
+          not-full = rw (← key-is) free
+
+          -- its opening is refused
+          pub turn-refused : (n b : ℕ) → openingOf f h tile ≡ refused n b
+              → StopServed f h whole (g .k) (g .at) o₀ (refused n b) o
+          turn-refused n b e =
+              let q : whole .out ≡ refused n b = turn .out ∙ rw waits
+              (ap (λ w. w .out)
+              (cut-refused (entries f h) (g .k) (openingOf f h) (g .stop) tile others (found o used) n b not-full e)) in
+              record {
+                outcome = rw q;
+                few = λ l w. accepted-refused w q;
+                answered = λ l w. accepted-refused w q;
+                opens = λ l w. accepted-refused w q;
+                under = covered;
+              }
+
+          -- it opens, and the walk goes on
+          module _ (l : List Site) (e : openingOf f h tile ≡ accepted l) (tiles : tile < h .tiles)
+              (marks : h .tiles ≤ length (o .marks)) {n : ℕ} (number : n ≡ length (withSites tile g used l (o .lists))) where
+            abbrev next : Slices
+            next = afterTile tile g used (accepted l) o
+
+            added : Adds (o .lists) (g .at) used (g .k) (tilePlaces plane (g .stop) tile l) n (next .lists)
+            added = record { number = number; laid = refl }
+
+            list-is : found next n ≡ withSites tile g used l (o .lists)
+            list-is = added-list (turn .ready) added
+
+            walk-is : rest keys (found o used) ≡ record {
+              asked = tile ∷ rest (set keys (r .at) none) (found next n) .asked;
+              out = rest (set keys (r .at) none) (found next n) .out;
+            }
+            walk-is = rw (waits, list-is)
+                (cut-opens (entries f h) (g .k) (openingOf f h) (g .stop) tile others (found o used) l not-full e)
+
+            opens-next : OpenedOpen f h (set (o .marks) tile openedMark)
+            opens-next t i q = by-test (eqb t tile)
+                (λ z. rw (eqb-true t tile z, ← (opens-own-town f h tile e)) e)
+                (λ z. turn .opens t i (sym (getD-set-other (o .marks) tile t openedMark 0 (eqb-false t tile z)) ∙ q))
+
+            pub turn-next : TileTurn (set keys (r .at) none) next n
+            unfolding markAll
+            turn-next =
+                let z = length-replicate {A = ℕ} (h .tiles) 0 in
+                record {
+                  ready = added-ready (turn .ready) added;
+                  laid = added-laid (turn .ready) added (o₀ .lists) (turn .laid);
+                  keyed = keyed-next order (near (entries f h) (g .stop)) keys (turn .keyed) r s below;
+                  opens = opens-next;
+                  long = length-set (o .marks) tile openedMark ∙ turn .long;
+                  out = turn .out ∙ ap (λ w. w .out) walk-is;
+                  asked = turn .asked ∙ ap (λ w. markAll (o .marks) (w .asked)) walk-is;
+                  under = over-set (o .marks) tile 0 openedMark (replicate (h .tiles) 0) (omega arith) (omega arith)
+                      ∙ turn .under;
+                }
+
+            pub turn-fewer : length (living order (set keys (r .at) none)) < length (living order keys)
+            turn-fewer = living-fewer order (near (entries f h) (g .stop)) keys (turn .keyed) r s below
+
+  -- at the start: all tiles wait, with their keys
+  pub turn-starts : {keys : List ℕ} → Ready (o₀ .lists) (g .at) 0 (g .k) → Keyed order (near (entries f h) (g .stop)) keys
+      → living order keys ≡ order → OpenedOpen f h (o₀ .marks) → TileTurn keys o₀ 0
+  unfolding places tabulate
+  turn-starts {keys} ready keyed all opens =
+      let w : rest keys [] ≡ whole =
+      ap (λ z. cutWalk (entries f h) (g .k) (openingOf f h) (g .stop) (inOrder (entries f h) z (g .stop)) []) all in
+      record {
+        ready = ready;
+        laid = sym (lay-self (o₀ .lists) (g .at) 0);
+        keyed = keyed;
+        opens = opens;
+        long = refl;
+        out = ap (λ z. z .out) (sym w);
+        asked = ap (λ z. markAll (o₀ .marks) (z .asked)) (sym w);
+        under = refl;
+      }

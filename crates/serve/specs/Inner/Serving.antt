@@ -1,0 +1,111 @@
+-- What the calls that serve stops ask and leave.
+--
+--   servingOutcome           of a call that answers the number of places used
+--   TileReady, afterTile     before and after a tile is taken for a stop
+--   StopReady, StopServed    before and after a stop is served
+--   StopsReady, StopsServed  before and after all stops are served
+use Prim.Native.Nat.{ℕ, _*_, _<_, _≤_}
+use mathlib.Core.Bool.{true}
+use mathlib.Core.List.{List, [], _∷_}
+use mathlib.Core.Path.{_≡_}
+use lib.IntN.{ℤ}
+use lib.ListN.{length, getD, set}
+use Rattle.base.specs.Lists.{All}
+use Rattle.base.specs.Refusal.{Outcome, accepted, refused, andThen}
+use Rattle.blocks.specs.Directory.{directory}
+use Rattle.blocks.specs.declared.header.Header.{Header}
+use Rattle.list.specs.Inner.Keeping.{places, Long, Ready}
+use Rattle.list.specs.Lists.{Lists, Slices, placeAt, lay, cleared}
+use Rattle.places.specs.declared.tile.Target.{Target}
+use Rattle.plan.specs.FilePlan.{plane, entries, openingOf}
+use Rattle.plan.specs.Inner.Seam.{TileOf, ValidStop}
+use Rattle.queue.specs.Inner.Keys.{Rising}
+use Rattle.search.specs.Inner.Cut.{inserts}
+use Rattle.search.specs.Inner.Walk.{Trace, cutWalk, cutWalks}
+use Rattle.search.specs.Limits.{maxPlaces}
+use Rattle.search.specs.Run.{noPlace, rank, tilePlaces, inOrder, slices, openedMark}
+use Rattle.search.specs.declared.Place.{Place}
+use Rattle.stops.specs.Stops.{stopCount, stopsOf, validStop}
+use Rattle.tiles.specs.declared.tile.Site.{Site}
+use Rattle.serve.specs.Inner.Marks.{markAll, OpenedOpen}
+use Rattle.serve.specs.declared.serving.Serving.{Serving}
+use Rattle.serve.specs.declared.serving.Serving.the-variants.{Served, Refused}
+
+abbrev pub servingOutcome : Serving → Outcome ℕ
+servingOutcome (Served n) = accepted n
+servingOutcome (Refused r) = refused (r .number) (r .block)
+
+-- ---- a tile
+
+pub record TileReady (f : List ℕ) (h : Header) (t : ℕ) (g : Target) (used : ℕ) (o : Slices) : Type 0 where
+  pub tile : TileOf f h t
+  pub stop : ValidStop (g .stop)
+  pub list : Ready (o .lists) (g .at) used (g .k)
+  pub marks : h .tiles ≤ length (o .marks)
+  pub opens : OpenedOpen f h (o .marks)
+
+module _ (t : ℕ) (g : Target) (used : ℕ) where
+  -- the list with the tile's sites put in
+  abbrev pub withSites : List Site → Lists → List Place
+  withSites l o = inserts rank (g .k) (tilePlaces plane (g .stop) t l) (places o (g .at) used)
+
+  -- opened, with its sites in the list; or refused, with nothing changed
+  abbrev pub afterTile : Outcome (List Site) → Slices → Slices
+  afterTile (accepted l) o = record {
+    lists = lay (o .lists) (g .at) (withSites l (o .lists));
+    marks = set (o .marks) t openedMark;
+  }
+  afterTile (refused number block) o = o
+
+-- ---- a stop
+
+-- the walk of the stop over the waiting tiles
+abbrev pub walkOf : List ℕ → Header → List ℕ → List ℤ → ℕ → Trace (List Place)
+walkOf f h order p k = cutWalk (entries f h) k (openingOf f h) p (inOrder (entries f h) order p) []
+
+pub record StopReady (f : List ℕ) (h : Header) (order : List ℕ) (g : Target) (keys : List ℕ) (o : Slices) : Type 0 where
+  pub dir : directory f ≡ accepted h
+  pub rising : Rising (h .tiles) order
+  pub stop : ValidStop (g .stop)
+  pub list : Ready (o .lists) (g .at) 0 (g .k)
+  pub keys : length order ≤ length keys
+  pub marks : h .tiles ≤ length (o .marks)
+  pub opens : OpenedOpen f h (o .marks)
+
+-- the list from its index on and the marks; or refused, with changes among the stop's places and the marks only
+pub record StopServed (f : List ℕ) (h : Header) (w : Trace (List Place)) (k at : ℕ) (o : Slices) (r : Outcome ℕ) (o′ : Slices) : Type 0 where
+  pub outcome : r ≡ andThen (w .out) (λ l. accepted (length l))
+  pub few : (l : List Place) → w .out ≡ accepted l → length l ≤ k
+  pub answered : (l : List Place) → w .out ≡ accepted l
+      → o′ ≡ record { lists = lay (o .lists) at l; marks = markAll (o .marks) (w .asked) }
+  pub opens : (l : List Place) → w .out ≡ accepted l → OpenedOpen f h (o′ .marks)
+  pub under : cleared at k (h .tiles) o′ ≡ cleared at k (h .tiles) o
+
+-- ---- all stops
+
+pub record StopsReady (f : List ℕ) (h : Header) (cols : List (List ℤ)) (k : ℕ) (o : Slices) : Type 0 where
+  pub dir : directory f ≡ accepted h
+  pub same : All (λ c. length c ≡ stopCount cols) cols
+  pub valid : (i : ℕ) → i < stopCount cols → validStop cols i ≡ true
+  pub some : 0 < k
+  pub few : stopCount cols * k ≤ maxPlaces
+  pub long : Long (o .lists) (stopCount cols * k)
+  pub clear : (i : ℕ) → 0 ≤ i → i < stopCount cols * k → placeAt (o .lists) i ≡ noPlace
+  pub marks : h .tiles ≤ length (o .marks)
+  pub opens : OpenedOpen f h (o .marks)
+
+-- the walks of all stops over the waiting tiles
+abbrev pub walksOf : List ℕ → Header → List ℕ → List (List ℤ) → ℕ → Trace (List (List Place))
+walksOf f h order cols k = cutWalks (entries f h) k (openingOf f h) (inOrder (entries f h) order) (stopsOf cols)
+
+-- the length of the last list, or n if there is none
+abbrev pub lastLength : ℕ → List (List Place) → ℕ
+lastLength n [] = n
+lastLength n (l ∷ ls) = lastLength (length l) ls
+
+-- all lists and the marks; or refused, with changes among n places and T marks only
+pub record StopsServed (h : Header) (w : Trace (List (List Place))) (k n : ℕ) (o : Slices) (r : Outcome ℕ) (o′ : Slices) : Type 0 where
+  pub outcome : r ≡ andThen (w .out) (λ ls. accepted (lastLength 0 ls))
+  pub answered : (ls : List (List Place)) → w .out ≡ accepted ls
+      → o′ ≡ record { lists = lay (o .lists) 0 (slices k ls); marks = markAll (o .marks) (w .asked) }
+  pub under : cleared 0 n (h .tiles) o′ ≡ cleared 0 n (h .tiles) o
