@@ -1,4 +1,1 @@
-pub mod Clearing
 pub mod Adding
-pub mod Serving
-pub mod Theorems

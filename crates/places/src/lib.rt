@@ -1,3 +1,2 @@
-// The sites of a tile put into the list of a stop, and slices set to zero.
-pub mod clear;
+// The sites of a tile put into the list of a stop.
 pub mod tile;

@@ -1,4 +1,4 @@
--- Tiles measured from the corners of a region, and the bound on near.
+-- Tiles measured from the corners of a region, the bound on near, and how many tiles there are.
 use Prim.Native.Nat.{ℕ, _<_, _≤_}
 use mathlib.Core.Path.{_≡_, _∙_, sym}
 use native.Mathlib.Omega.{arith}
@@ -9,9 +9,11 @@ use lib.ListN.{length}
 use Rattle.base.specs.Every.{every}
 use Rattle.base.specs.Refusal.{accepted}
 use Rattle.blocks.specs.Directory.{directory, boxAt}
+use Rattle.blocks.specs.Layout.{maxTiles}
 use Rattle.blocks.specs.declared.header.Header.{Header}
 use Rattle.geometry.specs.Margin.{closer}
 use Rattle.search.specs.Plan.{near}
+use Rattle.blocks.proofs.DirectoryLaws.{directory-good}
 use Rattle.blocks.proofs.Theorems.{entry-of-accepted}
 use Rattle.geometry.proofs.Theorems.{closer-corners, min-at-most-max, max-dist-bounded}
 use Rattle.plan.specs.FilePlan.{entries}
@@ -35,3 +37,6 @@ module _ (f : List ℕ) (h : Header) (dir : directory f ≡ accepted h) where
       let valid = entry-of-accepted f h t dir l .0 in
       let m = min-at-most-max (boxAt f t) p valid (v .valid) same in
       omega (arith, rw (v .axes) at (max-dist-bounded (boxAt f t) p valid (v .valid) same))
+
+  pub tiles-few : h .tiles ≤ maxTiles
+  tiles-few = directory-good f dir .tiles .most

@@ -1,12 +1,12 @@
-use Prim.Native.Nat.{_-_, _<_, _≤_}
+use Prim.Native.Nat.{ℕ, _-_, _<_, _≤_}
 use mathlib.Core.Path.{_≡_, ap}
 use native.Mathlib.Omega.{arith}
 use borrow.Author.Needs.{needs}
-use Rattle.geometry.specs.Distance.{D}
+use Rattle.plan.specs.FilePlan.{plane}
 use Rattle.search.specs.declared.Place.{Place}
-use Rattle.tiles.specs.Tile.{sitePoint, siteIn}
+use Rattle.tiles.specs.Tile.{siteIn}
 use Rattle.search.proofs.Lists.{up-to-next}
-use Rattle.places.specs.Places.{Farther}
+use Rattle.places.specs.Inner.Adding.{Farther}
 use Rattle.places.proofs.tile.next_within.Statement.{statement}
 use Rattle.places.proofs.tile.next_within.Tie as tie
 
@@ -18,16 +18,13 @@ abbrev μ-loop : tie.MeasureT-loop
 μ-loop s n from p bound i₀ i = n - i
 
 loop-holds : tie.Need-loop-holds Inv-loop μ-loop
-loop-holds c = let s = c .before in (omega arith, s .pre .1, λ slot l u. absurd (omega arith))
+loop-holds c = let s : tie.Start Inv-loop μ-loop = search in (omega arith, s .pre .1, λ slot l u. absurd (omega arith))
 
 place-in-requires : tie.Need-place-in-requires Inv-loop μ-loop
-place-in-requires c κs =
-    let s = c .before .before .before in
-    let b = s .pre .0 in
-    (omega (arith, b .few), b .whole, s .pre .2, b .valid (c .before .loop .i) (c .loop-test .taken))
+place-in-requires c κs = search needs
 
 returns : tie.Need-returns Inv-loop μ-loop
-returns c = c .before .before .before .before .loop .inv
+returns c = let l : tie.At-loop Inv-loop μ-loop = search in l .loop .inv
 
 add-i : tie.Need-add-i Inv-loop μ-loop
 add-i c = search needs
@@ -37,17 +34,20 @@ loop-less c = search needs
 
 loop-again : tie.Need-loop-again Inv-loop μ-loop
 loop-again c =
-    let s = c .before .before .before .before .before .before in
-    let l = c .before .before .before .before .loop in
-    let x = c .before .before .place-in in
-    let d : x .result .dist ≡ D (s .args .p) (sitePoint (siteIn (s .args .s .now) (l .i))) = ap (λ (z : Place). z .dist) (x .ensures) in (
-      omega (arith, l .inv .0),
+    let s : tie.Start Inv-loop μ-loop = search in
+    let l : tie.At-loop Inv-loop μ-loop = search in
+    let x : tie.After-place-in Inv-loop μ-loop = search in
+    let a = s .args in
+    let i = l .loop .i in
+    let D : ℕ → ℕ = λ slot. plane .D (a .p) (siteIn (a .s .now) slot) in
+    let d : x .place-in .result .dist ≡ D i = ap (λ (z : Place). z .dist) (x .place-in .ensures) in (
+      omega (arith, l .loop .inv .0),
       omega arith,
-      up-to-next (λ slot. s .args .bound < D (s .args .p) (sitePoint (siteIn (s .args .s .now) slot))) (s .args .from) (l .i) (l .inv .2) (omega (arith, d)),
+      up-to-next (λ slot. a .bound < D slot) (a .from) i (l .loop .inv .2) (omega (arith, d)),
     )
 
 returns-2 : tie.Need-returns-2 Inv-loop μ-loop
-returns-2 c = c .before .loop .inv
+returns-2 c = let l : tie.At-loop Inv-loop μ-loop = search in l .loop .inv
 
 pub next-within-spec : {M : Type 1} → statement M
 next-within-spec =
