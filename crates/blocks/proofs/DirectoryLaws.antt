@@ -17,7 +17,7 @@ use Rattle.blocks.specs.Block.{blockAt, entriesIn, headerIn, blockHead}
 use Rattle.blocks.specs.Directory.{directoryBlocks, entriesDue, entryBox, entryCount, tilesDue, entryValid}
 use Rattle.blocks.specs.Directory.{directoryBlock, directoryBlockAt, lengthDue, directoryRest, directory, boxAt}
 use Rattle.blocks.specs.Directory.{countAt}
-use Rattle.blocks.specs.Layout.{blockSize, maxLength, directoryKind, entriesPerBlock, maxSites, maxTiles}
+use Rattle.blocks.specs.Layout.{axes, blockSize, maxLength, directoryKind, entriesPerBlock, maxSites, maxTiles}
 use Rattle.blocks.specs.Outcome.{inTurn}
 use Rattle.blocks.specs.declared.header.Header.{Header}
 use Rattle.blocks.proofs.BlockLaws.{head-good, head-enough}
@@ -58,13 +58,13 @@ length-enough n g = rw (le-leb 1 n (g .least), eq-eqb (n % blockSize) 0 (g .whol
 
 -- ---- a directory block
 module _ (s : List ℕ) (p : ℕ) where
-  entry-good : (i : ℕ) → entryValid s i ≡ true → (validBox (entryBox s i) ≡ true) × (entryCount s i ≤ maxSites)
+  entry-good : (i : ℕ) → entryValid s i ≡ true → (validBox (entryBox s i) ≡ true) × (entryCount s i ≤ maxSites axes)
   unfolding entryValid
-  entry-good i e = let h = and-both _ _ e in (h .0, leb-true (entryCount s i) maxSites (h .1))
+  entry-good i e = let h = and-both _ _ e in (h .0, leb-true (entryCount s i) (maxSites axes) (h .1))
 
-  entry-enough : (i : ℕ) → validBox (entryBox s i) ≡ true → entryCount s i ≤ maxSites → entryValid s i ≡ true
+  entry-enough : (i : ℕ) → validBox (entryBox s i) ≡ true → entryCount s i ≤ maxSites axes → entryValid s i ≡ true
   unfolding entryValid
-  entry-enough i b c = rw (b, le-leb (entryCount s i) maxSites c)
+  entry-enough i b c = rw (b, le-leb (entryCount s i) (maxSites axes) c)
 
   pub block-good : (first : Header) (blocks : ℕ) {h : Header} → directoryBlock s p first blocks ≡ accepted h → (h ≡ first)
       × GoodTiles h blocks × GoodDirectoryBlock s p h
@@ -78,7 +78,7 @@ module _ (s : List ℕ) (p : ℕ) where
       let q : headerIn s ≡ h = accepted-injective (d .1) in
       let n = entriesDue (headerIn s) p in
       let w = tiles-good (headerIn s) first blocks (a .0) in
-      let v : (i : ℕ) → i < n → (validBox (entryBox s i) ≡ true) × (entryCount s i ≤ maxSites) =
+      let v : (i : ℕ) → i < n → (validBox (entryBox s i) ≡ true) × (entryCount s i ≤ maxSites axes) =
       λ i l. entry-good i (every-at (entryValid s) n i (d .0) l) in
       let g : GoodDirectoryBlock s p (headerIn s) = record {
         head = head-good directoryKind s p (k .1);
@@ -111,11 +111,11 @@ module _ (h : Header) where
   unfolding directoryBlocks
   some-block l = omega arith
 
-  pub entry-block : (t : ℕ) → t < h .tiles → t / entriesPerBlock < directoryBlocks h
+  pub entry-block : (t : ℕ) → t < h .tiles → t / entriesPerBlock axes < directoryBlocks h
   unfolding directoryBlocks
   entry-block t l = omega arith
 
-  pub entry-due : (t : ℕ) → t < h .tiles → t % entriesPerBlock < entriesDue h (t / entriesPerBlock)
+  pub entry-due : (t : ℕ) → t < h .tiles → t % entriesPerBlock axes < entriesDue h (t / entriesPerBlock axes)
   unfolding entriesDue
   entry-due t l = omega arith
 
@@ -185,8 +185,8 @@ module _ {f : List ℕ} {h : Header} (g : GoodDirectory f h) where
   module _ (t : ℕ) (l : t < h .tiles) where
     pub box-valid : validBox (boxAt f t) ≡ true
     unfolding boxAt
-    box-valid = g .blocks (t / entriesPerBlock) (entry-block h t l) .boxes (t % entriesPerBlock) (entry-due h t l)
+    box-valid = g .blocks (t / entriesPerBlock axes) (entry-block h t l) .boxes (t % entriesPerBlock axes) (entry-due h t l)
 
-    pub count-small : countAt f t ≤ maxSites
+    pub count-small : countAt f t ≤ maxSites axes
     unfolding countAt
-    count-small = g .blocks (t / entriesPerBlock) (entry-block h t l) .counts (t % entriesPerBlock) (entry-due h t l)
+    count-small = g .blocks (t / entriesPerBlock axes) (entry-block h t l) .counts (t % entriesPerBlock axes) (entry-due h t l)

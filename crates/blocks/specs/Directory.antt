@@ -10,22 +10,22 @@ use Rattle.codec.specs.Every.{every, zeros}
 use Rattle.codec.specs.Number.{u16At, i32At}
 use Rattle.geometry.specs.Box.{validBox}
 use Rattle.blocks.specs.Block.{blockAt, headerIn, entriesIn, blockHead}
-use Rattle.blocks.specs.Layout.{blockSize, maxLength, directoryKind, reservedAt, payloadAt, checkAt, entrySize}
+use Rattle.blocks.specs.Layout.{axes, blockSize, maxLength, directoryKind, reservedAt, payloadAt, checkAt, entrySize}
 use Rattle.blocks.specs.Layout.{countOffset, zeroOffset, entriesPerBlock, maxSites, maxTiles}
 use Rattle.blocks.specs.Outcome.{inTurn}
 use Rattle.blocks.specs.declared.header.Header.{Header}
 
 -- "d = T/24 rounded up"
 unfoldable pub directoryBlocks : Header → ℕ
-directoryBlocks h = (h .tiles + (entriesPerBlock - 1)) / entriesPerBlock
+directoryBlocks h = (h .tiles + (entriesPerBlock axes - 1)) / entriesPerBlock axes
 
 -- "Each directory block but the last has 24 entries": in the last what is left of T
 unfoldable pub entriesDue : Header → ℕ → ℕ
-entriesDue h p = min entriesPerBlock (h .tiles - entriesPerBlock * p)
+entriesDue h p = min (entriesPerBlock axes) (h .tiles - entriesPerBlock axes * p)
 
 -- where entry i of a block stands
 unfoldable pub entryOffset : ℕ → ℕ
-entryOffset i = payloadAt + entrySize * i
+entryOffset i = payloadAt + entrySize axes * i
 
 -- "low x, low y, high x, high y (signed, 4 bytes each), count (2), zero (2)"; a box has its ends by axis
 unfoldable pub entryBox : List ℕ → ℕ → List (List ℤ)
@@ -34,10 +34,10 @@ entryBox s i =
     (i32At s (entryOffset i + 4) ∷ i32At s (entryOffset i + 12) ∷ []) ∷ []
 
 unfoldable pub entryCount : List ℕ → ℕ → ℕ
-entryCount s i = u16At s (entryOffset i + countOffset)
+entryCount s i = u16At s (entryOffset i + countOffset axes)
 
 unfoldable pub entryZero : List ℕ → ℕ → Bool
-entryZero s i = zeros s (entryOffset i + zeroOffset) (entryOffset i + entrySize)
+entryZero s i = zeros s (entryOffset i + zeroOffset axes) (entryOffset i + entrySize axes)
 
 -- 6: "T is 0, over 960, unlike block 0, or d + T is not the file's blocks"
 unfoldable pub tilesDue : Header → Header → ℕ → Bool
@@ -52,7 +52,7 @@ directoryPadding s n = (zeros s reservedAt payloadAt && every (entryZero s) n) &
 
 -- 9: "coordinate beyond limits, low above high, or count over 40"; the writer's test too
 abbrev pub validEntry : List (List ℤ) → ℕ → Bool
-validEntry bounds count = validBox bounds && leb count maxSites
+validEntry bounds count = validBox bounds && leb count (maxSites axes)
 
 unfoldable pub entryValid : List ℕ → ℕ → Bool
 entryValid s i = validEntry (entryBox s i) (entryCount s i)
@@ -88,7 +88,7 @@ directory f =
 
 -- box and count of tile t, which are those of entry t % 24 of directory block t / 24
 unfoldable pub boxAt : List ℕ → ℕ → List (List ℤ)
-boxAt f t = entryBox (blockAt f (t / entriesPerBlock)) (t % entriesPerBlock)
+boxAt f t = entryBox (blockAt f (t / entriesPerBlock axes)) (t % entriesPerBlock axes)
 
 unfoldable pub countAt : List ℕ → ℕ → ℕ
-countAt f t = entryCount (blockAt f (t / entriesPerBlock)) (t % entriesPerBlock)
+countAt f t = entryCount (blockAt f (t / entriesPerBlock axes)) (t % entriesPerBlock axes)

@@ -4,7 +4,7 @@ ghost use Prim.Native.Nat.{_+_, _*_, _<_, _≤_};
 ghost use lib.ListN.{length};
 ghost use Rattle.base.specs.Refusal.{accepted, refused};
 ghost use Rattle.codec.specs.Number.{limit16};
-ghost use Rattle.blocks.specs.Layout.{blockSize, entriesPerBlock};
+ghost use Rattle.blocks.specs.Layout.{axes, blockSize, entriesPerBlock};
 ghost use Rattle.blocks.specs.Outcome.{directoryOutcome};
 ghost use Rattle.blocks.specs.Block.{blockAt, headerIn};
 ghost use Rattle.blocks.specs.Directory.{directoryBlocks, entriesDue, tilesDue, directoryPadding};
@@ -45,7 +45,7 @@ pub fn directory_blocks(h: Header) -> usize
 // The number of entries due in the directory block at position p.
 pub fn entries_due(h: Header, p: usize) -> usize
     requires { ⌜ p < limit16 ⌝ }
-    ensures { λ r. ⌜ (r ≡ entriesDue h p) × (r ≤ entriesPerBlock) ⌝ }
+    ensures { λ r. ⌜ (r ≡ entriesDue h p) × (r ≤ entriesPerBlock axes) ⌝ }
 {
     let tiles = h.tiles;
     let first = layout::ENTRIES_PER_BLOCK * p;
@@ -74,7 +74,7 @@ fn tiles_due(h: Header, first: Header, blocks: usize) -> bool
 
 // Test 8, of a block with n entries.
 fn directory_padding(s: &[u8], n: usize) -> bool
-    requires { ⌜ (n ≤ entriesPerBlock) × (length (now s) ≡ blockSize) ⌝ }
+    requires { ⌜ (n ≤ entriesPerBlock axes) × (length (now s) ≡ blockSize) ⌝ }
     ensures { λ r. ⌜ r ≡ directoryPadding (now (s .entry)) n ⌝ }
 {
     let used = entry::entry_offset(n);

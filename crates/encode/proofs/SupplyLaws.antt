@@ -6,7 +6,7 @@ use mathlib.Core.Path.{_≡_}
 use native.Mathlib.Nat.{not-suc-le-zero, eq-or-lt-of-le, le-of-suc-le-suc}
 use native.Mathlib.Numerals.{add-one}
 use native.Mathlib.Omega.{arith}
-use Rattle.blocks.specs.Layout.{maxSites}
+use Rattle.blocks.specs.Layout.{axes, maxSites}
 use Rattle.encode.specs.Supply.{countOf, offset}
 
 module _ (counts : List ℕ) where
@@ -20,7 +20,7 @@ module _ (counts : List ℕ) where
   offset-within t (suc n) h =
       ⊎-elim (λ e. rw e (omega arith)) (λ l. omega (arith, offset-within t n l)) (eq-or-lt-of-le (le-of-suc-le-suc h))
 
-  pub offset-small : (t : ℕ) → ((i : ℕ) → i < t → countOf counts i ≤ maxSites) → offset counts t ≤ maxSites * t
+  pub offset-small : (t : ℕ) → ((i : ℕ) → i < t → countOf counts i ≤ maxSites axes) → offset counts t ≤ maxSites axes * t
   unfolding offset
   offset-small zero h = omega arith
   offset-small (suc t) h = let a = offset-small t (λ i l. h i (omega arith)) in omega (arith, h t (omega arith))

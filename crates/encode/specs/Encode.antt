@@ -5,7 +5,7 @@ use lib.IntN.{ℤ, pos}
 use lib.ListN.{getD, length, replicate}
 use Rattle.blocks.specs.Checksum.{sums}
 use Rattle.blocks.specs.Directory.{directoryBlocks, entriesDue}
-use Rattle.blocks.specs.Layout.{blockSize, syncByte, directoryKind, tileKind, reservedAt, payloadAt, checkAt, entrySize}
+use Rattle.blocks.specs.Layout.{axes, blockSize, syncByte, directoryKind, tileKind, reservedAt, payloadAt, checkAt, entrySize}
 use Rattle.blocks.specs.Layout.{zeroOffset, entriesPerBlock}
 use Rattle.blocks.specs.declared.header.Header.{Header}
 use Rattle.codec.specs.Bytes.{bytes16, bytes32, bytesSigned}
@@ -37,7 +37,7 @@ boxBytes boxes t =
     ++ bytesSigned (getD boxes (numbersPerBox * t + 2) (pos 0)) ++ bytesSigned (getD boxes (numbersPerBox * t + 3) (pos 0))
 
 unfoldable pub entryBytes : List ℤ → List ℕ → ℕ → List ℕ
-entryBytes boxes counts t = boxBytes boxes t ++ bytes16 (countOf counts t) ++ replicate (entrySize - zeroOffset) 0
+entryBytes boxes counts t = boxBytes boxes t ++ bytes16 (countOf counts t) ++ replicate (entrySize axes - zeroOffset axes) 0
 
 -- "A site has 12 bytes: x, y (signed), cue": site i of the lists
 unfoldable pub siteBytes : List ℤ → List ℤ → List ℕ → ℕ → List ℕ
@@ -47,7 +47,7 @@ siteBytes xs ys cues i = bytesSigned (getD xs i (pos 0)) ++ bytesSigned (getD ys
 unfoldable pub directoryBytes : List ℤ → List ℕ → ℕ → List ℕ
 directoryBytes boxes counts p =
     blockBytes (headBytes directoryKind p (entriesDue (headerOf counts) p) (length counts))
-    (joined (entryBytes boxes counts) (entriesPerBlock * p) (entriesDue (headerOf counts) p))
+    (joined (entryBytes boxes counts) (entriesPerBlock axes * p) (entriesDue (headerOf counts) p))
 
 -- a tile block at position p, with n sites of the lists from site i on; T is "zero in a tile"
 unfoldable pub tileBytes : List ℤ → List ℤ → List ℕ → ℕ → ℕ → ℕ → List ℕ

@@ -3,6 +3,7 @@ use Prim.Native.Nat.{ℕ, zero, suc, _+_, _*_}
 use mathlib.Core.List.{List, [], _∷_}
 use lib.IntN.{ℤ, pos}
 use lib.ListN.{getD, length}
+use Rattle.blocks.specs.Layout.{axes}
 use Rattle.blocks.specs.declared.header.Header.{Header}
 use Rattle.tiles.specs.declared.tile.Site.{Site}
 
@@ -26,7 +27,7 @@ tilesOf s = length (s .counts)
 
 -- "4 numbers for each tile, in the directory's order": low x, low y, high x, high y
 abbrev pub numbersPerBox : ℕ
-numbersPerBox = 4
+numbersPerBox = 2 * axes
 
 -- the box of tile t, which has its ends by axis
 unfoldable pub boxOf : List ℤ → ℕ → List (List ℤ)

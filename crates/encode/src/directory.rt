@@ -3,7 +3,7 @@ ghost use mathlib.Core.Path.{_≡_};
 ghost use Prim.Native.Nat.{_+_, _*_, _<_, _≤_};
 ghost use lib.ListN.{length};
 ghost use Rattle.blocks.specs.Directory.{directoryBlocks};
-ghost use Rattle.blocks.specs.Layout.{blockSize, entrySize, countOffset, maxTiles};
+ghost use Rattle.blocks.specs.Layout.{axes, blockSize, entrySize, countOffset, maxTiles};
 ghost use Rattle.codec.specs.Over.{over};
 ghost use Rattle.codec.specs.Tabulate.{joined};
 ghost use Rattle.encode.specs.Encode.{boxBytes, entryBytes, directoryBytes};
@@ -23,7 +23,7 @@ use codec::writing::put_zeros;
 
 // The four numbers of tile t's box.
 fn put_box(d: &mut [u8], at: usize, boxes: &[i32], t: usize)
-    requires { ⌜ (at + countOffset ≤ length (now d)) × (numbersPerBox * t + numbersPerBox ≤ length (now boxes)) ⌝ }
+    requires { ⌜ (at + countOffset axes ≤ length (now d)) × (numbersPerBox * t + numbersPerBox ≤ length (now boxes)) ⌝ }
     ensures { λ _. ⌜ now (d .exit) ≡ over (now (d .entry)) at (boxBytes (now (boxes .entry)) t) ⌝ }
 {
     let b = NUMBERS_PER_BOX * t;
@@ -36,7 +36,7 @@ fn put_box(d: &mut [u8], at: usize, boxes: &[i32], t: usize)
 // The entry of tile t.
 fn put_entry(d: &mut [u8], at: usize, boxes: &[i32], counts: &[u32], t: usize)
     requires { ⌜
-        (at + entrySize ≤ length (now d)) × (numbersPerBox * t + numbersPerBox ≤ length (now boxes))
+        (at + entrySize axes ≤ length (now d)) × (numbersPerBox * t + numbersPerBox ≤ length (now boxes))
         × (t < length (now counts)) ⌝ }
     ensures { λ _. ⌜ now (d .exit) ≡ over (now (d .entry)) at (entryBytes (now (boxes .entry)) (now (counts .entry)) t) ⌝ }
 {
@@ -48,7 +48,7 @@ fn put_entry(d: &mut [u8], at: usize, boxes: &[i32], counts: &[u32], t: usize)
 // The entries of n tiles from tile `first` on.
 fn put_entries(d: &mut [u8], start: usize, boxes: &[i32], counts: &[u32], first: usize, n: usize)
     requires { ⌜
-        (start + entrySize * n ≤ length (now d)) × (numbersPerBox * (first + n) ≤ length (now boxes))
+        (start + entrySize axes * n ≤ length (now d)) × (numbersPerBox * (first + n) ≤ length (now boxes))
         × (first + n ≤ length (now counts)) ⌝ }
     ensures { λ _. ⌜
         now (d .exit) ≡ over (now (d .entry)) start (joined (entryBytes (now (boxes .entry)) (now (counts .entry))) first n) ⌝ }

@@ -7,7 +7,7 @@ use lib.IntN.{ℤ}
 use Rattle.base.specs.Refusal.{Outcome, accepted, require, andThen, #entries, #padding, #stray}
 use Rattle.blocks.specs.Block.{blockAt, entriesIn, blockHead}
 use Rattle.blocks.specs.Directory.{directoryBlocks, boxAt, countAt}
-use Rattle.blocks.specs.Layout.{tileKind, tilesAt, payloadAt, checkAt, siteSize}
+use Rattle.blocks.specs.Layout.{axes, tileKind, tilesAt, payloadAt, checkAt, siteSize, cueOffset}
 use Rattle.blocks.specs.declared.header.Header.{Header}
 use Rattle.codec.specs.Every.{every, zeros}
 use Rattle.codec.specs.Number.{u32At, i32At}
@@ -17,14 +17,14 @@ use Rattle.tiles.specs.declared.tile.Site.{Site}
 
 -- where the site of a slot stands in a block
 unfoldable pub siteOffset : ℕ → ℕ
-siteOffset slot = payloadAt + siteSize * slot
+siteOffset slot = payloadAt + siteSize axes * slot
 
 -- "A site has 12 bytes: x, y (signed), cue"
 unfoldable pub siteIn : List ℕ → ℕ → Site
 siteIn s slot = record {
   x = i32At s (siteOffset slot);
   y = i32At s (siteOffset slot + 4);
-  cue = u32At s (siteOffset slot + 8);
+  cue = u32At s (siteOffset slot + cueOffset axes);
 }
 
 -- where a site is

@@ -11,8 +11,8 @@ use borrow.Author.Tests.{eqb-true, eq-eqb}
 use Rattle.blocks.specs.Block.{positionIn, entriesIn, headerIn}
 use Rattle.blocks.specs.Checksum.{sums, checkAgrees}
 use Rattle.blocks.specs.Directory.{entryOffset, entryBox, entryCount, entryZero}
-use Rattle.blocks.specs.Layout.{positionAt, entriesAt, tilesAt, countOffset, blockSize, syncByte, kindAt, reservedAt}
-use Rattle.blocks.specs.Layout.{payloadAt, checkAt, zeroOffset, entrySize}
+use Rattle.blocks.specs.Layout.{axes, positionAt, entriesAt, tilesAt, countOffset, blockSize, syncByte, kindAt, reservedAt}
+use Rattle.blocks.specs.Layout.{cueOffset, payloadAt, checkAt, zeroOffset, entrySize}
 use Rattle.blocks.specs.declared.checksum.Sums.{Sums}
 use Rattle.codec.specs.Bytes.{bytes, bytes16, bytes32, bytesSigned}
 use Rattle.codec.specs.Every.{zeros}
@@ -141,7 +141,7 @@ module _ (s : List ℕ) (i : ℕ) (boxes : List ℤ) (counts : List ℕ) (t : �
       let b = numbersPerBox * t in
       let end : ℕ → List ℕ = λ k. bytesSigned (getD boxes k (pos 0)) in
       let count = bytes16 (countOf counts t) in
-      let gap : List ℕ = replicate (entrySize - zeroOffset) 0 in
+      let gap : List ℕ = replicate (entrySize axes - zeroOffset axes) 0 in
       let four = end b ++ end (b + 1) ++ end (b + 2) ++ end (b + 3) in
       let h₅ = holds-left s at (four ++ count) gap h in
       let h₄ = holds-left s at four count h₅ in
@@ -152,10 +152,10 @@ module _ (s : List ℕ) (i : ℕ) (boxes : List ℤ) (counts : List ℕ) (t : �
       let x₂ = read-signed s (at + 8) (signed (b + 2)) (holds-right s at (end b ++ end (b + 1)) (end (b + 2)) refl h₃) in
       let x₃ = read-signed s (at + 12) (signed (b + 3))
       (holds-right s at (end b ++ end (b + 1) ++ end (b + 2)) (end (b + 3)) refl h₄) in
-      let z : at + entrySize - (at + zeroOffset) ≡ entrySize - zeroOffset = omega arith in (
+      let z : at + entrySize axes - (at + zeroOffset axes) ≡ entrySize axes - zeroOffset axes = omega arith in (
         rw (x₀, x₁, x₂, x₃),
-        read-16 s (at + countOffset) small (holds-right s at four count refl h₅),
-        held-zeros s (at + zeroOffset) (at + entrySize)
+        read-16 s (at + countOffset axes) small (holds-right s at four count refl h₅),
+        held-zeros s (at + zeroOffset axes) (at + entrySize axes)
             (holds-run (holds-right s at (four ++ count) gap refl h) (ap (λ k. replicate k 0) (sym z))),
       )
 
@@ -167,12 +167,12 @@ module _ (s : List ℕ) (i : ℕ) (boxes : List ℤ) (counts : List ℕ) (t : �
       let b = numbersPerBox * t in
       let end : ℕ → List ℕ = λ k. bytesSigned (getD boxes k (pos 0)) in
       let count = bytes16 (countOf counts t) in
-      let gap : List ℕ = replicate (entrySize - zeroOffset) 0 in
+      let gap : List ℕ = replicate (entrySize axes - zeroOffset axes) 0 in
       let x₀ : i32At s at ≡ getD boxes b (pos 0) = cc in
       let x₁ : i32At s (at + 4) ≡ getD boxes (b + 1) (pos 0) = cc in
       let x₂ : i32At s (at + 8) ≡ getD boxes (b + 2) (pos 0) = cc in
       let x₃ : i32At s (at + 12) ≡ getD boxes (b + 3) (pos 0) = cc in
-      let z : at + entrySize - (at + zeroOffset) ≡ entrySize - zeroOffset = omega arith in
+      let z : at + entrySize axes - (at + zeroOffset axes) ≡ entrySize axes - zeroOffset axes = omega arith in
       let h₁ = holds-run (held-signed s at byte) (ap bytesSigned x₀) in
       let h₂ = holds-append s at (end b) (end (b + 1)) refl h₁ (holds-run (held-signed s (at + 4) byte) (ap bytesSigned x₁)) in
       let h₃ = holds-append s at (end b ++ end (b + 1)) (end (b + 2)) refl h₂
@@ -180,9 +180,9 @@ module _ (s : List ℕ) (i : ℕ) (boxes : List ℤ) (counts : List ℕ) (t : �
       let h₄ = holds-append s at (end b ++ end (b + 1) ++ end (b + 2)) (end (b + 3)) refl h₃
       (holds-run (held-signed s (at + 12) byte) (ap bytesSigned x₃)) in
       let four = end b ++ end (b + 1) ++ end (b + 2) ++ end (b + 3) in
-      let h₅ = holds-append s at four count refl h₄ (holds-run (held-16 s (at + countOffset) byte) (ap bytes16 number)) in
+      let h₅ = holds-append s at four count refl h₄ (holds-run (held-16 s (at + countOffset axes) byte) (ap bytes16 number)) in
       holds-append s at (four ++ count) gap refl h₅
-      (holds-run (zeros-held s (at + zeroOffset) (at + entrySize) zero) (ap (λ k. replicate k 0) z))
+      (holds-run (zeros-held s (at + zeroOffset axes) (at + entrySize axes) zero) (ap (λ k. replicate k 0) z))
 
 -- ---- site i of the lists, as the site of a slot of a block
 module _ (s : List ℕ) (slot : ℕ) (xs ys : List ℤ) (cues : List ℕ) (i : ℕ) where
@@ -197,7 +197,7 @@ module _ (s : List ℕ) (slot : ℕ) (xs ys : List ℤ) (cues : List ℕ) (i : �
       let g = holds-left s at (x ++ y) c h in
       let e₀ = read-signed s at (sx i) (holds-left s at x y g) in
       let e₁ = read-signed s (at + 4) (sy i) (holds-right s at x y refl g) in
-      let e₂ = read-32 s (at + 8) (sc i) (holds-right s at (x ++ y) c refl h) in
+      let e₂ = read-32 s (at + cueOffset axes) (sc i) (holds-right s at (x ++ y) c refl h) in
       rw (e₀, e₁, e₂)
 
   pub site-held : Bytes s → siteIn s slot ≡ record { x = getD xs i (pos 0); y = getD ys i (pos 0); cue = getD cues i 0 } →
@@ -213,4 +213,4 @@ module _ (s : List ℕ) (slot : ℕ) (xs ys : List ℤ) (cues : List ℕ) (i : �
       let e₂ = ap (λ (q : Site). q .cue) e in
       let g = holds-append s at x y refl (holds-run (held-signed s at byte) (ap bytesSigned e₀))
       (holds-run (held-signed s (at + 4) byte) (ap bytesSigned e₁)) in
-      holds-append s at (x ++ y) c refl g (holds-run (held-32 s (at + 8) byte) (ap bytes32 e₂))
+      holds-append s at (x ++ y) c refl g (holds-run (held-32 s (at + cueOffset axes) byte) (ap bytes32 e₂))

@@ -12,7 +12,7 @@ use borrow.Author.Tests.{ltb-true, ltb-false}
 use Rattle.blocks.specs.Accepted.{GoodDirectoryBlock}
 use Rattle.blocks.specs.Block.{blockAt}
 use Rattle.blocks.specs.Directory.{directoryBlocks, boxAt, countAt}
-use Rattle.blocks.specs.Layout.{blockSize, entriesPerBlock, maxSites}
+use Rattle.blocks.specs.Layout.{axes, blockSize, entriesPerBlock, maxSites}
 use Rattle.codec.specs.Number.{Bytes}
 use Rattle.codec.specs.Tabulate.{joined}
 use Rattle.encode.specs.Encode.{directoryBytes, tileBytesOf, fileBytes, fileLength}
@@ -47,11 +47,11 @@ block-bytes f p byte i =
     rw (List·getD-eq-default (take blockSize s) 0 l) (lit< tt))
 
 -- a tile's entry is entry t % 24 of directory block t / 24
-tile-entry : (t : ℕ) → entriesPerBlock * (t / entriesPerBlock) + t % entriesPerBlock ≡ t
+tile-entry : (t : ℕ) → entriesPerBlock axes * (t / entriesPerBlock axes) + t % entriesPerBlock axes ≡ t
 tile-entry t = omega arith
 
-entry-of : (p i : ℕ) → i < entriesPerBlock → ((entriesPerBlock * p + i) / entriesPerBlock ≡ p) ×
-    ((entriesPerBlock * p + i) % entriesPerBlock ≡ i)
+entry-of : (p i : ℕ) → i < entriesPerBlock axes → ((entriesPerBlock axes * p + i) / entriesPerBlock axes ≡ p) ×
+    ((entriesPerBlock axes * p + i) % entriesPerBlock axes ≡ i)
 entry-of p i l = (omega arith, omega arith)
 
 module _ (s : Supply) where
@@ -65,7 +65,7 @@ module _ (s : Supply) where
   length-all = length-joined directory blockSize 0 (directoryBlocks (headerOf (s .counts)))
       (λ i l. length-directory-block (s .boxes) (s .counts) (0 + i))
 
-  module _ (few : (t : ℕ) → t < tilesOf s → countOf (s .counts) t ≤ maxSites) where
+  module _ (few : (t : ℕ) → t < tilesOf s → countOf (s .counts) t ≤ maxSites axes) where
     length-tile : (t : ℕ) → t < tilesOf s → length (tile t) ≡ blockSize
     unfolding tileBytesOf
     length-tile t l =
@@ -139,7 +139,7 @@ module _ (s : Supply) (g : GoodSupply s) (typed : Typed s) (f : List ℕ) (size 
   entry-at : (t : ℕ) → t < tilesOf s → (boxAt f t ≡ boxOf (s .boxes) t) × (countAt f t ≡ countOf (s .counts) t)
   unfolding boxAt countAt
   entry-at t l =
-      let e = directory-at (t / entriesPerBlock) (entry-block (headerOf (s .counts)) t l) .1 (t % entriesPerBlock)
+      let e = directory-at (t / entriesPerBlock axes) (entry-block (headerOf (s .counts)) t l) .1 (t % entriesPerBlock axes)
       (entry-due (headerOf (s .counts)) t l) in
       let q = tile-entry t in
       (e .0 ∙ ap (boxOf (s .boxes)) q, e .1 ∙ ap (countOf (s .counts)) q)
@@ -187,7 +187,7 @@ good-holds f s byte g r =
     (λ p l. directory-held (s .boxes) (s .counts) (blockAt f p) p (size p (omega arith)) (block-bytes f p byte)
     (g .directory .blocks p l)
     (λ i k. let a = entry-of p i (omega (arith, due-few (headerOf (s .counts)) p)) in
-    let t = entriesPerBlock * p + i in
+    let t = entriesPerBlock axes * p + i in
     let m : t < tilesOf s = omega (arith, due-within (headerOf (s .counts)) p l) in
     (rw (a .0, a .1) at (r .box t m), rw (a .0, a .1) at (r .count t m))))
     (λ t l. let p = tilePosition (headerOf (s .counts)) t in
@@ -195,7 +195,7 @@ good-holds f s byte g r =
     (few t l)
     (block-bytes f p byte) (rw (r .count t l) at (g .opened t l)) (λ slot k. r .site t slot l k))
   where
-    few : (t : ℕ) → t < tilesOf s → countOf (s .counts) t ≤ maxSites
+    few : (t : ℕ) → t < tilesOf s → countOf (s .counts) t ≤ maxSites axes
     few t l = rw (r .count t l) at (count-small (g .directory) t l)
 
     size : (p : ℕ) → p < directoryBlocks (headerOf (s .counts)) + tilesOf s → length (blockAt f p) ≡ blockSize

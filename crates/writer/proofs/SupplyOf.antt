@@ -12,7 +12,7 @@ use lib.Seq.{take-length}
 use lib.Signed.{mag}
 use Rattle.blocks.specs.Block.{blockAt}
 use Rattle.blocks.specs.Directory.{entryOffset, entryBox, entryCount, boxAt, countAt}
-use Rattle.blocks.specs.Layout.{countOffset, entriesPerBlock}
+use Rattle.blocks.specs.Layout.{axes, countOffset, entriesPerBlock}
 use Rattle.blocks.specs.declared.header.Header.{Header}
 use Rattle.codec.specs.Number.{limit32, limitSigned, Bytes, u32At, i32At}
 use Rattle.codec.specs.Tabulate.{tabulate, joined}
@@ -163,8 +163,8 @@ module _ (f : List ℕ) (h : Header) where
       boxes = joined-all (λ t. boxNumbers (boxAt f t)) (λ z. mag z < limitSigned) (pos 0) 0 (h .tiles) (lit< tt)
           (λ t. four-all (λ z. mag z < limitSigned) (signed-at _ _) (signed-at _ _) (signed-at _ _) (signed-at _ _) (lit< tt));
       counts = tabulate-all (countAt f) (λ n. n < limit32) 0 0 (h .tiles) (lit< tt)
-          (λ t. let p = t / entriesPerBlock in
-          omega (arith, u16-small (blockAt f p) (entryOffset (t % entriesPerBlock) + countOffset) (block-bytes f p byte)));
+          (λ t. let p = t / entriesPerBlock axes in
+          omega (arith, u16-small (blockAt f p) (entryOffset (t % entriesPerBlock axes) + countOffset axes) (block-bytes f p byte)));
       xs = column-signed (λ (q : Site). q .x) (λ t slot. signed-at _ _);
       ys = column-signed (λ (q : Site). q .y) (λ t slot. signed-at _ _);
       cues = joined-all (λ t. tabulate (λ slot. siteAt f h t slot .cue) 0 (countAt f t)) (λ n. n < limit32) 0 0 (h .tiles)

@@ -4,7 +4,7 @@ use native.Mathlib.Omega.{arith}
 use lib.ListN.{length}
 use borrow.Author.Needs.{needs}
 use Rattle.blocks.specs.Directory.{entriesDue}
-use Rattle.blocks.specs.Layout.{directoryKind, blockSize, entriesPerBlock}
+use Rattle.blocks.specs.Layout.{axes, directoryKind, blockSize, entriesPerBlock}
 use Rattle.codec.specs.Over.{over}
 use Rattle.codec.specs.Tabulate.{joined}
 use Rattle.encode.specs.Encode.{headBytes, blockBytes, entryBytes, directoryBytes}
@@ -92,7 +92,7 @@ returns c =
     let a = s .args in
     let t = length (a .counts .now) in
     let at = blockSize * a .p in
-    let first = entriesPerBlock * a .p in
+    let first = entriesPerBlock axes * a .p in
     let n = e .entries-due .result in
     let used = u .entry-offset .ensures .1 in
     let g = entryBytes (a .boxes .now) (a .counts .now) in
