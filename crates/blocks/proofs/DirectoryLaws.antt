@@ -1,8 +1,9 @@
 -- What an accepted directory shows, and that this is enough. Assumes nothing.
 use Prim.Native.Nat.{ℕ, zero, suc, _+_, _-_, _*_, _/_, _%_, _<_, _≤_}
 use mathlib.Core.Bool.{true}
-use mathlib.Core.List.{List}
+use mathlib.Core.List.{List, [], _∷_}
 use mathlib.Core.Path.{_≡_, refl, sym, ap, _∙_}
+use native.Mathlib.Nat.{add-zero}
 use native.Mathlib.Omega.{arith}
 use lib.ListN.{length}
 use borrow.Author.Tests.{leb-true, le-leb, eqb-true, eq-eqb}
@@ -10,11 +11,12 @@ use Rattle.base.specs.Refusal.{accepted, andThen, #length}
 use Rattle.geometry.specs.Box.{validBox}
 use Rattle.base.proofs.Outcomes.{accepted-injective, require-accepted, andThen-accepted}
 use Rattle.base.proofs.Tests.{and-both}
-use Rattle.codec.specs.Number.{limit16}
+use Rattle.codec.specs.Number.{limit16, i32At}
+use Rattle.codec.specs.Tabulate.{tabulate}
 use Rattle.codec.proofs.Every.{every-at, every-holds}
 use Rattle.blocks.specs.Accepted.{GoodTiles, GoodDirectoryBlock, GoodLength, GoodDirectory}
 use Rattle.blocks.specs.Block.{blockAt, entriesIn, headerIn, blockHead}
-use Rattle.blocks.specs.Directory.{directoryBlocks, entriesDue, entryBox, entryCount, tilesDue, entryValid}
+use Rattle.blocks.specs.Directory.{directoryBlocks, entriesDue, entryOffset, entryBox, entryCount, tilesDue, entryValid}
 use Rattle.blocks.specs.Directory.{directoryBlock, directoryBlockAt, lengthDue, directoryRest, directory, boxAt}
 use Rattle.blocks.specs.Directory.{countAt}
 use Rattle.blocks.specs.Layout.{axes, blockSize, maxLength, directoryKind, entriesPerBlock, maxSites, maxTiles}
@@ -57,6 +59,13 @@ unfolding lengthDue
 length-enough n g = rw (le-leb 1 n (g .least), eq-eqb (n % blockSize) 0 (g .whole), le-leb n maxLength (g .most))
 
 -- ---- a directory block
+-- the ends of an entry's box, number by number
+pub entry-ends : (s : List ℕ) (i : ℕ) →
+    let at = entryOffset i in
+    entryBox s i ≡ (i32At s at ∷ i32At s (at + 8) ∷ []) ∷ (i32At s (at + 4) ∷ i32At s (at + 12) ∷ []) ∷ []
+unfolding entryBox tabulate
+entry-ends s i = rw add-zero
+
 module _ (s : List ℕ) (p : ℕ) where
   entry-good : (i : ℕ) → entryValid s i ≡ true → (validBox (entryBox s i) ≡ true) × (entryCount s i ≤ maxSites axes)
   unfolding entryValid

@@ -8,10 +8,11 @@ use lib.ListN.{length}
 use Rattle.base.specs.Refusal.{Outcome, accepted, require, andThen, #length, #tiles, #entries, #padding, #box}
 use Rattle.codec.specs.Every.{every, zeros}
 use Rattle.codec.specs.Number.{u16At, i32At}
+use Rattle.codec.specs.Tabulate.{tabulate}
 use Rattle.geometry.specs.Box.{validBox}
 use Rattle.blocks.specs.Block.{blockAt, headerIn, entriesIn, blockHead}
 use Rattle.blocks.specs.Layout.{axes, blockSize, maxLength, directoryKind, reservedAt, payloadAt, checkAt, entrySize}
-use Rattle.blocks.specs.Layout.{countOffset, zeroOffset, entriesPerBlock, maxSites, maxTiles}
+use Rattle.blocks.specs.Layout.{numberOffset, countOffset, zeroOffset, entriesPerBlock, maxSites, maxTiles}
 use Rattle.blocks.specs.Outcome.{inTurn}
 use Rattle.blocks.specs.declared.header.Header.{Header}
 
@@ -28,10 +29,11 @@ unfoldable pub entryOffset : ℕ → ℕ
 entryOffset i = payloadAt + entrySize axes * i
 
 -- "low x, low y, high x, high y (signed, 4 bytes each), count (2), zero (2)"; a box has its ends by axis
+abbrev pub entryNumber : List ℕ → ℕ → ℕ → ℤ
+entryNumber s i n = i32At s (entryOffset i + numberOffset n)
+
 unfoldable pub entryBox : List ℕ → ℕ → List (List ℤ)
-entryBox s i =
-    (i32At s (entryOffset i) ∷ i32At s (entryOffset i + 8) ∷ []) ∷
-    (i32At s (entryOffset i + 4) ∷ i32At s (entryOffset i + 12) ∷ []) ∷ []
+entryBox s i = tabulate (λ axis. entryNumber s i axis ∷ entryNumber s i (axes + axis) ∷ []) 0 axes
 
 unfoldable pub entryCount : List ℕ → ℕ → ℕ
 entryCount s i = u16At s (entryOffset i + countOffset axes)

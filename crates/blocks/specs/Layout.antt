@@ -54,6 +54,10 @@ axes = 2
 abbrev pub entrySize : ℕ → ℕ
 entrySize a = 8 * a + 4
 
+-- its numbers, 4 bytes each: low of axis i is number i, high of axis i number a + i
+abbrev pub numberOffset : ℕ → ℕ
+numberOffset i = 4 * i
+
 abbrev pub countOffset : ℕ → ℕ
 countOffset a = 8 * a
 

@@ -59,7 +59,7 @@ module _ (f : List ℕ) (h : Header) where
       ∙ ap (λ i. getD (boxNumbers (boxAt f i)) j (pos 0)) (zero-add t)
 
   box-own : (t : ℕ) → t < h .tiles → boxOf boxes t ≡ boxAt f t
-  unfolding boxOf boxNumbers boxAt entryBox
+  unfolding boxOf boxNumbers boxAt entryBox tabulate
   box-own t l =
       let e₀ : getD boxes (numbersPerBox * t) (pos 0) ≡ getD (boxNumbers (boxAt f t)) 0 (pos 0) =
       ap (λ i. getD boxes i (pos 0)) (sym (add-zero (numbersPerBox * t))) ∙ number-own t 0 l (lit< tt) in
@@ -158,7 +158,7 @@ module _ (f : List ℕ) (h : Header) where
         (small t))
 
     pub typed-own : Typed (supplyOf f h)
-    unfolding supplyOf boxNumbers boxAt entryBox countAt entryCount column siteAt siteIn
+    unfolding supplyOf boxNumbers boxAt entryBox tabulate countAt entryCount column siteAt siteIn
     typed-own = record {
       boxes = joined-all (λ t. boxNumbers (boxAt f t)) (λ z. mag z < limitSigned) (pos 0) 0 (h .tiles) (lit< tt)
           (λ t. four-all (λ z. mag z < limitSigned) (signed-at _ _) (signed-at _ _) (signed-at _ _) (signed-at _ _) (lit< tt));
