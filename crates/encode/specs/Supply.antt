@@ -5,6 +5,7 @@ use lib.IntN.{ℤ, pos}
 use lib.ListN.{getD, length}
 use Rattle.blocks.specs.Layout.{axes}
 use Rattle.blocks.specs.declared.header.Header.{Header}
+use Rattle.codec.specs.Tabulate.{tabulate}
 use Rattle.tiles.specs.declared.tile.Site.{Site}
 
 pub record Supply : Type 0 where
@@ -30,10 +31,11 @@ abbrev pub numbersPerBox : ℕ
 numbersPerBox = 2 * axes
 
 -- the box of tile t, which has its ends by axis
+abbrev pub boxNumber : List ℤ → ℕ → ℕ → ℤ
+boxNumber boxes t n = getD boxes (numbersPerBox * t + n) (pos 0)
+
 unfoldable pub boxOf : List ℤ → ℕ → List (List ℤ)
-boxOf boxes t =
-    (getD boxes (numbersPerBox * t) (pos 0) ∷ getD boxes (numbersPerBox * t + 2) (pos 0) ∷ []) ∷
-    (getD boxes (numbersPerBox * t + 1) (pos 0) ∷ getD boxes (numbersPerBox * t + 3) (pos 0) ∷ []) ∷ []
+boxOf boxes t = tabulate (λ axis. boxNumber boxes t axis ∷ boxNumber boxes t (axes + axis) ∷ []) 0 axes
 
 -- the number of sites of tile t
 abbrev pub countOf : List ℕ → ℕ → ℕ

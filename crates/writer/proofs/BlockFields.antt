@@ -27,6 +27,7 @@ use Rattle.codec.proofs.Bytes.{read-16, read-32, read-signed, held-16, held-32,
 use Rattle.codec.proofs.Holds.{Holds, holds-run, holds-cons, holds-head, holds-tail, holds-left, holds-right, holds-append}
 use Rattle.codec.proofs.Holds.{zeros-held, held-zeros}
 use Rattle.encode.proofs.EncodeLaws.{length-head, length-body, sums-body}
+use Rattle.encode.proofs.SupplyLaws.{box-ends}
 use Rattle.writer.specs.Made.{Signed, Unsigned}
 
 pub record Fields (s : List ℕ) (kind p n t : ℕ) (payload : List ℕ) : Type 0 where
@@ -136,7 +137,7 @@ module _ (s : List ℕ) (i : ℕ) (boxes : List ℤ) (counts : List ℕ) (t : �
       (entryBox s i ≡ boxOf boxes t)
       × (entryCount s i ≡ countOf counts t)
       × (entryZero s i ≡ true)
-  unfolding entryCount entryZero boxOf entryBytes boxBytes bytesSigned bytes32 bytes16 bytes
+  unfolding entryCount entryZero entryBytes boxBytes bytesSigned bytes32 bytes16 bytes
   entry-read signed small h =
       let at = entryOffset i in
       let b = numbersPerBox * t in
@@ -154,7 +155,7 @@ module _ (s : List ℕ) (i : ℕ) (boxes : List ℤ) (counts : List ℕ) (t : �
       let x₃ = read-signed s (at + 12) (signed (b + 3))
       (holds-right s at (end b ++ end (b + 1) ++ end (b + 2)) (end (b + 3)) refl h₄) in
       let z : at + entrySize axes - (at + zeroOffset axes) ≡ entrySize axes - zeroOffset axes = omega arith in (
-        entry-ends s i ∙ rw (x₀, x₁, x₂, x₃),
+        entry-ends s i ∙ rw (x₀, x₁, x₂, x₃) (sym (box-ends boxes t)),
         read-16 s (at + countOffset axes) small (holds-right s at four count refl h₅),
         held-zeros s (at + zeroOffset axes) (at + entrySize axes)
             (holds-run (holds-right s at (four ++ count) gap refl h) (ap (λ k. replicate k 0) (sym z))),
@@ -162,14 +163,14 @@ module _ (s : List ℕ) (i : ℕ) (boxes : List ℤ) (counts : List ℕ) (t : �
 
   pub entry-held : Bytes s → entryBox s i ≡ boxOf boxes t → entryCount s i ≡ countOf counts t → entryZero s i ≡ true →
       Holds s (entryOffset i) (entryBytes boxes counts t)
-  unfolding entryCount entryZero boxOf entryBytes boxBytes bytesSigned bytes32 bytes16 bytes
+  unfolding entryCount entryZero entryBytes boxBytes bytesSigned bytes32 bytes16 bytes
   entry-held byte box number zero =
       let at = entryOffset i in
       let b = numbersPerBox * t in
       let end : ℕ → List ℕ = λ k. bytesSigned (getD boxes k (pos 0)) in
       let count = bytes16 (countOf counts t) in
       let gap : List ℕ = replicate (entrySize axes - zeroOffset axes) 0 in
-      let ends = sym (entry-ends s i) ∙ box in
+      let ends = sym (entry-ends s i) ∙ box ∙ box-ends boxes t in
       let x₀ : i32At s at ≡ getD boxes b (pos 0) = cc in
       let x₁ : i32At s (at + 4) ≡ getD boxes (b + 1) (pos 0) = cc in
       let x₂ : i32At s (at + 8) ≡ getD boxes (b + 2) (pos 0) = cc in

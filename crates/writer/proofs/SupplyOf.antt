@@ -3,7 +3,7 @@
 use Prim.Native.Nat.{ℕ, zero, suc, _+_, _*_, _-_, _/_, _%_, _<_, _≤_}
 use mathlib.Core.List.{List, [], _∷_}
 use mathlib.Core.Path.{_≡_, refl, sym, ap, _∙_}
-use native.Mathlib.Nat.{add-zero, zero-add}
+use native.Mathlib.Nat.{zero-add}
 use native.Mathlib.Omega.{arith}
 use lib.Dec.{lit<}
 use lib.IntN.{ℤ, pos}
@@ -61,9 +61,12 @@ module _ (f : List ℕ) (h : Header) where
   box-own : (t : ℕ) → t < h .tiles → boxOf boxes t ≡ boxAt f t
   unfolding boxOf boxNumbers boxAt entryBox tabulate
   box-own t l =
-      let e₀ : getD boxes (numbersPerBox * t) (pos 0) ≡ getD (boxNumbers (boxAt f t)) 0 (pos 0) =
-      ap (λ i. getD boxes i (pos 0)) (sym (add-zero (numbersPerBox * t))) ∙ number-own t 0 l (lit< tt) in
-      rw (e₀, number-own t 1 l (lit< tt), number-own t 2 l (lit< tt), number-own t 3 l (lit< tt))
+      rw (
+        number-own t 0 l (lit< tt),
+        number-own t 1 l (lit< tt),
+        number-own t 2 l (lit< tt),
+        number-own t 3 l (lit< tt),
+      )
 
   -- ---- a field of all sites
   module _ {A : Type 0} (field : Site → A) where
@@ -197,7 +200,7 @@ module _ (f : List ℕ) (s : Supply) (g : GoodSupply s) (r : Reads f s) where
   boxes-only =
       joined-same (λ t. boxNumbers (boxAt f t)) (λ t. tabulate
       (λ i. getD (s .boxes) (numbersPerBox * t + i) (pos 0)) 0 numbersPerBox) 0 (tilesOf s)
-      (λ t l. let q = zero-add t in rw (q, add-zero) (ap boxNumbers (r .box t l)))
+      (λ t l. let q = zero-add t in rw q (ap boxNumbers (r .box t l)))
       ∙ parts (s .boxes) (pos 0) (λ t. numbersPerBox * t) (λ t. numbersPerBox) refl (λ t. omega arith) (g .numbers)
       (λ t l. omega (arith, g .numbers))
 
