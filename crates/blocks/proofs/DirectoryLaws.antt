@@ -16,9 +16,9 @@ use Rattle.codec.specs.Tabulate.{tabulate}
 use Rattle.codec.proofs.Every.{every-at, every-holds}
 use Rattle.blocks.specs.Accepted.{GoodTiles, GoodDirectoryBlock, GoodLength, GoodDirectory}
 use Rattle.blocks.specs.Block.{blockAt, entriesIn, headerIn, blockHead}
-use Rattle.blocks.specs.Directory.{directoryBlocks, entriesDue, entryOffset, entryBox, entryCount, tilesDue, entryValid}
-use Rattle.blocks.specs.Directory.{directoryBlock, directoryBlockAt, lengthDue, directoryRest, directory, boxAt}
-use Rattle.blocks.specs.Directory.{countAt}
+use Rattle.blocks.specs.Directory.{directoryBlocks, entriesDue, entryOffset, entryBox, entryCount, tilesDue}
+use Rattle.blocks.specs.Directory.{entryValid, directoryBlock, directoryBlockAt, lengthDue, directoryRest}
+use Rattle.blocks.specs.Directory.{directory, boxAt, countAt}
 use Rattle.blocks.specs.Layout.{axes, blockSize, maxLength, directoryKind, entriesPerBlock, maxSites, maxTiles}
 use Rattle.blocks.specs.Outcome.{inTurn}
 use Rattle.blocks.specs.declared.header.Header.{Header}
@@ -44,7 +44,12 @@ pub tiles-enough : (h : Header) (blocks : ℕ) → GoodTiles h blocks → tilesD
 unfolding tilesDue
 tiles-enough h blocks g =
     let t = h .tiles in
-    rw (le-leb 1 t (g .least), le-leb t maxTiles (g .most), eq-eqb t t refl, eq-eqb (directoryBlocks h + t) blocks (g .sum))
+    rw (
+      le-leb 1 t (g .least),
+      le-leb t maxTiles (g .most),
+      eq-eqb t t refl,
+      eq-eqb (directoryBlocks h + t) blocks (g .sum),
+    )
 
 -- ---- test 1
 pub length-good : (n : ℕ) → lengthDue n ≡ true → GoodLength n
@@ -52,7 +57,11 @@ unfolding lengthDue
 length-good n e =
     let h = and-both _ _ e in
     let l = and-both _ _ (h .0) in
-    record { least = leb-true 1 n (l .0); whole = eqb-true (n % blockSize) 0 (l .1); most = leb-true n maxLength (h .1) }
+    record {
+      least = leb-true 1 n (l .0);
+      whole = eqb-true (n % blockSize) 0 (l .1);
+      most = leb-true n maxLength (h .1);
+    }
 
 pub length-enough : (n : ℕ) → GoodLength n → lengthDue n ≡ true
 unfolding lengthDue
@@ -75,7 +84,8 @@ module _ (s : List ℕ) (p : ℕ) where
   unfolding entryValid
   entry-enough i b c = rw (b, le-leb (entryCount s i) (maxSites axes) c)
 
-  pub block-good : (first : Header) (blocks : ℕ) {h : Header} → directoryBlock s p first blocks ≡ accepted h → (h ≡ first)
+  pub block-good : (first : Header) (blocks : ℕ) {h : Header} → directoryBlock s p first blocks ≡ accepted h →
+      (h ≡ first)
       × GoodTiles h blocks × GoodDirectoryBlock s p h
   unfolding directoryBlock
   block-good first blocks {h} e =
@@ -177,7 +187,8 @@ module _ (f : List ℕ) where
       rw (length-enough (length f) (g .size), each 0 some, rest)
 
 -- what the code goes by once block 0 is accepted
-pub first-block : (f : List ℕ) (h : Header) {x : Header} → directoryBlockAt f 0 ≡ accepted x → h ≡ headerIn (blockAt f 0) →
+pub first-block : (f : List ℕ) (h : Header) {x : Header} → directoryBlockAt f 0 ≡ accepted x →
+    h ≡ headerIn (blockAt f 0) →
     (x ≡ h)
     × (blockSize * directoryBlocks h ≤ length f) × (h .tiles < limit16)
 first-block f h {x} e q =
@@ -194,8 +205,10 @@ module _ {f : List ℕ} {h : Header} (g : GoodDirectory f h) where
   module _ (t : ℕ) (l : t < h .tiles) where
     pub box-valid : validBox (boxAt f t) ≡ true
     unfolding boxAt
-    box-valid = g .blocks (t / entriesPerBlock axes) (entry-block h t l) .boxes (t % entriesPerBlock axes) (entry-due h t l)
+    box-valid =
+        g .blocks (t / entriesPerBlock axes) (entry-block h t l) .boxes (t % entriesPerBlock axes) (entry-due h t l)
 
     pub count-small : countAt f t ≤ maxSites axes
     unfolding countAt
-    count-small = g .blocks (t / entriesPerBlock axes) (entry-block h t l) .counts (t % entriesPerBlock axes) (entry-due h t l)
+    count-small =
+        g .blocks (t / entriesPerBlock axes) (entry-block h t l) .counts (t % entriesPerBlock axes) (entry-due h t l)

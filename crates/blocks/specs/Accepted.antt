@@ -1,4 +1,5 @@
--- What acceptance of a directory block and of a directory shows of the bytes. The theorems say that it shows exactly this.
+-- What acceptance of a directory block and of a directory shows of the bytes. The theorems say that it shows exactly
+-- this.
 use Prim.Native.Nat.{ℕ, _+_, _/_, _%_, _<_, _≤_}
 use mathlib.Core.Bool.{true}
 use mathlib.Core.List.{List}

@@ -11,8 +11,9 @@ use Rattle.codec.specs.Number.{u16At, i32At}
 use Rattle.codec.specs.Tabulate.{tabulate}
 use Rattle.geometry.specs.Box.{validBox}
 use Rattle.blocks.specs.Block.{blockAt, headerIn, entriesIn, blockHead}
-use Rattle.blocks.specs.Layout.{axes, blockSize, maxLength, directoryKind, reservedAt, payloadAt, checkAt, entrySize}
-use Rattle.blocks.specs.Layout.{numberOffset, countOffset, zeroOffset, entriesPerBlock, maxSites, maxTiles}
+use Rattle.blocks.specs.Layout.{axes, blockSize, maxLength, directoryKind, reservedAt, payloadAt, checkAt}
+use Rattle.blocks.specs.Layout.{entrySize, numberOffset, countOffset, zeroOffset, entriesPerBlock, maxSites}
+use Rattle.blocks.specs.Layout.{maxTiles}
 use Rattle.blocks.specs.Outcome.{inTurn}
 use Rattle.blocks.specs.declared.header.Header.{Header}
 
@@ -47,8 +48,8 @@ tilesDue h first blocks =
     (leb 1 (h .tiles) && leb (h .tiles) maxTiles) &&
     (eqb (h .tiles) (first .tiles) && eqb (directoryBlocks h + h .tiles) blocks)
 
--- 8: "a byte due to be zero is not"; with n entries these are bytes 8-15, the last two of each entry, and what lies between
--- the last entry and the check: "All else zero, unused payload too"
+-- 8: "a byte due to be zero is not"; with n entries these are bytes 8-15, the last two of each entry, and what lies
+-- between the last entry and the check: "All else zero, unused payload too"
 unfoldable pub directoryPadding : List ℕ → ℕ → Bool
 directoryPadding s n = (zeros s reservedAt payloadAt && every (entryZero s) n) && zeros s (entryOffset n) checkAt
 
@@ -59,8 +60,8 @@ validEntry bounds count = validBox bounds && leb count (maxSites axes)
 unfoldable pub entryValid : List ℕ → ℕ → Bool
 entryValid s i = validEntry (entryBox s i) (entryCount s i)
 
--- the directory block with bytes s at position p, of a file with this many blocks whose block 0 has the header `first`; gives
--- its own
+-- the directory block with bytes s at position p, of a file with this many blocks whose block 0 has the header `first`;
+-- gives its own
 unfoldable pub directoryBlock : List ℕ → ℕ → Header → ℕ → Outcome Header
 directoryBlock s p first blocks =
     andThen (blockHead directoryKind s p) (λ _.

@@ -8,7 +8,8 @@ ghost use Rattle.blocks.specs.Layout.{axes, blockSize, entriesPerBlock};
 ghost use Rattle.blocks.specs.Outcome.{directoryOutcome};
 ghost use Rattle.blocks.specs.Block.{blockAt, headerIn};
 ghost use Rattle.blocks.specs.Directory.{directoryBlocks, entriesDue, tilesDue, directoryPadding};
-ghost use Rattle.blocks.specs.Directory.{directoryBlock, directoryBlockAt, lengthDue, directoryRest, directory, boxAt, countAt};
+ghost use Rattle.blocks.specs.Directory.{directoryBlock, directoryBlockAt, lengthDue, directoryRest, directory};
+ghost use Rattle.blocks.specs.Directory.{boxAt, countAt};
 use crate::block;
 use crate::entry;
 use crate::header::Header;
@@ -115,7 +116,8 @@ fn directory_block(s: &[u8], p: usize, first: Header, blocks: usize) -> Director
 
 // The directory block at position p of a file whose block 0 has the header `first`.
 fn directory_block_at(f: &[u8], p: usize, first: Header) -> DirectoryAnswer
-    requires { ⌜ (blockSize * p + blockSize ≤ length (now f)) × (p < limit16) × (first ≡ headerIn (blockAt (now f) 0)) ⌝ }
+    requires { ⌜
+        (blockSize * p + blockSize ≤ length (now f)) × (p < limit16) × (first ≡ headerIn (blockAt (now f) 0)) ⌝ }
     ensures { λ r. ⌜ directoryOutcome r ≡ directoryBlockAt (now (f .entry)) p ⌝ }
 {
     let blocks = f.len() / layout::BLOCK_SIZE;
@@ -124,7 +126,9 @@ fn directory_block_at(f: &[u8], p: usize, first: Header) -> DirectoryAnswer
 
 // The directory blocks after block 0.
 fn directory_rest(f: &[u8], h: Header) -> DirectoryAnswer
-    requires { ⌜ (blockSize * directoryBlocks h ≤ length (now f)) × (h .tiles < limit16) × (h ≡ headerIn (blockAt (now f) 0)) ⌝ }
+    requires { ⌜
+        (blockSize * directoryBlocks h ≤ length (now f)) × (h .tiles < limit16)
+        × (h ≡ headerIn (blockAt (now f) 0)) ⌝ }
     ensures { λ r. ⌜ directoryOutcome r ≡ directoryRest (now (f .entry)) h ⌝ }
 {
     let d = directory_blocks(h);

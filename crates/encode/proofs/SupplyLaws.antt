@@ -31,7 +31,8 @@ module _ (counts : List ℕ) where
   offset-within t (suc n) h =
       ⊎-elim (λ e. rw e (omega arith)) (λ l. omega (arith, offset-within t n l)) (eq-or-lt-of-le (le-of-suc-le-suc h))
 
-  pub offset-small : (t : ℕ) → ((i : ℕ) → i < t → countOf counts i ≤ maxSites axes) → offset counts t ≤ maxSites axes * t
+  pub offset-small : (t : ℕ) → ((i : ℕ) → i < t → countOf counts i ≤ maxSites axes) →
+      offset counts t ≤ maxSites axes * t
   unfolding offset
   offset-small zero h = omega arith
   offset-small (suc t) h = let a = offset-small t (λ i l. h i (omega arith)) in omega (arith, h t (omega arith))

@@ -1,4 +1,5 @@
--- The writer's lists (document 01, "Writer, full check, host, program"): "boxes, counts, and x, y, cue lists in tile order".
+-- The writer's lists (document 01, "Writer, full check, host, program"): "boxes, counts, and x, y, cue lists in tile
+-- order".
 use Prim.Native.Nat.{ℕ, zero, suc, _+_, _*_}
 use mathlib.Core.List.{List, [], _∷_}
 use lib.IntN.{ℤ, pos}

@@ -38,7 +38,8 @@ fn put_entry(d: &mut [u8], at: usize, boxes: &[i32], counts: &[u32], t: usize)
     requires { ⌜
         (at + entrySize axes ≤ length (now d)) × (numbersPerBox * t + numbersPerBox ≤ length (now boxes))
         × (t < length (now counts)) ⌝ }
-    ensures { λ _. ⌜ now (d .exit) ≡ over (now (d .entry)) at (entryBytes (now (boxes .entry)) (now (counts .entry)) t) ⌝ }
+    ensures { λ _. ⌜
+        now (d .exit) ≡ over (now (d .entry)) at (entryBytes (now (boxes .entry)) (now (counts .entry)) t) ⌝ }
 {
     put_box(d, at, boxes, t);
     put_u16(d, at + layout::COUNT_OFFSET, wide(counts[t]));
@@ -51,7 +52,8 @@ fn put_entries(d: &mut [u8], start: usize, boxes: &[i32], counts: &[u32], first:
         (start + entrySize axes * n ≤ length (now d)) × (numbersPerBox * (first + n) ≤ length (now boxes))
         × (first + n ≤ length (now counts)) ⌝ }
     ensures { λ _. ⌜
-        now (d .exit) ≡ over (now (d .entry)) start (joined (entryBytes (now (boxes .entry)) (now (counts .entry))) first n) ⌝ }
+        now (d .exit) ≡ over (now (d .entry)) start
+        (joined (entryBytes (now (boxes .entry)) (now (counts .entry))) first n) ⌝ }
 {
     let mut at = start;
     let mut t = first;
@@ -70,7 +72,8 @@ fn put_directory_block(d: &mut [u8], boxes: &[i32], counts: &[u32], p: usize)
         (blockSize * p + blockSize ≤ length (now d)) × (length (now boxes) ≡ numbersPerBox * length (now counts))
         × (length (now counts) ≤ maxTiles) × (p < directoryBlocks (headerOf (now counts))) ⌝ }
     ensures { λ _. ⌜
-        now (d .exit) ≡ over (now (d .entry)) (blockSize * p) (directoryBytes (now (boxes .entry)) (now (counts .entry)) p) ⌝ }
+        now (d .exit) ≡ over (now (d .entry)) (blockSize * p)
+        (directoryBytes (now (boxes .entry)) (now (counts .entry)) p) ⌝ }
 {
     let at = layout::BLOCK_SIZE * p;
     let n = entries_due(header_of(counts), p);

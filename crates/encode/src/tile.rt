@@ -21,9 +21,12 @@ use tiles::tile::site_offset;
 
 // Site i of the lists.
 fn put_site(d: &mut [u8], at: usize, xs: &[i32], ys: &[i32], cues: &[u32], i: usize)
-    requires { ⌜ (at + siteSize axes ≤ length (now d)) × (i < length (now xs)) × (i < length (now ys)) × (i < length (now cues)) ⌝ }
+    requires { ⌜
+        (at + siteSize axes ≤ length (now d)) × (i < length (now xs)) × (i < length (now ys))
+        × (i < length (now cues)) ⌝ }
     ensures { λ _. ⌜
-        now (d .exit) ≡ over (now (d .entry)) at (siteBytes (now (xs .entry)) (now (ys .entry)) (now (cues .entry)) i) ⌝ }
+        now (d .exit) ≡ over (now (d .entry)) at
+        (siteBytes (now (xs .entry)) (now (ys .entry)) (now (cues .entry)) i) ⌝ }
 {
     put_i32(d, at, xs[i]);
     put_i32(d, at + 4, ys[i]);
@@ -80,8 +83,9 @@ fn put_tile(d: &mut [u8], p: usize, xs: &[i32], ys: &[i32], cues: &[u32], first:
 pub fn put_tiles(d: &mut [u8], counts: &[u32], xs: &[i32], ys: &[i32], cues: &[u32])
     requires { ⌜
         (fileLength (headerOf (now counts)) ≤ length (now d)) × (length (now counts) ≤ maxTiles)
-        × ((t : ℕ) → t < length (now counts) → countOf (now counts) t ≤ maxSites axes) × (length (now xs) ≡ total (now counts))
-        × (length (now ys) ≡ total (now counts)) × (length (now cues) ≡ total (now counts)) ⌝ }
+        × ((t : ℕ) → t < length (now counts) → countOf (now counts) t ≤ maxSites axes)
+        × (length (now xs) ≡ total (now counts)) × (length (now ys) ≡ total (now counts))
+        × (length (now cues) ≡ total (now counts)) ⌝ }
     ensures { λ _. ⌜
         now (d .exit) ≡ over (now (d .entry)) (blockSize * directoryBlocks (headerOf (now (counts .entry))))
         (joined (tileBytesOf (now (counts .entry)) (now (xs .entry)) (now (ys .entry)) (now (cues .entry))) 0

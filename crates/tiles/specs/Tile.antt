@@ -31,8 +31,8 @@ siteIn s slot = record {
 abbrev pub sitePoint : Site → List ℤ
 sitePoint site = site .x ∷ site .y ∷ []
 
--- 8: "a byte due to be zero is not"; with n sites these are bytes 6-15, since T is "zero in a tile", and what lies between
--- the last site and the check: "All else zero, unused payload too"
+-- 8: "a byte due to be zero is not"; with n sites these are bytes 6-15, since T is "zero in a tile", and what lies
+-- between the last site and the check: "All else zero, unused payload too"
 unfoldable pub tilePadding : List ℕ → ℕ → Bool
 tilePadding s n = zeros s tilesAt payloadAt && zeros s (siteOffset n) checkAt
 
@@ -40,8 +40,8 @@ tilePadding s n = zeros s tilesAt payloadAt && zeros s (siteOffset n) checkAt
 unfoldable pub siteInside : List (List ℤ) → List ℕ → ℕ → Bool
 siteInside bounds s slot = inside bounds (sitePoint (siteIn s slot))
 
--- "openings, each 2, 3, 4, 5, 7, 8, 10": of the block with bytes s at position p, by box and count of its entry; gives the
--- number of its sites
+-- "openings, each 2, 3, 4, 5, 7, 8, 10": of the block with bytes s at position p, by box and count of its entry; gives
+-- the number of its sites
 unfoldable pub tileBlock : List ℕ → ℕ → List (List ℤ) → ℕ → Outcome ℕ
 tileBlock s p bounds count =
     andThen (blockHead tileKind s p) (λ _.

@@ -1,5 +1,5 @@
--- A block that holds what the writer makes is good, with the entries or sites of the lists; a good block of bytes with these
--- entries or sites holds what the writer makes. Assumes nothing.
+-- A block that holds what the writer makes is good, with the entries or sites of the lists; a good block of bytes with
+-- these entries or sites holds what the writer makes. Assumes nothing.
 use Prim.Native.Nat.{ℕ, _+_, _*_, _<_, _≤_}
 use mathlib.Core.Bool.{true}
 use mathlib.Core.List.{List}
@@ -11,9 +11,10 @@ use lib.ListN.{length, getD}
 use borrow.Author.Tests.{eqb-true, eqb-false, eq-eqb, ltb-true, ltb-false}
 use Rattle.blocks.specs.Accepted.{GoodHead, GoodDirectoryBlock}
 use Rattle.blocks.specs.Block.{headerIn, kindDue}
-use Rattle.blocks.specs.Directory.{directoryBlocks, entriesDue, entryOffset, entryBox, entryCount, entryZero, directoryPadding}
-use Rattle.blocks.specs.Layout.{axes, blockSize, kindAt, tilesAt, reservedAt, payloadAt, checkAt, entrySize, entriesPerBlock}
-use Rattle.blocks.specs.Layout.{siteSize, maxSites, maxTiles, directoryKind, tileKind}
+use Rattle.blocks.specs.Directory.{directoryBlocks, entriesDue, entryOffset, entryBox, entryCount, entryZero}
+use Rattle.blocks.specs.Directory.{directoryPadding}
+use Rattle.blocks.specs.Layout.{axes, blockSize, kindAt, tilesAt, reservedAt, payloadAt, checkAt, entrySize}
+use Rattle.blocks.specs.Layout.{entriesPerBlock, siteSize, maxSites, maxTiles, directoryKind, tileKind}
 use Rattle.blocks.specs.declared.header.Header.{Header}
 use Rattle.codec.specs.Every.{zeros}
 use Rattle.codec.specs.Number.{limit16, Bytes, u16At}
@@ -30,13 +31,19 @@ use Rattle.codec.proofs.Holds.{Holds, holds-each, holds-joined}
 use Rattle.encode.proofs.EncodeLaws.{length-entry, length-site, length-entries, length-sites, due-few, due-within}
 use Rattle.encode.proofs.EncodeLaws.{blocks-few}
 use Rattle.writer.specs.Made.{Signed, Unsigned}
-use Rattle.writer.proofs.BlockFields.{Fields, fields-read, fields-held, entry-read, entry-held, site-read, site-held}
+use Rattle.writer.proofs.BlockFields.{Fields, fields-read, fields-held, entry-read, entry-held, site-read}
+use Rattle.writer.proofs.BlockFields.{site-held}
 
 -- the fields that both kinds of block have in common
 module _ {s : List ℕ} {kind p : ℕ} where
   head-of : {n t : ℕ} {payload : List ℕ} → Fields s kind p n t payload → GoodHead kind s p
   unfolding kindDue
-  head-of g = record { sync = g .sync; check = g .check; due = eq-eqb (getD s kindAt 0) kind (g .kinds); position = g .position }
+  head-of g = record {
+    sync = g .sync;
+    check = g .check;
+    due = eq-eqb (getD s kindAt 0) kind (g .kinds);
+    position = g .position;
+  }
 
   kind-of : GoodHead kind s p → getD s kindAt 0 ≡ kind
   unfolding kindDue
@@ -56,7 +63,11 @@ module _ (boxes : List ℤ) (counts : List ℕ) (s : List ℕ) (p : ℕ) (size :
   entries-fit : payloadAt + length payload ≤ checkAt
   unfolding payload
   entries-fit =
-      omega (arith, length-entries boxes counts (entriesPerBlock axes * p) (entriesDue (headerOf counts) p), due-few (headerOf counts) p)
+      omega (
+        arith,
+        length-entries boxes counts (entriesPerBlock axes * p) (entriesDue (headerOf counts) p),
+        due-few (headerOf counts) p,
+      )
 
   payload-end : payloadAt + length payload ≡ entryOffset (entriesDue (headerOf counts) p)
   unfolding payload entryOffset
@@ -74,7 +85,8 @@ module _ (boxes : List ℤ) (counts : List ℕ) (s : List ℕ) (p : ℕ) (size :
         let t = entriesPerBlock axes * p + i in
         let k : t < length counts = omega (arith, due-within (headerOf counts) p here) in
         entry-read s i boxes counts t signed (omega (arith, small t k))
-        (holds-each s (entryBytes boxes counts) (entrySize axes) payloadAt (entriesPerBlock axes * p) (entriesDue (headerOf counts) p)
+        (holds-each s (entryBytes boxes counts) (entrySize axes) payloadAt (entriesPerBlock axes * p)
+        (entriesDue (headerOf counts) p)
         (λ j m. length-entry boxes counts (entriesPerBlock axes * p + j)) h i l)
 
     pub directory-read : Holds s 0 (directoryBytes boxes counts p) →
@@ -126,7 +138,8 @@ module _ (boxes : List ℤ) (counts : List ℕ) (s : List ℕ) (p : ℕ) (size :
 module _ (s : List ℕ) where
   tile-zeros : headerIn s .tiles ≡ 0 → zeros s reservedAt payloadAt ≡ true → zeros s tilesAt payloadAt ≡ true
   unfolding u16At
-  tile-zeros e z = zeros-hold s tilesAt payloadAt (λ i l k. by-test (ltb i reservedAt) (λ t. first i k (ltb-true i reservedAt t))
+  tile-zeros e z =
+      zeros-hold s tilesAt payloadAt (λ i l k. by-test (ltb i reservedAt) (λ t. first i k (ltb-true i reservedAt t))
       (λ t. zeros-at s reservedAt payloadAt z i (ltb-false i reservedAt t) l))
     where
       first : (i : ℕ) → tilesAt ≤ i → i < reservedAt → getD s i 0 ≡ 0
@@ -137,8 +150,10 @@ module _ (s : List ℕ) where
   unfolding u16At
   tiles-zero z =
       let a = zeros-at s tilesAt payloadAt z tilesAt (omega arith) (omega arith) in
-      let b = zeros-at s tilesAt payloadAt z (tilesAt + 1) (omega arith) (omega arith) in
-      (omega (arith, a, b), zeros-hold s reservedAt payloadAt (λ i l k. zeros-at s tilesAt payloadAt z i (omega arith) l))
+      let b = zeros-at s tilesAt payloadAt z (tilesAt + 1) (omega arith) (omega arith) in (
+        omega (arith, a, b),
+        zeros-hold s reservedAt payloadAt (λ i l k. zeros-at s tilesAt payloadAt z i (omega arith) l),
+      )
 
 -- ---- a tile's block
 -- its sites are n sites of the lists from site `first` on
@@ -150,7 +165,8 @@ Sites xs ys cues s first n = (slot : ℕ) → slot < n →
       cue = getD cues (first + slot) 0;
     }
 
-module _ (xs ys : List ℤ) (cues : List ℕ) (s : List ℕ) (p first n : ℕ) (size : length s ≡ blockSize) (few : n ≤ maxSites axes) where
+module _ (xs ys : List ℤ) (cues : List ℕ) (s : List ℕ) (p first n : ℕ) (size : length s ≡ blockSize)
+    (few : n ≤ maxSites axes) where
   sites : List ℕ
   sites = joined (siteBytes xs ys cues) first n
 
@@ -174,7 +190,8 @@ module _ (xs ys : List ℤ) (cues : List ℕ) (s : List ℕ) (p first n : ℕ) (
         record {
           head = head-of g;
           entries = g .entries;
-          padding = both-and (tile-zeros s (g .tiles) (g .reserved)) (ap (λ k. zeros s k checkAt) (sym sites-end) ∙ g .unused);
+          padding = both-and (tile-zeros s (g .tiles) (g .reserved)) (ap (λ k. zeros s k checkAt) (sym sites-end)
+              ∙ g .unused);
           inside = λ slot l. ap (λ (q : Site). geometry.inside bounds (sitePoint q)) (e slot l) ∙ inside slot l;
         },
         e,
@@ -193,7 +210,8 @@ module _ (xs ys : List ℤ) (cues : List ℕ) (s : List ℕ) (p first n : ℕ) (
         entries = g .entries;
         tiles = y .0;
         reserved = y .1;
-        held = holds-joined s (siteBytes xs ys cues) (siteSize axes) payloadAt first n (λ j m. length-site xs ys cues (first + j))
+        held = holds-joined s (siteBytes xs ys cues) (siteSize axes) payloadAt first n
+            (λ j m. length-site xs ys cues (first + j))
             (λ slot l. site-held s slot xs ys cues (first + slot) byte (e slot l));
         unused = ap (λ k. zeros s k checkAt) sites-end ∙ z .1;
         check = g .head .check;

@@ -22,7 +22,8 @@ use Rattle.codec.proofs.Joined.{length-joined}
 use Rattle.codec.proofs.Over.{also}
 use Rattle.encode.proofs.EncodeLaws.{length-directory-block}
 use Rattle.writer.specs.Accepted.{GoodSupply}
-use Rattle.writer.specs.Write.{tilesFit, entryFits, listsFit, sitesFit, tileFits, writeTests, writeCall, writeExit}
+use Rattle.writer.specs.Write.{tilesFit, entryFits, listsFit, sitesFit, tileFits, writeTests, writeCall}
+use Rattle.writer.specs.Write.{writeExit}
 
 -- ---- test by test
 pub tiles-good : (t : ℕ) → tilesFit t ≡ true → (1 ≤ t) × (t ≤ maxTiles)
@@ -42,7 +43,8 @@ lists-good sum x y cue e =
     let g = and-both _ _ (h .0) in
     (eqb-true x sum (g .0), eqb-true y sum (g .1), eqb-true cue sum (h .1))
 
-tile-good : (boxes : List ℤ) (counts : List ℕ) (xs ys : List ℤ) (t : ℕ) → tileFits boxes counts xs ys t ≡ true → (slot : ℕ) →
+tile-good : (boxes : List ℤ) (counts : List ℕ) (xs ys : List ℤ) (t : ℕ) → tileFits boxes counts xs ys t ≡ true →
+    (slot : ℕ) →
     slot < countOf counts t → inside (boxOf boxes t) (pointOf xs ys (offset counts t + slot)) ≡ true
 unfolding tileFits sitesFit
 tile-good boxes counts xs ys t e slot l =
@@ -57,7 +59,8 @@ tile-test boxes counts xs ys t e₁ e₂ e₃ = rw (e₁, e₂, e₃)
 
 -- ---- all tests
 module _ (s : Supply) (room : ℕ) where
-  pub tests-good : {u : Unit} → writeTests s room ≡ accepted u → GoodSupply s × (fileLength (headerOf (s .counts)) ≤ room)
+  pub tests-good : {u : Unit} → writeTests s room ≡ accepted u →
+      GoodSupply s × (fileLength (headerOf (s .counts)) ≤ room)
   unfolding writeTests
   tests-good e =
       let a = require-accepted _ _ _ _ e in
@@ -68,7 +71,8 @@ module _ (s : Supply) (room : ℕ) where
       let h = require-accepted _ _ _ _ (g .1) in
       let t = tiles-good (tilesOf s) (a .0) in
       let l = lists-good (total (s .counts)) (length (s .xs)) (length (s .ys)) (length (s .cues)) (d .0) in
-      let v : (t : ℕ) → t < tilesOf s → (validBox (boxOf (s .boxes) t) ≡ true) × (countOf (s .counts) t ≤ maxSites axes) =
+      let v : (t : ℕ) → t < tilesOf s →
+      (validBox (boxOf (s .boxes) t) ≡ true) × (countOf (s .counts) t ≤ maxSites axes) =
       λ t k. entry-good (s .boxes) (s .counts) t (every-at (entryFits (s .boxes) (s .counts)) (tilesOf s) t (c .0) k) in (
         record {
           least = t .0;
@@ -134,5 +138,6 @@ module _ (s : Supply) (out : List ℕ) where
       let g = directoryBytes (s .boxes) (s .counts) in
       let n = length-joined g blockSize 0 (directoryBlocks (headerOf (s .counts)))
       (λ i l. length-directory-block (s .boxes) (s .counts) (0 + i)) in
-      also out 0 (blockSize * directoryBlocks (headerOf (s .counts))) (joined g 0 (directoryBlocks (headerOf (s .counts))))
+      also out 0 (blockSize * directoryBlocks (headerOf (s .counts)))
+      (joined g 0 (directoryBlocks (headerOf (s .counts))))
       (joined (tileBytesOf (s .counts) (s .xs) (s .ys) (s .cues)) 0 (tilesOf s)) e₁ e₂ (omega (arith, n))

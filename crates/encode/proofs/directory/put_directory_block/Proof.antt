@@ -98,7 +98,8 @@ returns c =
     let g = entryBytes (a .boxes .now) (a .counts .now) in
     let q = length-entries (a .boxes .now) (a .counts .now) first n in
     block-row (a .d .now) at (headBytes directoryKind (a .p) n t) (joined g first n) (u .entry-offset .result)
-    (length-head directoryKind (a .p) n t) (omega (arith, q, used)) (omega (arith, e .entries-due .ensures .1, used)) (s .pre .0)
+    (length-head directoryKind (a .p) n t) (omega (arith, q, used)) (omega (arith, e .entries-due .ensures .1, used))
+    (s .pre .0)
     (hd .put-head .ensures) (z .put-zeros .ensures) (y .put-entries .ensures) (x .put-zeros2 .ensures)
     (w .put-checksum .ensures)
     ∙ ap (λ k. over (a .d .now) at (blockBytes (headBytes directoryKind (a .p) k t) (joined g first k)))

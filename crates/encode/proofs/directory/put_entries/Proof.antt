@@ -50,7 +50,8 @@ loop-again c =
       omega (arith, k, l .loop .inv),
       search needs,
       search needs,
-      joined-turn (entryBytes (a .boxes .now) (a .counts .now)) (l .loop .d) (l .loop .at) (l .loop .at + entrySize axes)
+      joined-turn (entryBytes (a .boxes .now) (a .counts .now)) (l .loop .d) (l .loop .at)
+          (l .loop .at + entrySize axes)
           (l .loop .t) (l .loop .left)
           (search needs) (p .ensures) (ap (λ w. l .loop .at + w)
           (sym (length-entry (a .boxes .now) (a .counts .now) (l .loop .t)))) ∙ l .loop .inv .4,

@@ -50,7 +50,8 @@ loop-again c =
       search needs,
       search needs,
       search needs,
-      joined-turn (siteBytes (a .xs .now) (a .ys .now) (a .cues .now)) (l .loop .d) (l .loop .at) (l .loop .at + siteSize axes)
+      joined-turn (siteBytes (a .xs .now) (a .ys .now) (a .cues .now)) (l .loop .d) (l .loop .at)
+          (l .loop .at + siteSize axes)
           (l .loop .i) (l .loop .left)
           (search needs) (p .ensures) (ap (λ w. l .loop .at + w)
           (sym (length-site (a .xs .now) (a .ys .now) (a .cues .now) (l .loop .i)))) ∙ l .loop .inv .5,
@@ -63,7 +64,8 @@ returns : tie.Need-returns Inv-loop μ-loop
 returns c =
     let l = c .before in
     let a = l .before .before .before .args in
-    joined-end (siteBytes (a .xs .now) (a .ys .now) (a .cues .now)) (l .loop .d) (l .loop .at) (l .loop .i) (l .loop .left)
+    joined-end (siteBytes (a .xs .now) (a .ys .now) (a .cues .now)) (l .loop .d) (l .loop .at) (l .loop .i)
+    (l .loop .left)
     (search needs) ∙ l .loop .inv .5
 
 pub put-sites-spec : {M : Type 1} → statement M
