@@ -1,8 +1,9 @@
 -- What an accepted directory shows, and that this is enough. Assumes nothing.
 use Prim.Native.Nat.{ℕ, zero, suc, _+_, _-_, _*_, _/_, _%_, _<_, _≤_}
 use mathlib.Core.Bool.{true}
-use mathlib.Core.List.{List}
+use mathlib.Core.List.{List, [], _∷_}
 use mathlib.Core.Path.{_≡_, refl, sym, ap, _∙_}
+use native.Mathlib.Nat.{add-zero}
 use native.Mathlib.Omega.{arith}
 use lib.ListN.{length}
 use borrow.Author.Tests.{leb-true, le-leb, eqb-true, eq-eqb}
@@ -10,14 +11,15 @@ use Rattle.base.specs.Refusal.{accepted, andThen, #length}
 use Rattle.geometry.specs.Box.{validBox}
 use Rattle.base.proofs.Outcomes.{accepted-injective, require-accepted, andThen-accepted}
 use Rattle.base.proofs.Tests.{and-both}
-use Rattle.codec.specs.Number.{limit16}
+use Rattle.codec.specs.Number.{limit16, i32At}
+use Rattle.codec.specs.Tabulate.{tabulate}
 use Rattle.base.proofs.Every.{every-at, every-holds}
 use Rattle.blocks.specs.Accepted.{GoodTiles, GoodDirectoryBlock, GoodLength, GoodDirectory}
 use Rattle.blocks.specs.Block.{blockAt, entriesIn, headerIn, blockHead}
-use Rattle.blocks.specs.Directory.{directoryBlocks, entriesDue, entryBox, entryCount, tilesDue, entryValid}
-use Rattle.blocks.specs.Directory.{directoryBlock, directoryBlockAt, lengthDue, directoryRest, directory, boxAt}
-use Rattle.blocks.specs.Directory.{countAt}
-use Rattle.blocks.specs.Layout.{blockSize, maxLength, directoryKind, entriesPerBlock, maxSites, maxTiles}
+use Rattle.blocks.specs.Directory.{directoryBlocks, entriesDue, entryOffset, entryBox, entryCount, tilesDue}
+use Rattle.blocks.specs.Directory.{entryValid, directoryBlock, directoryBlockAt, lengthDue, directoryRest}
+use Rattle.blocks.specs.Directory.{directory, boxAt, countAt}
+use Rattle.blocks.specs.Layout.{axes, blockSize, maxLength, directoryKind, entriesPerBlock, maxSites, maxTiles}
 use Rattle.blocks.specs.Outcome.{inTurn}
 use Rattle.blocks.specs.declared.header.Header.{Header}
 use Rattle.blocks.proofs.BlockLaws.{head-good, head-enough}
@@ -42,7 +44,12 @@ pub tiles-enough : (h : Header) (blocks : ℕ) → GoodTiles h blocks → tilesD
 unfolding tilesDue
 tiles-enough h blocks g =
     let t = h .tiles in
-    rw (le-leb 1 t (g .least), le-leb t maxTiles (g .most), eq-eqb t t refl, eq-eqb (directoryBlocks h + t) blocks (g .sum))
+    rw (
+      le-leb 1 t (g .least),
+      le-leb t maxTiles (g .most),
+      eq-eqb t t refl,
+      eq-eqb (directoryBlocks h + t) blocks (g .sum),
+    )
 
 -- ---- test 1
 pub length-good : (n : ℕ) → lengthDue n ≡ true → GoodLength n
@@ -50,23 +57,35 @@ unfolding lengthDue
 length-good n e =
     let h = and-both _ _ e in
     let l = and-both _ _ (h .0) in
-    record { least = leb-true 1 n (l .0); whole = eqb-true (n % blockSize) 0 (l .1); most = leb-true n maxLength (h .1) }
+    record {
+      least = leb-true 1 n (l .0);
+      whole = eqb-true (n % blockSize) 0 (l .1);
+      most = leb-true n maxLength (h .1);
+    }
 
 pub length-enough : (n : ℕ) → GoodLength n → lengthDue n ≡ true
 unfolding lengthDue
 length-enough n g = rw (le-leb 1 n (g .least), eq-eqb (n % blockSize) 0 (g .whole), le-leb n maxLength (g .most))
 
 -- ---- a directory block
+-- the ends of an entry's box, number by number
+pub entry-ends : (s : List ℕ) (i : ℕ) →
+    let at = entryOffset i in
+    entryBox s i ≡ (i32At s at ∷ i32At s (at + 8) ∷ []) ∷ (i32At s (at + 4) ∷ i32At s (at + 12) ∷ []) ∷ []
+unfolding entryBox tabulate
+entry-ends s i = rw add-zero
+
 module _ (s : List ℕ) (p : ℕ) where
-  entry-good : (i : ℕ) → entryValid s i ≡ true → (validBox (entryBox s i) ≡ true) × (entryCount s i ≤ maxSites)
+  entry-good : (i : ℕ) → entryValid s i ≡ true → (validBox (entryBox s i) ≡ true) × (entryCount s i ≤ maxSites axes)
   unfolding entryValid
-  entry-good i e = let h = and-both _ _ e in (h .0, leb-true (entryCount s i) maxSites (h .1))
+  entry-good i e = let h = and-both _ _ e in (h .0, leb-true (entryCount s i) (maxSites axes) (h .1))
 
-  entry-enough : (i : ℕ) → validBox (entryBox s i) ≡ true → entryCount s i ≤ maxSites → entryValid s i ≡ true
+  entry-enough : (i : ℕ) → validBox (entryBox s i) ≡ true → entryCount s i ≤ maxSites axes → entryValid s i ≡ true
   unfolding entryValid
-  entry-enough i b c = rw (b, le-leb (entryCount s i) maxSites c)
+  entry-enough i b c = rw (b, le-leb (entryCount s i) (maxSites axes) c)
 
-  pub block-good : (first : Header) (blocks : ℕ) {h : Header} → directoryBlock s p first blocks ≡ accepted h → (h ≡ first)
+  pub block-good : (first : Header) (blocks : ℕ) {h : Header} → directoryBlock s p first blocks ≡ accepted h →
+      (h ≡ first)
       × GoodTiles h blocks × GoodDirectoryBlock s p h
   unfolding directoryBlock
   block-good first blocks {h} e =
@@ -78,7 +97,7 @@ module _ (s : List ℕ) (p : ℕ) where
       let q : headerIn s ≡ h = accepted-injective (d .1) in
       let n = entriesDue (headerIn s) p in
       let w = tiles-good (headerIn s) first blocks (a .0) in
-      let v : (i : ℕ) → i < n → (validBox (entryBox s i) ≡ true) × (entryCount s i ≤ maxSites) =
+      let v : (i : ℕ) → i < n → (validBox (entryBox s i) ≡ true) × (entryCount s i ≤ maxSites axes) =
       λ i l. entry-good i (every-at (entryValid s) n i (d .0) l) in
       let g : GoodDirectoryBlock s p (headerIn s) = record {
         head = head-good directoryKind s p (k .1);
@@ -111,11 +130,11 @@ module _ (h : Header) where
   unfolding directoryBlocks
   some-block l = omega arith
 
-  pub entry-block : (t : ℕ) → t < h .tiles → t / entriesPerBlock < directoryBlocks h
+  pub entry-block : (t : ℕ) → t < h .tiles → t / entriesPerBlock axes < directoryBlocks h
   unfolding directoryBlocks
   entry-block t l = omega arith
 
-  pub entry-due : (t : ℕ) → t < h .tiles → t % entriesPerBlock < entriesDue h (t / entriesPerBlock)
+  pub entry-due : (t : ℕ) → t < h .tiles → t % entriesPerBlock axes < entriesDue h (t / entriesPerBlock axes)
   unfolding entriesDue
   entry-due t l = omega arith
 
@@ -168,7 +187,8 @@ module _ (f : List ℕ) where
       rw (length-enough (length f) (g .size), each 0 some, rest)
 
 -- what the code goes by once block 0 is accepted
-pub first-block : (f : List ℕ) (h : Header) {x : Header} → directoryBlockAt f 0 ≡ accepted x → h ≡ headerIn (blockAt f 0) →
+pub first-block : (f : List ℕ) (h : Header) {x : Header} → directoryBlockAt f 0 ≡ accepted x →
+    h ≡ headerIn (blockAt f 0) →
     (x ≡ h)
     × (blockSize * directoryBlocks h ≤ length f) × (h .tiles < limit16)
 first-block f h {x} e q =
@@ -185,8 +205,10 @@ module _ {f : List ℕ} {h : Header} (g : GoodDirectory f h) where
   module _ (t : ℕ) (l : t < h .tiles) where
     pub box-valid : validBox (boxAt f t) ≡ true
     unfolding boxAt
-    box-valid = g .blocks (t / entriesPerBlock) (entry-block h t l) .boxes (t % entriesPerBlock) (entry-due h t l)
+    box-valid =
+        g .blocks (t / entriesPerBlock axes) (entry-block h t l) .boxes (t % entriesPerBlock axes) (entry-due h t l)
 
-    pub count-small : countAt f t ≤ maxSites
+    pub count-small : countAt f t ≤ maxSites axes
     unfolding countAt
-    count-small = g .blocks (t / entriesPerBlock) (entry-block h t l) .counts (t % entriesPerBlock) (entry-due h t l)
+    count-small =
+        g .blocks (t / entriesPerBlock axes) (entry-block h t l) .counts (t % entriesPerBlock axes) (entry-due h t l)

@@ -56,7 +56,8 @@ module _ {A : Type 0} (test : ℕ → Outcome A) where
       rw (here, rest)
 
 -- tests that agree agree in turn
-pub turns-same : {A : Type 0} (test other : ℕ → Outcome A) (p n : ℕ) → ((i : ℕ) → p ≤ i → i < p + n → test i ≡ other i) →
+pub turns-same : {A : Type 0} (test other : ℕ → Outcome A) (p n : ℕ) →
+    ((i : ℕ) → p ≤ i → i < p + n → test i ≡ other i) →
     inTurn test p n ≡ inTurn other p n
 unfolding inTurn
 turns-same test other p zero h = refl

@@ -17,7 +17,7 @@ use Rattle.blocks.specs.Block.{blockAt, headerIn}
 use Rattle.blocks.specs.Checksum.{sumsFrom, sums, checkAgrees}
 use Rattle.blocks.specs.Directory.{directoryBlocks, directoryBlockAt, lengthDue, directoryRest, directory, boxAt}
 use Rattle.blocks.specs.Directory.{countAt}
-use Rattle.blocks.specs.Layout.{blockSize, checkAt, entriesPerBlock, maxSites}
+use Rattle.blocks.specs.Layout.{axes, blockSize, checkAt, entriesPerBlock, maxSites}
 use Rattle.blocks.specs.Same.{SameDirectory}
 use Rattle.blocks.specs.declared.header.Header.{Header}
 use Rattle.blocks.proofs.ChecksumLaws.{sums-small}
@@ -49,10 +49,11 @@ pub directory-exactly : (f : List ℕ) (h : Header) →
     × (GoodDirectory f h → directory f ≡ accepted h)
 directory-exactly f h = (laws.directory-good f, laws.directory-enough f h)
 
--- box and count of a tile of an accepted directory: "coordinate beyond limits, low above high, or count over 40" is refused
+-- box and count of a tile of an accepted directory: "coordinate beyond limits, low above high, or count over 40" is
+-- refused
 pub entry-of-accepted : (f : List ℕ) (h : Header) (t : ℕ) → directory f ≡ accepted h → t < h .tiles →
     (validBox (boxAt f t) ≡ true)
-    × (countAt f t ≤ maxSites)
+    × (countAt f t ≤ maxSites axes)
 entry-of-accepted f h t e l = let g = laws.directory-good f e in (laws.box-valid g t l, laws.count-small g t l)
 
 -- files of the same length, equal in every byte of a block, have the same block (the laws below compare blocks)
@@ -65,7 +66,8 @@ same-bytes f g p n h =
     λ l. length-take blockSize (drop at l) ∙ ap (min blockSize) (length-drop at l) in
     let byte : (l : List ℕ) (i : ℕ) → i < blockSize → getD (take blockSize (drop at l)) i 0 ≡ getD l (at + i) 0 =
     λ l i k. getD-take blockSize (drop at l) i 0 k ∙ getD-drop at l i 0 in
-    ext-getD 0 (take blockSize (drop at g)) (take blockSize (drop at f)) (size g ∙ ap (λ k. min blockSize (k - at)) n ∙ sym (size f))
+    ext-getD 0 (take blockSize (drop at g)) (take blockSize (drop at f))
+    (size g ∙ ap (λ k. min blockSize (k - at)) n ∙ sym (size f))
     (λ i k. let l : i < blockSize = omega (arith, size g) in byte g i l ∙ h i l ∙ sym (byte f i l))
 
 -- what the directory comes to depends on the file's length and on the directory's blocks alone
@@ -95,10 +97,11 @@ module _ (f g : List ℕ) (first : blockAt g 0 ≡ blockAt f 0) (s : SameDirecto
 pub entry-depends : (f g : List ℕ) (h : Header) (t : ℕ) → SameDirectory f g h → t < h .tiles → (boxAt g t ≡ boxAt f t)
     × (countAt g t ≡ countAt f t)
 unfolding boxAt countAt
-entry-depends f g h t s l = let e = s .blocks (t / entriesPerBlock) (laws.entry-block h t l) in (rw e, rw e)
+entry-depends f g h t s l = let e = s .blocks (t / entriesPerBlock axes) (laws.entry-block h t l) in (rw e, rw e)
 
 -- a file that agrees with an accepted directory is accepted with the same header
-pub same-directory : (f g : List ℕ) (h : Header) → directory f ≡ accepted h → SameDirectory f g h → directory g ≡ accepted h
+pub same-directory : (f g : List ℕ) (h : Header) → directory f ≡ accepted h → SameDirectory f g h →
+    directory g ≡ accepted h
 same-directory f g h e s =
     let d = laws.directory-good f e in
     let m = laws.some-block h (d .tiles .least) in

@@ -1,4 +1,5 @@
--- What acceptance of a directory block and of a directory shows of the bytes. The theorems say that it shows exactly this.
+-- What acceptance of a directory block and of a directory shows of the bytes. The theorems say that it shows exactly
+-- this.
 use Prim.Native.Nat.{ℕ, _+_, _/_, _%_, _<_, _≤_}
 use mathlib.Core.Bool.{true}
 use mathlib.Core.List.{List}
@@ -8,7 +9,7 @@ use Rattle.geometry.specs.Box.{validBox}
 use Rattle.blocks.specs.Block.{blockAt, positionIn, entriesIn, headerIn, kindDue}
 use Rattle.blocks.specs.Checksum.{checkAgrees}
 use Rattle.blocks.specs.Directory.{directoryBlocks, entriesDue, entryBox, entryCount, directoryPadding}
-use Rattle.blocks.specs.Layout.{blockSize, maxLength, syncByte, directoryKind, maxSites, maxTiles}
+use Rattle.blocks.specs.Layout.{axes, blockSize, maxLength, syncByte, directoryKind, maxSites, maxTiles}
 use Rattle.blocks.specs.declared.header.Header.{Header}
 
 -- what the two kinds of block have in common
@@ -31,7 +32,7 @@ pub record GoodDirectoryBlock (s : List ℕ) (p : ℕ) (h : Header) : Type 0 whe
   pub entries : entriesIn s ≡ entriesDue h p
   pub padding : directoryPadding s (entriesDue h p) ≡ true
   pub boxes : (i : ℕ) → i < entriesDue h p → validBox (entryBox s i) ≡ true
-  pub counts : (i : ℕ) → i < entriesDue h p → entryCount s i ≤ maxSites
+  pub counts : (i : ℕ) → i < entriesDue h p → entryCount s i ≤ maxSites axes
 
 -- the length of a file
 pub record GoodLength (n : ℕ) : Type 0 where

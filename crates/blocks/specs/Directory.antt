@@ -9,36 +9,39 @@ use Rattle.base.specs.Refusal.{Outcome, accepted, require, andThen, #length, #t
 use Rattle.base.specs.Every.{every}
 use Rattle.codec.specs.Zeros.{zeros}
 use Rattle.codec.specs.Number.{u16At, i32At}
+use Rattle.codec.specs.Tabulate.{tabulate}
 use Rattle.geometry.specs.Box.{validBox}
 use Rattle.blocks.specs.Block.{blockAt, headerIn, entriesIn, blockHead}
-use Rattle.blocks.specs.Layout.{blockSize, maxLength, directoryKind, reservedAt, payloadAt, checkAt, entrySize}
-use Rattle.blocks.specs.Layout.{countOffset, zeroOffset, entriesPerBlock, maxSites, maxTiles}
+use Rattle.blocks.specs.Layout.{axes, blockSize, maxLength, directoryKind, reservedAt, payloadAt, checkAt}
+use Rattle.blocks.specs.Layout.{entrySize, numberOffset, countOffset, zeroOffset, entriesPerBlock, maxSites}
+use Rattle.blocks.specs.Layout.{maxTiles}
 use Rattle.blocks.specs.Outcome.{inTurn}
 use Rattle.blocks.specs.declared.header.Header.{Header}
 
 -- "d = T/24 rounded up"
 unfoldable pub directoryBlocks : Header → ℕ
-directoryBlocks h = (h .tiles + (entriesPerBlock - 1)) / entriesPerBlock
+directoryBlocks h = (h .tiles + (entriesPerBlock axes - 1)) / entriesPerBlock axes
 
 -- "Each directory block but the last has 24 entries": in the last what is left of T
 unfoldable pub entriesDue : Header → ℕ → ℕ
-entriesDue h p = min entriesPerBlock (h .tiles - entriesPerBlock * p)
+entriesDue h p = min (entriesPerBlock axes) (h .tiles - entriesPerBlock axes * p)
 
 -- where entry i of a block stands
 unfoldable pub entryOffset : ℕ → ℕ
-entryOffset i = payloadAt + entrySize * i
+entryOffset i = payloadAt + entrySize axes * i
 
 -- "low x, low y, high x, high y (signed, 4 bytes each), count (2), zero (2)"; a box has its ends by axis
+abbrev pub entryNumber : List ℕ → ℕ → ℕ → ℤ
+entryNumber s i n = i32At s (entryOffset i + numberOffset n)
+
 unfoldable pub entryBox : List ℕ → ℕ → List (List ℤ)
-entryBox s i =
-    (i32At s (entryOffset i) ∷ i32At s (entryOffset i + 8) ∷ []) ∷
-    (i32At s (entryOffset i + 4) ∷ i32At s (entryOffset i + 12) ∷ []) ∷ []
+entryBox s i = tabulate (λ axis. entryNumber s i axis ∷ entryNumber s i (axes + axis) ∷ []) 0 axes
 
 unfoldable pub entryCount : List ℕ → ℕ → ℕ
-entryCount s i = u16At s (entryOffset i + countOffset)
+entryCount s i = u16At s (entryOffset i + countOffset axes)
 
 unfoldable pub entryZero : List ℕ → ℕ → Bool
-entryZero s i = zeros s (entryOffset i + zeroOffset) (entryOffset i + entrySize)
+entryZero s i = zeros s (entryOffset i + zeroOffset axes) (entryOffset i + entrySize axes)
 
 -- 6: "T is 0, over 960, unlike block 0, or d + T is not the file's blocks"
 unfoldable pub tilesDue : Header → Header → ℕ → Bool
@@ -46,20 +49,20 @@ tilesDue h first blocks =
     (leb 1 (h .tiles) && leb (h .tiles) maxTiles) &&
     (eqb (h .tiles) (first .tiles) && eqb (directoryBlocks h + h .tiles) blocks)
 
--- 8: "a byte due to be zero is not"; with n entries these are bytes 8-15, the last two of each entry, and what lies between
--- the last entry and the check: "All else zero, unused payload too"
+-- 8: "a byte due to be zero is not"; with n entries these are bytes 8-15, the last two of each entry, and what lies
+-- between the last entry and the check: "All else zero, unused payload too"
 unfoldable pub directoryPadding : List ℕ → ℕ → Bool
 directoryPadding s n = (zeros s reservedAt payloadAt && every (entryZero s) n) && zeros s (entryOffset n) checkAt
 
 -- 9: "coordinate beyond limits, low above high, or count over 40"; the writer's test too
 abbrev pub validEntry : List (List ℤ) → ℕ → Bool
-validEntry bounds count = validBox bounds && leb count maxSites
+validEntry bounds count = validBox bounds && leb count (maxSites axes)
 
 unfoldable pub entryValid : List ℕ → ℕ → Bool
 entryValid s i = validEntry (entryBox s i) (entryCount s i)
 
--- the directory block with bytes s at position p, of a file with this many blocks whose block 0 has the header `first`; gives
--- its own
+-- the directory block with bytes s at position p, of a file with this many blocks whose block 0 has the header `first`;
+-- gives its own
 unfoldable pub directoryBlock : List ℕ → ℕ → Header → ℕ → Outcome Header
 directoryBlock s p first blocks =
     andThen (blockHead directoryKind s p) (λ _.
@@ -89,7 +92,7 @@ directory f =
 
 -- box and count of tile t, which are those of entry t % 24 of directory block t / 24
 unfoldable pub boxAt : List ℕ → ℕ → List (List ℤ)
-boxAt f t = entryBox (blockAt f (t / entriesPerBlock)) (t % entriesPerBlock)
+boxAt f t = entryBox (blockAt f (t / entriesPerBlock axes)) (t % entriesPerBlock axes)
 
 unfoldable pub countAt : List ℕ → ℕ → ℕ
-countAt f t = entryCount (blockAt f (t / entriesPerBlock)) (t % entriesPerBlock)
+countAt f t = entryCount (blockAt f (t / entriesPerBlock axes)) (t % entriesPerBlock axes)

@@ -1,5 +1,5 @@
 -- The numbers of the house layout (document 01, "Blocks"), each under one name.
-use Prim.Native.Nat.{ℕ}
+use Prim.Native.Nat.{ℕ, _+_, _*_, _/_}
 
 -- "512 bytes"
 abbrev pub blockSize : ℕ
@@ -42,27 +42,42 @@ payloadAt = 16
 abbrev pub checkAt : ℕ
 checkAt = 510
 
+-- "Payload at 16-495"
+abbrev pub payloadSize : ℕ
+payloadSize = 480
+
+-- "x, y": the number of axes; the sizes below are formulas of it
+abbrev pub axes : ℕ
+axes = 2
+
 -- "A directory entry has 20 bytes: low x, low y, high x, high y (signed, 4 bytes each), count (2), zero (2)"
-abbrev pub entrySize : ℕ
-entrySize = 20
+abbrev pub entrySize : ℕ → ℕ
+entrySize a = 8 * a + 4
 
-abbrev pub countOffset : ℕ
-countOffset = 16
+-- its numbers, 4 bytes each: low of axis i is number i, high of axis i number a + i
+abbrev pub numberOffset : ℕ → ℕ
+numberOffset i = 4 * i
 
-abbrev pub zeroOffset : ℕ
-zeroOffset = 18
+abbrev pub countOffset : ℕ → ℕ
+countOffset a = 8 * a
+
+abbrev pub zeroOffset : ℕ → ℕ
+zeroOffset a = 8 * a + 2
 
 -- "24 fit a block"
-abbrev pub entriesPerBlock : ℕ
-entriesPerBlock = 24
+abbrev pub entriesPerBlock : ℕ → ℕ
+entriesPerBlock a = payloadSize / entrySize a
 
 -- "A site has 12 bytes: x, y (signed), cue"
-abbrev pub siteSize : ℕ
-siteSize = 12
+abbrev pub siteSize : ℕ → ℕ
+siteSize a = 4 * a + 4
+
+abbrev pub cueOffset : ℕ → ℕ
+cueOffset a = 4 * a
 
 -- "A tile has 0 to 40 sites"
-abbrev pub maxSites : ℕ
-maxSites = 40
+abbrev pub maxSites : ℕ → ℕ
+maxSites a = payloadSize / siteSize a
 
 -- "T is 1 to 960"
 abbrev pub maxTiles : ℕ

@@ -4,11 +4,12 @@ ghost use Prim.Native.Nat.{_+_, _*_, _<_, _≤_};
 ghost use lib.ListN.{length};
 ghost use Rattle.base.specs.Refusal.{accepted, refused};
 ghost use Rattle.codec.specs.Number.{limit16};
-ghost use Rattle.blocks.specs.Layout.{blockSize, entriesPerBlock};
+ghost use Rattle.blocks.specs.Layout.{axes, blockSize, entriesPerBlock};
 ghost use Rattle.blocks.specs.Outcome.{directoryOutcome};
 ghost use Rattle.blocks.specs.Block.{blockAt, headerIn};
 ghost use Rattle.blocks.specs.Directory.{directoryBlocks, entriesDue, tilesDue, directoryPadding};
-ghost use Rattle.blocks.specs.Directory.{directoryBlock, directoryBlockAt, lengthDue, directoryRest, directory, boxAt, countAt};
+ghost use Rattle.blocks.specs.Directory.{directoryBlock, directoryBlockAt, lengthDue, directoryRest, directory};
+ghost use Rattle.blocks.specs.Directory.{boxAt, countAt};
 use crate::block;
 use crate::entry;
 use crate::header::Header;
@@ -45,7 +46,7 @@ pub fn directory_blocks(h: Header) -> usize
 // The number of entries due in the directory block at position p.
 pub fn entries_due(h: Header, p: usize) -> usize
     requires { ⌜ p < limit16 ⌝ }
-    ensures { λ r. ⌜ (r ≡ entriesDue h p) × (r ≤ entriesPerBlock) ⌝ }
+    ensures { λ r. ⌜ (r ≡ entriesDue h p) × (r ≤ entriesPerBlock axes) ⌝ }
 {
     let tiles = h.tiles;
     let first = layout::ENTRIES_PER_BLOCK * p;
@@ -74,7 +75,7 @@ fn tiles_due(h: Header, first: Header, blocks: usize) -> bool
 
 // Test 8, of a block with n entries.
 fn directory_padding(s: &[u8], n: usize) -> bool
-    requires { ⌜ (n ≤ entriesPerBlock) × (length (now s) ≡ blockSize) ⌝ }
+    requires { ⌜ (n ≤ entriesPerBlock axes) × (length (now s) ≡ blockSize) ⌝ }
     ensures { λ r. ⌜ r ≡ directoryPadding (now (s .entry)) n ⌝ }
 {
     let used = entry::entry_offset(n);
@@ -115,7 +116,8 @@ fn directory_block(s: &[u8], p: usize, first: Header, blocks: usize) -> Director
 
 // The directory block at position p of a file whose block 0 has the header `first`.
 fn directory_block_at(f: &[u8], p: usize, first: Header) -> DirectoryAnswer
-    requires { ⌜ (blockSize * p + blockSize ≤ length (now f)) × (p < limit16) × (first ≡ headerIn (blockAt (now f) 0)) ⌝ }
+    requires { ⌜
+        (blockSize * p + blockSize ≤ length (now f)) × (p < limit16) × (first ≡ headerIn (blockAt (now f) 0)) ⌝ }
     ensures { λ r. ⌜ directoryOutcome r ≡ directoryBlockAt (now (f .entry)) p ⌝ }
 {
     let blocks = f.len() / layout::BLOCK_SIZE;
@@ -124,7 +126,9 @@ fn directory_block_at(f: &[u8], p: usize, first: Header) -> DirectoryAnswer
 
 // The directory blocks after block 0.
 fn directory_rest(f: &[u8], h: Header) -> DirectoryAnswer
-    requires { ⌜ (blockSize * directoryBlocks h ≤ length (now f)) × (h .tiles < limit16) × (h ≡ headerIn (blockAt (now f) 0)) ⌝ }
+    requires { ⌜
+        (blockSize * directoryBlocks h ≤ length (now f)) × (h .tiles < limit16)
+        × (h ≡ headerIn (blockAt (now f) 0)) ⌝ }
     ensures { λ r. ⌜ directoryOutcome r ≡ directoryRest (now (f .entry)) h ⌝ }
 {
     let d = directory_blocks(h);

@@ -3,7 +3,7 @@ ghost use mathlib.Core.Path.{_≡_};
 ghost use Prim.Native.Nat.{_+_, _*_, _<_, _≤_};
 ghost use lib.ListN.{length};
 ghost use Rattle.base.specs.Every.{every};
-ghost use Rattle.blocks.specs.Layout.{blockSize, payloadAt, entrySize, entriesPerBlock};
+ghost use Rattle.blocks.specs.Layout.{axes, blockSize, payloadAt, entrySize, entriesPerBlock};
 ghost use Rattle.blocks.specs.Directory.{entryOffset, entryBox, entryCount, entryZero, entryValid};
 use crate::layout;
 use base::both;
@@ -13,14 +13,14 @@ use codec::reading::zeros;
 use geometry::limits::valid_box;
 
 pub fn entry_offset(i: usize) -> usize
-    requires { ⌜ i ≤ entriesPerBlock ⌝ }
-    ensures { λ r. ⌜ (r ≡ entryOffset i) × (r ≡ payloadAt + entrySize * i) ⌝ }
+    requires { ⌜ i ≤ entriesPerBlock axes ⌝ }
+    ensures { λ r. ⌜ (r ≡ entryOffset i) × (r ≡ payloadAt + entrySize axes * i) ⌝ }
 {
     layout::PAYLOAD_AT + layout::ENTRY_SIZE * i
 }
 
 pub fn entry_box(s: &[u8], i: usize) -> [[i32; 2]; 2]
-    requires { ⌜ (i < entriesPerBlock) × (length (now s) ≡ blockSize) ⌝ }
+    requires { ⌜ (i < entriesPerBlock axes) × (length (now s) ≡ blockSize) ⌝ }
     ensures { λ r. ⌜ r ≡ entryBox (now (s .entry)) i ⌝ }
 {
     let at = entry_offset(i);
@@ -32,7 +32,7 @@ pub fn entry_box(s: &[u8], i: usize) -> [[i32; 2]; 2]
 }
 
 pub fn entry_count(s: &[u8], i: usize) -> usize
-    requires { ⌜ (i < entriesPerBlock) × (length (now s) ≡ blockSize) ⌝ }
+    requires { ⌜ (i < entriesPerBlock axes) × (length (now s) ≡ blockSize) ⌝ }
     ensures { λ r. ⌜ r ≡ entryCount (now (s .entry)) i ⌝ }
 {
     u16_at(s, entry_offset(i) + layout::COUNT_OFFSET)
@@ -40,7 +40,7 @@ pub fn entry_count(s: &[u8], i: usize) -> usize
 
 // The last two bytes of an entry are zero.
 fn entry_zero(s: &[u8], i: usize) -> bool
-    requires { ⌜ (i < entriesPerBlock) × (length (now s) ≡ blockSize) ⌝ }
+    requires { ⌜ (i < entriesPerBlock axes) × (length (now s) ≡ blockSize) ⌝ }
     ensures { λ r. ⌜ r ≡ entryZero (now (s .entry)) i ⌝ }
 {
     let at = entry_offset(i);
@@ -48,7 +48,7 @@ fn entry_zero(s: &[u8], i: usize) -> bool
 }
 
 pub fn entries_zero(s: &[u8], n: usize) -> bool
-    requires { ⌜ (n ≤ entriesPerBlock) × (length (now s) ≡ blockSize) ⌝ }
+    requires { ⌜ (n ≤ entriesPerBlock axes) × (length (now s) ≡ blockSize) ⌝ }
     ensures { λ r. ⌜ r ≡ every (entryZero (now (s .entry))) n ⌝ }
 {
     let mut i = 0;
@@ -63,7 +63,7 @@ pub fn entries_zero(s: &[u8], n: usize) -> bool
 
 // Test 9 of one entry.
 fn entry_valid(s: &[u8], i: usize) -> bool
-    requires { ⌜ (i < entriesPerBlock) × (length (now s) ≡ blockSize) ⌝ }
+    requires { ⌜ (i < entriesPerBlock axes) × (length (now s) ≡ blockSize) ⌝ }
     ensures { λ r. ⌜ r ≡ entryValid (now (s .entry)) i ⌝ }
 {
     both(
@@ -73,7 +73,7 @@ fn entry_valid(s: &[u8], i: usize) -> bool
 }
 
 pub fn entries_valid(s: &[u8], n: usize) -> bool
-    requires { ⌜ (n ≤ entriesPerBlock) × (length (now s) ≡ blockSize) ⌝ }
+    requires { ⌜ (n ≤ entriesPerBlock axes) × (length (now s) ≡ blockSize) ⌝ }
     ensures { λ r. ⌜ r ≡ every (entryValid (now (s .entry))) n ⌝ }
 {
     let mut i = 0;

@@ -23,16 +23,22 @@ pub const PAYLOAD_AT: usize = 16;
 
 pub const CHECK_AT: usize = 510;
 
-pub const ENTRY_SIZE: usize = 20;
+pub const PAYLOAD_SIZE: usize = 480;
 
-pub const COUNT_OFFSET: usize = 16;
+pub const AXES: usize = 2;
 
-pub const ZERO_OFFSET: usize = 18;
+pub const ENTRY_SIZE: usize = 8 * AXES + 4;
 
-pub const ENTRIES_PER_BLOCK: usize = 24;
+pub const COUNT_OFFSET: usize = 8 * AXES;
 
-pub const SITE_SIZE: usize = 12;
+pub const ZERO_OFFSET: usize = 8 * AXES + 2;
 
-pub const MAX_SITES: usize = 40;
+pub const ENTRIES_PER_BLOCK: usize = PAYLOAD_SIZE / ENTRY_SIZE;
+
+pub const SITE_SIZE: usize = 4 * AXES + 4;
+
+pub const CUE_OFFSET: usize = 4 * AXES;
+
+pub const MAX_SITES: usize = PAYLOAD_SIZE / SITE_SIZE;
 
 pub const MAX_TILES: usize = 960;

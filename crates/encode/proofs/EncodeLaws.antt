@@ -9,9 +9,9 @@ use lib.ListN.{length, getD, take, drop, replicate, length-append, length-replic
 use lib.Seq.{slice, take-all, length-take-le}
 use Rattle.blocks.specs.Checksum.{sumsFrom, sums}
 use Rattle.blocks.specs.Directory.{directoryBlocks, entriesDue}
-use Rattle.blocks.specs.Layout.{syncByte, directoryKind, tileKind, kindAt, positionAt, entriesAt, tilesAt, countOffset}
-use Rattle.blocks.specs.Layout.{zeroOffset, blockSize, reservedAt, payloadAt, checkAt, entrySize, entriesPerBlock, siteSize}
-use Rattle.blocks.specs.Layout.{maxSites}
+use Rattle.blocks.specs.Layout.{axes, syncByte, directoryKind, tileKind, kindAt, positionAt, entriesAt, tilesAt}
+use Rattle.blocks.specs.Layout.{countOffset, zeroOffset, blockSize, reservedAt, payloadAt, checkAt, entrySize}
+use Rattle.blocks.specs.Layout.{entriesPerBlock, siteSize, cueOffset, maxSites}
 use Rattle.blocks.specs.declared.checksum.Sums.{Sums}
 use Rattle.blocks.specs.declared.header.Header.{Header}
 use Rattle.codec.specs.Bytes.{bytes, bytes16, bytes32, bytesSigned}
@@ -31,19 +31,23 @@ pub length-head : (kind p n t : ℕ) → length (headBytes kind p n t) ≡ reser
 unfolding headBytes bytes16 bytes
 length-head kind p n t = refl
 
-pub length-entry : (boxes : List ℤ) (counts : List ℕ) (t : ℕ) → length (entryBytes boxes counts t) ≡ entrySize
+pub length-entry : (boxes : List ℤ) (counts : List ℕ) (t : ℕ) → length (entryBytes boxes counts t) ≡ entrySize axes
 unfolding entryBytes boxBytes bytesSigned bytes32 bytes16 bytes
 length-entry boxes counts t = refl
 
-pub length-site : (xs ys : List ℤ) (cues : List ℕ) (i : ℕ) → length (siteBytes xs ys cues i) ≡ siteSize
+pub length-site : (xs ys : List ℤ) (cues : List ℕ) (i : ℕ) → length (siteBytes xs ys cues i) ≡ siteSize axes
 unfolding siteBytes bytesSigned bytes32 bytes
 length-site xs ys cues i = refl
 
-pub length-entries : (boxes : List ℤ) (counts : List ℕ) (t n : ℕ) → length (joined (entryBytes boxes counts) t n) ≡ entrySize * n
-length-entries boxes counts t n = length-joined (entryBytes boxes counts) entrySize t n (λ i l. length-entry boxes counts (t + i))
+pub length-entries : (boxes : List ℤ) (counts : List ℕ) (t n : ℕ) →
+    length (joined (entryBytes boxes counts) t n) ≡ entrySize axes * n
+length-entries boxes counts t n =
+    length-joined (entryBytes boxes counts) (entrySize axes) t n (λ i l. length-entry boxes counts (t + i))
 
-pub length-sites : (xs ys : List ℤ) (cues : List ℕ) (i n : ℕ) → length (joined (siteBytes xs ys cues) i n) ≡ siteSize * n
-length-sites xs ys cues i n = length-joined (siteBytes xs ys cues) siteSize i n (λ j l. length-site xs ys cues (i + j))
+pub length-sites : (xs ys : List ℤ) (cues : List ℕ) (i n : ℕ) →
+    length (joined (siteBytes xs ys cues) i n) ≡ siteSize axes * n
+length-sites xs ys cues i n =
+    length-joined (siteBytes xs ys cues) (siteSize axes) i n (λ j l. length-site xs ys cues (i + j))
 
 module _ (head payload : List ℕ) (h : length head ≡ reservedAt) (fits : payloadAt + length payload ≤ checkAt) where
   pub length-body : length (bodyBytes head payload) ≡ checkAt
@@ -55,11 +59,11 @@ module _ (head payload : List ℕ) (h : length head ≡ reservedAt) (fits : payl
   length-block = simp (length-append, length-body)
 
 module _ (h : Header) where
-  pub due-few : (p : ℕ) → entriesDue h p ≤ entriesPerBlock
+  pub due-few : (p : ℕ) → entriesDue h p ≤ entriesPerBlock axes
   unfolding entriesDue
   due-few p = omega arith
 
-  pub due-within : (p : ℕ) → p < directoryBlocks h → entriesPerBlock * p + entriesDue h p ≤ h .tiles
+  pub due-within : (p : ℕ) → p < directoryBlocks h → entriesPerBlock axes * p + entriesDue h p ≤ h .tiles
   unfolding directoryBlocks entriesDue
   due-within p l = omega arith
 
@@ -67,15 +71,17 @@ module _ (h : Header) where
   unfolding directoryBlocks
   blocks-few = omega arith
 
-pub length-directory-block : (boxes : List ℤ) (counts : List ℕ) (p : ℕ) → length (directoryBytes boxes counts p) ≡ blockSize
+pub length-directory-block : (boxes : List ℤ) (counts : List ℕ) (p : ℕ) →
+    length (directoryBytes boxes counts p) ≡ blockSize
 unfolding directoryBytes
 length-directory-block boxes counts p =
     let n = entriesDue (headerOf counts) p in
-    length-block (headBytes directoryKind p n (length counts)) (joined (entryBytes boxes counts) (entriesPerBlock * p) n)
+    length-block (headBytes directoryKind p n (length counts))
+    (joined (entryBytes boxes counts) (entriesPerBlock axes * p) n)
     (length-head directoryKind p n (length counts))
-    (omega (arith, length-entries boxes counts (entriesPerBlock * p) n, due-few (headerOf counts) p))
+    (omega (arith, length-entries boxes counts (entriesPerBlock axes * p) n, due-few (headerOf counts) p))
 
-pub length-tile-block : (xs ys : List ℤ) (cues : List ℕ) (p i n : ℕ) → n ≤ maxSites →
+pub length-tile-block : (xs ys : List ℤ) (cues : List ℕ) (p i n : ℕ) → n ≤ maxSites axes →
     length (tileBytes xs ys cues p i n) ≡ blockSize
 unfolding tileBytes
 length-tile-block xs ys cues p i n h =
@@ -96,7 +102,8 @@ sums-front s r e = ap (λ l. sumsFrom 0 0 (drop 1 l)) e
 
 pub sums-byte : (s : List ℕ) → (sums s .a < 256) × (sums s .c < 256)
 unfolding sums
-sums-byte s = let h = sums-small (slice 1 checkAt s) 0 0 (lit< tt) (lit< tt) in (omega (arith, h .0), omega (arith, h .1))
+sums-byte s =
+    let h = sums-small (slice 1 checkAt s) 0 0 (lit< tt) (lit< tt) in (omega (arith, h .0), omega (arith, h .1))
 
 -- of a block that holds a body
 pub sums-body : (s body : List ℕ) → Holds s 0 body → length body ≡ checkAt → checkAt ≤ length s → sums s ≡ sums body
@@ -144,31 +151,34 @@ module _ (l : List ℕ) (at : ℕ) where
       (also l at (at + 4) (end b) (end (b + 1)) e₁ e₂ refl) e₃ refl) e₄ refl
 
   pub entry-row : (boxes : List ℤ) (counts : List ℕ) (t : ℕ) {d₁ d₂ d₃ : List ℕ} → d₁ ≡ over l at (boxBytes boxes t) →
-      d₂ ≡ over d₁ (at + countOffset) (bytes16 (countOf counts t)) →
-      d₃ ≡ over d₂ (at + zeroOffset) (replicate (at + entrySize - (at + zeroOffset)) 0) →
+      d₂ ≡ over d₁ (at + countOffset axes) (bytes16 (countOf counts t)) →
+      d₃ ≡ over d₂ (at + zeroOffset axes) (replicate (at + entrySize axes - (at + zeroOffset axes)) 0) →
       d₃ ≡ over l at (entryBytes boxes counts t)
   unfolding entryBytes boxBytes bytesSigned bytes32 bytes16 bytes
   entry-row boxes counts t {d₁} {d₂} e₁ e₂ e₃ =
-      let z : at + entrySize - (at + zeroOffset) ≡ entrySize - zeroOffset = omega arith in
+      let z : at + entrySize axes - (at + zeroOffset axes) ≡ entrySize axes - zeroOffset axes = omega arith in
       let a = boxBytes boxes t in
       let b = a ++ bytes16 (countOf counts t) in
-      also l at (at + zeroOffset) b (replicate (entrySize - zeroOffset) 0)
-      (also l at (at + countOffset) a (bytes16 (countOf counts t)) e₁ e₂ refl)
-      (e₃ ∙ ap (λ k. over d₂ (at + zeroOffset) (replicate k 0)) z) refl
+      also l at (at + zeroOffset axes) b (replicate (entrySize axes - zeroOffset axes) 0)
+      (also l at (at + countOffset axes) a (bytes16 (countOf counts t)) e₁ e₂ refl)
+      (e₃ ∙ ap (λ k. over d₂ (at + zeroOffset axes) (replicate k 0)) z) refl
 
-  pub site-row : (xs ys : List ℤ) (cues : List ℕ) (i : ℕ) {d₁ d₂ d₃ : List ℕ} → d₁ ≡ over l at (bytesSigned (getD xs i (pos 0))) →
-      d₂ ≡ over d₁ (at + 4) (bytesSigned (getD ys i (pos 0))) → d₃ ≡ over d₂ (at + 8) (bytes32 (getD cues i 0)) →
+  pub site-row : (xs ys : List ℤ) (cues : List ℕ) (i : ℕ) {d₁ d₂ d₃ : List ℕ} →
+      d₁ ≡ over l at (bytesSigned (getD xs i (pos 0))) →
+      d₂ ≡ over d₁ (at + 4) (bytesSigned (getD ys i (pos 0))) →
+      d₃ ≡ over d₂ (at + cueOffset axes) (bytes32 (getD cues i 0)) →
       d₃ ≡ over l at (siteBytes xs ys cues i)
   unfolding siteBytes bytesSigned bytes32 bytes
   site-row xs ys cues i e₁ e₂ e₃ =
       let a = bytesSigned (getD xs i (pos 0)) in
       let b = bytesSigned (getD ys i (pos 0)) in
-      also l at (at + 8) (a ++ b) (bytes32 (getD cues i 0)) (also l at (at + 4) a b e₁ e₂ refl) e₃ refl
+      also l at (at + cueOffset axes) (a ++ b) (bytes32 (getD cues i 0)) (also l at (at + 4) a b e₁ e₂ refl) e₃ refl
 
   pub block-row : (head payload : List ℕ) (used : ℕ) → length head ≡ reservedAt → used ≡ payloadAt + length payload →
       used ≤ checkAt →
       at + blockSize ≤ length l → {d₁ d₂ d₃ d₄ d₅ : List ℕ} → d₁ ≡ over l at head →
-      d₂ ≡ over d₁ (at + reservedAt) (replicate (at + payloadAt - (at + reservedAt)) 0) → d₃ ≡ over d₂ (at + payloadAt) payload →
+      d₂ ≡ over d₁ (at + reservedAt) (replicate (at + payloadAt - (at + reservedAt)) 0) →
+      d₃ ≡ over d₂ (at + payloadAt) payload →
       d₄ ≡ over d₃ (at + used) (replicate (at + checkAt - (at + used)) 0) →
       d₅ ≡ over d₄ (at + checkAt) (checkBytes (take blockSize (drop at d₄))) → d₅ ≡ over l at (blockBytes head payload)
   unfolding blockBytes bodyBytes checkBytes
@@ -190,7 +200,9 @@ module _ (l : List ℕ) (at : ℕ) where
       let room₄ : length d₄ ≡ length l = ap length b₄ ∙ length-over l at body in
       let size : length (take blockSize (drop at d₄)) ≡ blockSize =
       length-take-le blockSize (drop at d₄) (omega (arith, length-drop at d₄)) in
-      let s = sums-body (take blockSize (drop at d₄)) body (holds-part held blockSize at 0 (omega arith) (omega arith)) m₄
+      let s = sums-body (take blockSize (drop at d₄)) body (holds-part held blockSize at 0 (omega arith) (omega arith))
+      m₄
       (omega arith) in
-      also l at (at + checkAt) body (checkBytes body) b₄ (e₅ ∙ ap (λ (x : Sums). over d₄ (at + checkAt) (x .a ∷ x .c ∷ [])) s)
+      also l at (at + checkAt) body (checkBytes body) b₄
+      (e₅ ∙ ap (λ (x : Sums). over d₄ (at + checkAt) (x .a ∷ x .c ∷ [])) s)
       (ap (λ k. at + k) (sym m₄))

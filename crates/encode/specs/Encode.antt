@@ -5,8 +5,8 @@ use lib.IntN.{ℤ, pos}
 use lib.ListN.{getD, length, replicate}
 use Rattle.blocks.specs.Checksum.{sums}
 use Rattle.blocks.specs.Directory.{directoryBlocks, entriesDue}
-use Rattle.blocks.specs.Layout.{blockSize, syncByte, directoryKind, tileKind, reservedAt, payloadAt, checkAt, entrySize}
-use Rattle.blocks.specs.Layout.{zeroOffset, entriesPerBlock}
+use Rattle.blocks.specs.Layout.{axes, blockSize, syncByte, directoryKind, tileKind, reservedAt, payloadAt, checkAt}
+use Rattle.blocks.specs.Layout.{entrySize, zeroOffset, entriesPerBlock}
 use Rattle.blocks.specs.declared.header.Header.{Header}
 use Rattle.codec.specs.Bytes.{bytes16, bytes32, bytesSigned}
 use Rattle.codec.specs.Tabulate.{joined}
@@ -30,14 +30,17 @@ bodyBytes head payload =
 unfoldable pub blockBytes : List ℕ → List ℕ → List ℕ
 blockBytes head payload = bodyBytes head payload ++ checkBytes (bodyBytes head payload)
 
--- "A directory entry has 20 bytes: low x, low y, high x, high y (signed, 4 bytes each), count (2), zero (2)": that of tile t
+-- "A directory entry has 20 bytes: low x, low y, high x, high y (signed, 4 bytes each), count (2), zero (2)": that of
+-- tile t
 unfoldable pub boxBytes : List ℤ → ℕ → List ℕ
 boxBytes boxes t =
     bytesSigned (getD boxes (numbersPerBox * t) (pos 0)) ++ bytesSigned (getD boxes (numbersPerBox * t + 1) (pos 0))
-    ++ bytesSigned (getD boxes (numbersPerBox * t + 2) (pos 0)) ++ bytesSigned (getD boxes (numbersPerBox * t + 3) (pos 0))
+    ++ bytesSigned (getD boxes (numbersPerBox * t + 2) (pos 0))
+    ++ bytesSigned (getD boxes (numbersPerBox * t + 3) (pos 0))
 
 unfoldable pub entryBytes : List ℤ → List ℕ → ℕ → List ℕ
-entryBytes boxes counts t = boxBytes boxes t ++ bytes16 (countOf counts t) ++ replicate (entrySize - zeroOffset) 0
+entryBytes boxes counts t =
+    boxBytes boxes t ++ bytes16 (countOf counts t) ++ replicate (entrySize axes - zeroOffset axes) 0
 
 -- "A site has 12 bytes: x, y (signed), cue": site i of the lists
 unfoldable pub siteBytes : List ℤ → List ℤ → List ℕ → ℕ → List ℕ
@@ -47,7 +50,7 @@ siteBytes xs ys cues i = bytesSigned (getD xs i (pos 0)) ++ bytesSigned (getD ys
 unfoldable pub directoryBytes : List ℤ → List ℕ → ℕ → List ℕ
 directoryBytes boxes counts p =
     blockBytes (headBytes directoryKind p (entriesDue (headerOf counts) p) (length counts))
-    (joined (entryBytes boxes counts) (entriesPerBlock * p) (entriesDue (headerOf counts) p))
+    (joined (entryBytes boxes counts) (entriesPerBlock axes * p) (entriesDue (headerOf counts) p))
 
 -- a tile block at position p, with n sites of the lists from site i on; T is "zero in a tile"
 unfoldable pub tileBytes : List ℤ → List ℤ → List ℕ → ℕ → ℕ → ℕ → List ℕ
@@ -55,7 +58,8 @@ tileBytes xs ys cues p i n = blockBytes (headBytes tileKind p n 0) (joined (site
 
 -- the block of tile t, at position d + t
 unfoldable pub tileBytesOf : List ℕ → List ℤ → List ℤ → List ℕ → ℕ → List ℕ
-tileBytesOf counts xs ys cues t = tileBytes xs ys cues (tilePosition (headerOf counts) t) (offset counts t) (countOf counts t)
+tileBytesOf counts xs ys cues t =
+    tileBytes xs ys cues (tilePosition (headerOf counts) t) (offset counts t) (countOf counts t)
 
 -- "A file has d directory blocks, d = T/24 rounded up, then tile t at position d + t"
 unfoldable pub fileBytes : Supply → List ℕ

@@ -1,9 +1,12 @@
--- The writer's lists (document 01, "Writer, full check, host, program"): "boxes, counts, and x, y, cue lists in tile order".
+-- The writer's lists (document 01, "Writer, full check, host, program"): "boxes, counts, and x, y, cue lists in tile
+-- order".
 use Prim.Native.Nat.{ℕ, zero, suc, _+_, _*_}
 use mathlib.Core.List.{List, [], _∷_}
 use lib.IntN.{ℤ, pos}
 use lib.ListN.{getD, length}
+use Rattle.blocks.specs.Layout.{axes}
 use Rattle.blocks.specs.declared.header.Header.{Header}
+use Rattle.codec.specs.Tabulate.{tabulate}
 use Rattle.tiles.specs.declared.tile.Site.{Site}
 
 pub record Supply : Type 0 where
@@ -26,13 +29,14 @@ tilesOf s = length (s .counts)
 
 -- "4 numbers for each tile, in the directory's order": low x, low y, high x, high y
 abbrev pub numbersPerBox : ℕ
-numbersPerBox = 4
+numbersPerBox = 2 * axes
 
 -- the box of tile t, which has its ends by axis
+abbrev pub boxNumber : List ℤ → ℕ → ℕ → ℤ
+boxNumber boxes t n = getD boxes (numbersPerBox * t + n) (pos 0)
+
 unfoldable pub boxOf : List ℤ → ℕ → List (List ℤ)
-boxOf boxes t =
-    (getD boxes (numbersPerBox * t) (pos 0) ∷ getD boxes (numbersPerBox * t + 2) (pos 0) ∷ []) ∷
-    (getD boxes (numbersPerBox * t + 1) (pos 0) ∷ getD boxes (numbersPerBox * t + 3) (pos 0) ∷ []) ∷ []
+boxOf boxes t = tabulate (λ axis. boxNumber boxes t axis ∷ boxNumber boxes t (axes + axis) ∷ []) 0 axes
 
 -- the number of sites of tile t
 abbrev pub countOf : List ℕ → ℕ → ℕ

@@ -3,7 +3,7 @@ ghost use mathlib.Core.Path.{_≡_};
 ghost use Prim.Native.Nat.{_+_, _*_, _<_, _≤_};
 ghost use lib.ListN.{length};
 ghost use Rattle.blocks.specs.Directory.{directoryBlocks};
-ghost use Rattle.blocks.specs.Layout.{blockSize, entrySize, countOffset, maxTiles};
+ghost use Rattle.blocks.specs.Layout.{axes, blockSize, entrySize, countOffset, maxTiles};
 ghost use Rattle.codec.specs.Over.{over};
 ghost use Rattle.codec.specs.Tabulate.{joined};
 ghost use Rattle.encode.specs.Encode.{boxBytes, entryBytes, directoryBytes};
@@ -23,7 +23,7 @@ use codec::writing::put_zeros;
 
 // The four numbers of tile t's box.
 fn put_box(d: &mut [u8], at: usize, boxes: &[i32], t: usize)
-    requires { ⌜ (at + countOffset ≤ length (now d)) × (numbersPerBox * t + numbersPerBox ≤ length (now boxes)) ⌝ }
+    requires { ⌜ (at + countOffset axes ≤ length (now d)) × (numbersPerBox * t + numbersPerBox ≤ length (now boxes)) ⌝ }
     ensures { λ _. ⌜ now (d .exit) ≡ over (now (d .entry)) at (boxBytes (now (boxes .entry)) t) ⌝ }
 {
     let b = NUMBERS_PER_BOX * t;
@@ -36,9 +36,10 @@ fn put_box(d: &mut [u8], at: usize, boxes: &[i32], t: usize)
 // The entry of tile t.
 fn put_entry(d: &mut [u8], at: usize, boxes: &[i32], counts: &[u32], t: usize)
     requires { ⌜
-        (at + entrySize ≤ length (now d)) × (numbersPerBox * t + numbersPerBox ≤ length (now boxes))
+        (at + entrySize axes ≤ length (now d)) × (numbersPerBox * t + numbersPerBox ≤ length (now boxes))
         × (t < length (now counts)) ⌝ }
-    ensures { λ _. ⌜ now (d .exit) ≡ over (now (d .entry)) at (entryBytes (now (boxes .entry)) (now (counts .entry)) t) ⌝ }
+    ensures { λ _. ⌜
+        now (d .exit) ≡ over (now (d .entry)) at (entryBytes (now (boxes .entry)) (now (counts .entry)) t) ⌝ }
 {
     put_box(d, at, boxes, t);
     put_u16(d, at + layout::COUNT_OFFSET, wide(counts[t]));
@@ -48,10 +49,11 @@ fn put_entry(d: &mut [u8], at: usize, boxes: &[i32], counts: &[u32], t: usize)
 // The entries of n tiles from tile `first` on.
 fn put_entries(d: &mut [u8], start: usize, boxes: &[i32], counts: &[u32], first: usize, n: usize)
     requires { ⌜
-        (start + entrySize * n ≤ length (now d)) × (numbersPerBox * (first + n) ≤ length (now boxes))
+        (start + entrySize axes * n ≤ length (now d)) × (numbersPerBox * (first + n) ≤ length (now boxes))
         × (first + n ≤ length (now counts)) ⌝ }
     ensures { λ _. ⌜
-        now (d .exit) ≡ over (now (d .entry)) start (joined (entryBytes (now (boxes .entry)) (now (counts .entry))) first n) ⌝ }
+        now (d .exit) ≡ over (now (d .entry)) start
+        (joined (entryBytes (now (boxes .entry)) (now (counts .entry))) first n) ⌝ }
 {
     let mut at = start;
     let mut t = first;
@@ -70,7 +72,8 @@ fn put_directory_block(d: &mut [u8], boxes: &[i32], counts: &[u32], p: usize)
         (blockSize * p + blockSize ≤ length (now d)) × (length (now boxes) ≡ numbersPerBox * length (now counts))
         × (length (now counts) ≤ maxTiles) × (p < directoryBlocks (headerOf (now counts))) ⌝ }
     ensures { λ _. ⌜
-        now (d .exit) ≡ over (now (d .entry)) (blockSize * p) (directoryBytes (now (boxes .entry)) (now (counts .entry)) p) ⌝ }
+        now (d .exit) ≡ over (now (d .entry)) (blockSize * p)
+        (directoryBytes (now (boxes .entry)) (now (counts .entry)) p) ⌝ }
 {
     let at = layout::BLOCK_SIZE * p;
     let n = entries_due(header_of(counts), p);

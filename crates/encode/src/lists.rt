@@ -5,8 +5,9 @@ ghost use lib.ListN.{length};
 ghost use Rattle.codec.specs.Number.{limit32};
 ghost use Rattle.encode.specs.Supply.{headerOf};
 use blocks::header::Header;
+use blocks::layout::AXES;
 
-pub const NUMBERS_PER_BOX: usize = 4;
+pub const NUMBERS_PER_BOX: usize = 2 * AXES;
 
 pub fn wide(n: u32) -> usize
     ensures { λ r. ⌜ (r ≡ n) × (r < limit32) ⌝ }

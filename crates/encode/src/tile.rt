@@ -3,7 +3,7 @@ ghost use mathlib.Core.Path.{_≡_};
 ghost use Prim.Native.Nat.{ℕ, _+_, _*_, _<_, _≤_};
 ghost use lib.ListN.{length};
 ghost use Rattle.blocks.specs.Directory.{directoryBlocks};
-ghost use Rattle.blocks.specs.Layout.{blockSize, siteSize, maxSites, maxTiles};
+ghost use Rattle.blocks.specs.Layout.{axes, blockSize, siteSize, maxSites, maxTiles};
 ghost use Rattle.codec.specs.Over.{over};
 ghost use Rattle.codec.specs.Tabulate.{joined};
 ghost use Rattle.encode.specs.Encode.{siteBytes, tileBytes, tileBytesOf, fileLength};
@@ -21,13 +21,16 @@ use tiles::tile::site_offset;
 
 // Site i of the lists.
 fn put_site(d: &mut [u8], at: usize, xs: &[i32], ys: &[i32], cues: &[u32], i: usize)
-    requires { ⌜ (at + siteSize ≤ length (now d)) × (i < length (now xs)) × (i < length (now ys)) × (i < length (now cues)) ⌝ }
+    requires { ⌜
+        (at + siteSize axes ≤ length (now d)) × (i < length (now xs)) × (i < length (now ys))
+        × (i < length (now cues)) ⌝ }
     ensures { λ _. ⌜
-        now (d .exit) ≡ over (now (d .entry)) at (siteBytes (now (xs .entry)) (now (ys .entry)) (now (cues .entry)) i) ⌝ }
+        now (d .exit) ≡ over (now (d .entry)) at
+        (siteBytes (now (xs .entry)) (now (ys .entry)) (now (cues .entry)) i) ⌝ }
 {
     put_i32(d, at, xs[i]);
     put_i32(d, at + 4, ys[i]);
-    put_u32(d, at + 8, cues[i]);
+    put_u32(d, at + layout::CUE_OFFSET, cues[i]);
 }
 
 // n sites of the lists from site `first` on.
@@ -41,7 +44,7 @@ fn put_sites(
     n: usize,
 )
     requires { ⌜
-        (start + siteSize * n ≤ length (now d)) × (first + n ≤ length (now xs)) × (first + n ≤ length (now ys))
+        (start + siteSize axes * n ≤ length (now d)) × (first + n ≤ length (now xs)) × (first + n ≤ length (now ys))
         × (first + n ≤ length (now cues)) ⌝ }
     ensures { λ _. ⌜
         now (d .exit) ≡ over (now (d .entry)) start
@@ -61,7 +64,7 @@ fn put_sites(
 // A tile's block at position p, with n sites of the lists from site `first` on.
 fn put_tile(d: &mut [u8], p: usize, xs: &[i32], ys: &[i32], cues: &[u32], first: usize, n: usize)
     requires { ⌜
-        (blockSize * p + blockSize ≤ length (now d)) × (n ≤ maxSites) × (first + n ≤ length (now xs))
+        (blockSize * p + blockSize ≤ length (now d)) × (n ≤ maxSites axes) × (first + n ≤ length (now xs))
         × (first + n ≤ length (now ys)) × (first + n ≤ length (now cues)) ⌝ }
     ensures { λ _. ⌜
         now (d .exit) ≡ over (now (d .entry)) (blockSize * p)
@@ -80,8 +83,9 @@ fn put_tile(d: &mut [u8], p: usize, xs: &[i32], ys: &[i32], cues: &[u32], first:
 pub fn put_tiles(d: &mut [u8], counts: &[u32], xs: &[i32], ys: &[i32], cues: &[u32])
     requires { ⌜
         (fileLength (headerOf (now counts)) ≤ length (now d)) × (length (now counts) ≤ maxTiles)
-        × ((t : ℕ) → t < length (now counts) → countOf (now counts) t ≤ maxSites) × (length (now xs) ≡ total (now counts))
-        × (length (now ys) ≡ total (now counts)) × (length (now cues) ≡ total (now counts)) ⌝ }
+        × ((t : ℕ) → t < length (now counts) → countOf (now counts) t ≤ maxSites axes)
+        × (length (now xs) ≡ total (now counts)) × (length (now ys) ≡ total (now counts))
+        × (length (now cues) ≡ total (now counts)) ⌝ }
     ensures { λ _. ⌜
         now (d .exit) ≡ over (now (d .entry)) (blockSize * directoryBlocks (headerOf (now (counts .entry))))
         (joined (tileBytesOf (now (counts .entry)) (now (xs .entry)) (now (ys .entry)) (now (cues .entry))) 0

@@ -7,7 +7,7 @@ use lib.IntN.{ℤ}
 use Rattle.base.specs.Refusal.{Outcome, accepted, require, andThen, #entries, #padding, #stray}
 use Rattle.blocks.specs.Block.{blockAt, entriesIn, blockHead}
 use Rattle.blocks.specs.Directory.{directoryBlocks, boxAt, countAt}
-use Rattle.blocks.specs.Layout.{tileKind, tilesAt, payloadAt, checkAt, siteSize}
+use Rattle.blocks.specs.Layout.{axes, tileKind, tilesAt, payloadAt, checkAt, siteSize, cueOffset}
 use Rattle.blocks.specs.declared.header.Header.{Header}
 use Rattle.base.specs.Every.{every}
 use Rattle.codec.specs.Zeros.{zeros}
@@ -18,22 +18,22 @@ use Rattle.tiles.specs.declared.tile.Site.{Site}
 
 -- where the site of a slot stands in a block
 unfoldable pub siteOffset : ℕ → ℕ
-siteOffset slot = payloadAt + siteSize * slot
+siteOffset slot = payloadAt + siteSize axes * slot
 
 -- "A site has 12 bytes: x, y (signed), cue"
 unfoldable pub siteIn : List ℕ → ℕ → Site
 siteIn s slot = record {
   x = i32At s (siteOffset slot);
   y = i32At s (siteOffset slot + 4);
-  cue = u32At s (siteOffset slot + 8);
+  cue = u32At s (siteOffset slot + cueOffset axes);
 }
 
 -- where a site is
 abbrev pub sitePoint : Site → List ℤ
 sitePoint site = site .x ∷ site .y ∷ []
 
--- 8: "a byte due to be zero is not"; with n sites these are bytes 6-15, since T is "zero in a tile", and what lies between
--- the last site and the check: "All else zero, unused payload too"
+-- 8: "a byte due to be zero is not"; with n sites these are bytes 6-15, since T is "zero in a tile", and what lies
+-- between the last site and the check: "All else zero, unused payload too"
 unfoldable pub tilePadding : List ℕ → ℕ → Bool
 tilePadding s n = zeros s tilesAt payloadAt && zeros s (siteOffset n) checkAt
 
@@ -41,8 +41,8 @@ tilePadding s n = zeros s tilesAt payloadAt && zeros s (siteOffset n) checkAt
 unfoldable pub siteInside : List (List ℤ) → List ℕ → ℕ → Bool
 siteInside bounds s slot = inside bounds (sitePoint (siteIn s slot))
 
--- "openings, each 2, 3, 4, 5, 7, 8, 10": of the block with bytes s at position p, by box and count of its entry; gives the
--- number of its sites
+-- "openings, each 2, 3, 4, 5, 7, 8, 10": of the block with bytes s at position p, by box and count of its entry; gives
+-- the number of its sites
 unfoldable pub tileBlock : List ℕ → ℕ → List (List ℤ) → ℕ → Outcome ℕ
 tileBlock s p bounds count =
     andThen (blockHead tileKind s p) (λ _.

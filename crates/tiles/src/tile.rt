@@ -5,10 +5,11 @@ ghost use lib.ListN.{length};
 ghost use Rattle.base.specs.Refusal.{accepted, refused};
 ghost use Rattle.base.specs.Every.{every};
 ghost use Rattle.codec.specs.Number.{limit16};
-ghost use Rattle.blocks.specs.Layout.{blockSize, payloadAt, siteSize, maxSites};
+ghost use Rattle.blocks.specs.Layout.{axes, blockSize, payloadAt, siteSize, maxSites};
 ghost use Rattle.blocks.specs.Directory.{directory, countAt};
 ghost use Rattle.tiles.specs.Outcome.{openingOutcome};
-ghost use Rattle.tiles.specs.Tile.{siteOffset, siteIn, tilePadding, siteInside, tileBlock, tilePosition, openTile, siteAt};
+ghost use Rattle.tiles.specs.Tile.{siteOffset, siteIn, tilePadding, siteInside, tileBlock, tilePosition};
+ghost use Rattle.tiles.specs.Tile.{openTile, siteAt};
 use base::Refusal;
 use base::both;
 use blocks::block;
@@ -45,27 +46,27 @@ fn refused(number: u32, p: usize) -> Opening
 }
 
 pub fn site_offset(slot: usize) -> usize
-    requires { ⌜ slot ≤ maxSites ⌝ }
-    ensures { λ r. ⌜ (r ≡ siteOffset slot) × (r ≡ payloadAt + siteSize * slot) ⌝ }
+    requires { ⌜ slot ≤ maxSites axes ⌝ }
+    ensures { λ r. ⌜ (r ≡ siteOffset slot) × (r ≡ payloadAt + siteSize axes * slot) ⌝ }
 {
     layout::PAYLOAD_AT + layout::SITE_SIZE * slot
 }
 
 // The site of a slot of a tile's block.
 pub fn site_in(s: &[u8], slot: usize) -> Site
-    requires { ⌜ (slot < maxSites) × (length (now s) ≡ blockSize) ⌝ }
+    requires { ⌜ (slot < maxSites axes) × (length (now s) ≡ blockSize) ⌝ }
     ensures { λ r. ⌜ r ≡ siteIn (now (s .entry)) slot ⌝ }
 {
     let at = site_offset(slot);
     let x = i32_at(s, at);
     let y = i32_at(s, at + 4);
-    let cue = u32_at(s, at + 8);
+    let cue = u32_at(s, at + layout::CUE_OFFSET);
     Site { x, y, cue }
 }
 
 // Test 8, of a tile with n sites.
 fn tile_padding(s: &[u8], n: usize) -> bool
-    requires { ⌜ (n ≤ maxSites) × (length (now s) ≡ blockSize) ⌝ }
+    requires { ⌜ (n ≤ maxSites axes) × (length (now s) ≡ blockSize) ⌝ }
     ensures { λ r. ⌜ r ≡ tilePadding (now (s .entry)) n ⌝ }
 {
     let used = site_offset(n);
@@ -77,7 +78,7 @@ fn tile_padding(s: &[u8], n: usize) -> bool
 
 // Test 10 of one site.
 fn site_inside(bounds: [[i32; 2]; 2], s: &[u8], slot: usize) -> bool
-    requires { ⌜ (slot < maxSites) × (length (now s) ≡ blockSize) ⌝ }
+    requires { ⌜ (slot < maxSites axes) × (length (now s) ≡ blockSize) ⌝ }
     ensures { λ r. ⌜ r ≡ siteInside bounds (now (s .entry)) slot ⌝ }
 {
     let site = site_in(s, slot);
@@ -87,7 +88,7 @@ fn site_inside(bounds: [[i32; 2]; 2], s: &[u8], slot: usize) -> bool
 }
 
 fn sites_inside(bounds: [[i32; 2]; 2], s: &[u8], n: usize) -> bool
-    requires { ⌜ (n ≤ maxSites) × (length (now s) ≡ blockSize) ⌝ }
+    requires { ⌜ (n ≤ maxSites axes) × (length (now s) ≡ blockSize) ⌝ }
     ensures { λ r. ⌜ r ≡ every (siteInside bounds (now (s .entry))) n ⌝ }
 {
     let mut i = 0;
@@ -102,7 +103,7 @@ fn sites_inside(bounds: [[i32; 2]; 2], s: &[u8], n: usize) -> bool
 
 // A tile's block, by box and count of its entry: the first test that fails decides.
 fn tile_block(s: &[u8], p: usize, bounds: [[i32; 2]; 2], count: usize) -> Opening
-    requires { ⌜ (length (now s) ≡ blockSize) × (p < limit16) × (count ≤ maxSites) ⌝ }
+    requires { ⌜ (length (now s) ≡ blockSize) × (p < limit16) × (count ≤ maxSites axes) ⌝ }
     ensures { λ r. ⌜ openingOutcome r ≡ tileBlock (now (s .entry)) p bounds count ⌝ }
 {
     let head = block::head_number(s, layout::TILE_KIND, p);

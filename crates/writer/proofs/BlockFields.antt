@@ -1,5 +1,5 @@
--- The fields of a block: a block that holds what the writer makes has them, and a block of bytes that has them holds it.
--- Assumes nothing.
+-- The fields of a block: a block that holds what the writer makes has them, and a block of bytes that has them holds
+-- it. Assumes nothing.
 use Prim.Native.Nat.{ℕ, _+_, _*_, _-_, _<_, _≤_}
 use mathlib.Core.Bool.{true}
 use mathlib.Core.List.{List, [], _∷_, _++_}
@@ -11,8 +11,8 @@ use borrow.Author.Tests.{eqb-true, eq-eqb}
 use Rattle.blocks.specs.Block.{positionIn, entriesIn, headerIn}
 use Rattle.blocks.specs.Checksum.{sums, checkAgrees}
 use Rattle.blocks.specs.Directory.{entryOffset, entryBox, entryCount, entryZero}
-use Rattle.blocks.specs.Layout.{positionAt, entriesAt, tilesAt, countOffset, blockSize, syncByte, kindAt, reservedAt}
-use Rattle.blocks.specs.Layout.{payloadAt, checkAt, zeroOffset, entrySize}
+use Rattle.blocks.specs.Layout.{axes, positionAt, entriesAt, tilesAt, countOffset, blockSize, syncByte, kindAt}
+use Rattle.blocks.specs.Layout.{reservedAt, cueOffset, payloadAt, checkAt, zeroOffset, entrySize}
 use Rattle.blocks.specs.declared.checksum.Sums.{Sums}
 use Rattle.codec.specs.Bytes.{bytes, bytes16, bytes32, bytesSigned}
 use Rattle.codec.specs.Zeros.{zeros}
@@ -22,10 +22,12 @@ use Rattle.encode.specs.Supply.{numbersPerBox, boxOf, countOf}
 use Rattle.tiles.specs.Tile.{siteOffset, siteIn}
 use Rattle.tiles.specs.declared.tile.Site.{Site}
 use Rattle.base.proofs.Tests.{and-both, both-and}
+use Rattle.blocks.proofs.DirectoryLaws.{entry-ends}
 use Rattle.codec.proofs.Bytes.{read-16, read-32, read-signed, held-16, held-32, held-signed}
-use Rattle.codec.proofs.Holds.{Holds, holds-run, holds-cons, holds-head, holds-tail, holds-left, holds-right, holds-append}
-use Rattle.codec.proofs.Holds.{zeros-held, held-zeros}
+use Rattle.codec.proofs.Holds.{Holds, holds-run, holds-cons, holds-head, holds-tail, holds-left, holds-right}
+use Rattle.codec.proofs.Holds.{holds-append, zeros-held, held-zeros}
 use Rattle.encode.proofs.EncodeLaws.{length-head, length-body, sums-body}
+use Rattle.encode.proofs.SupplyLaws.{box-ends}
 use Rattle.writer.specs.Made.{Signed, Unsigned}
 
 pub record Fields (s : List ℕ) (kind p n t : ℕ) (payload : List ℕ) : Type 0 where
@@ -41,14 +43,16 @@ pub record Fields (s : List ℕ) (kind p n t : ℕ) (payload : List ℕ) : Type 
 
 module _ (s : List ℕ) (size : length s ≡ blockSize) where
   -- ---- the check
-  check-read : (body : List ℕ) → length body ≡ checkAt → Holds s 0 body → Holds s checkAt (checkBytes body) → checkAgrees s ≡ true
+  check-read : (body : List ℕ) → length body ≡ checkAt → Holds s 0 body → Holds s checkAt (checkBytes body) →
+      checkAgrees s ≡ true
   unfolding checkAgrees checkBytes
   check-read body n h g =
       let e = sums-body s body h n (omega arith) in
       both-and (eq-eqb (getD s checkAt 0) (sums s .a) (holds-head g ∙ sym (ap (λ (x : Sums). x .a) e)))
       (eq-eqb (getD s (checkAt + 1) 0) (sums s .c) (holds-head (holds-tail g) ∙ sym (ap (λ (x : Sums). x .c) e)))
 
-  check-held : (body : List ℕ) → length body ≡ checkAt → Holds s 0 body → checkAgrees s ≡ true → Holds s checkAt (checkBytes body)
+  check-held : (body : List ℕ) → length body ≡ checkAt → Holds s 0 body → checkAgrees s ≡ true →
+      Holds s checkAt (checkBytes body)
   unfolding checkAgrees checkBytes
   check-held body n h e =
       let q = sums-body s body h n (omega arith) in
@@ -59,7 +63,8 @@ module _ (s : List ℕ) (size : length s ≡ blockSize) where
 
   module _ (kind p n t : ℕ) (payload : List ℕ) where
     -- ---- what stands before the check
-    body-read : p < limit16 → n < limit16 → t < limit16 → Holds s 0 (bodyBytes (headBytes kind p n t) payload) → checkAgrees s ≡ true →
+    body-read : p < limit16 → n < limit16 → t < limit16 → Holds s 0 (bodyBytes (headBytes kind p n t) payload) →
+        checkAgrees s ≡ true →
         Fields s kind p n t payload
     unfolding bodyBytes headBytes bytes16 bytes
     body-read lp ln lt h check =
@@ -94,8 +99,10 @@ module _ (s : List ℕ) (size : length s ≡ blockSize) where
         let gap : List ℕ = replicate (payloadAt - reservedAt) 0 in
         let rest : List ℕ = replicate (checkAt - (payloadAt + length payload)) 0 in
         let one : List ℕ = (syncByte ∷ []) ++ (kind ∷ []) in
-        let c : Holds s 0 one = holds-cons (g .sync) (holds-cons (g .kinds) (record { at = λ j l. absurd (omega arith) })) in
-        let b = holds-append s 0 one (bytes16 p) refl c (holds-run (held-16 s positionAt byte) (ap bytes16 (g .position))) in
+        let c : Holds s 0 one = holds-cons (g .sync)
+        (holds-cons (g .kinds) (record { at = λ j l. absurd (omega arith) })) in
+        let b = holds-append s 0 one (bytes16 p) refl c (holds-run (held-16 s positionAt byte)
+        (ap bytes16 (g .position))) in
         let a = holds-append s 0 (one ++ bytes16 p) (bytes16 n) refl b
         (holds-run (held-16 s entriesAt byte) (ap bytes16 (g .entries))) in
         let h₁ = holds-append s 0 (one ++ bytes16 p ++ bytes16 n) (bytes16 t) refl a
@@ -104,11 +111,13 @@ module _ (s : List ℕ) (size : length s ≡ blockSize) where
         let h₃ = holds-append s 0 (hd ++ gap) payload refl h₂ (g .held) in
         let u : payloadAt + length payload ≡ 0 + length (hd ++ gap ++ payload) = omega
         (arith, length-append (hd ++ gap) payload) in
-        holds-append s 0 (hd ++ gap ++ payload) rest u h₃ (zeros-held s (payloadAt + length payload) checkAt (g .unused))
+        holds-append s 0 (hd ++ gap ++ payload) rest u h₃ (zeros-held s (payloadAt + length payload) checkAt
+        (g .unused))
 
     -- ---- the whole block
     module _ (fits : payloadAt + length payload ≤ checkAt) where
-      pub fields-read : p < limit16 → n < limit16 → t < limit16 → Holds s 0 (blockBytes (headBytes kind p n t) payload) →
+      pub fields-read : p < limit16 → n < limit16 → t < limit16 →
+          Holds s 0 (blockBytes (headBytes kind p n t) payload) →
           Fields s kind p n t payload
       unfolding blockBytes
       fields-read lp ln lt h =
@@ -135,13 +144,13 @@ module _ (s : List ℕ) (i : ℕ) (boxes : List ℤ) (counts : List ℕ) (t : �
       (entryBox s i ≡ boxOf boxes t)
       × (entryCount s i ≡ countOf counts t)
       × (entryZero s i ≡ true)
-  unfolding entryBox entryCount entryZero boxOf entryBytes boxBytes bytesSigned bytes32 bytes16 bytes
+  unfolding entryCount entryZero entryBytes boxBytes bytesSigned bytes32 bytes16 bytes
   entry-read signed small h =
       let at = entryOffset i in
       let b = numbersPerBox * t in
       let end : ℕ → List ℕ = λ k. bytesSigned (getD boxes k (pos 0)) in
       let count = bytes16 (countOf counts t) in
-      let gap : List ℕ = replicate (entrySize - zeroOffset) 0 in
+      let gap : List ℕ = replicate (entrySize axes - zeroOffset axes) 0 in
       let four = end b ++ end (b + 1) ++ end (b + 2) ++ end (b + 3) in
       let h₅ = holds-left s at (four ++ count) gap h in
       let h₄ = holds-left s at four count h₅ in
@@ -149,40 +158,44 @@ module _ (s : List ℕ) (i : ℕ) (boxes : List ℤ) (counts : List ℕ) (t : �
       let h₂ = holds-left s at (end b ++ end (b + 1)) (end (b + 2)) h₃ in
       let x₀ = read-signed s at (signed b) (holds-left s at (end b) (end (b + 1)) h₂) in
       let x₁ = read-signed s (at + 4) (signed (b + 1)) (holds-right s at (end b) (end (b + 1)) refl h₂) in
-      let x₂ = read-signed s (at + 8) (signed (b + 2)) (holds-right s at (end b ++ end (b + 1)) (end (b + 2)) refl h₃) in
+      let x₂ = read-signed s (at + 8) (signed (b + 2)) (holds-right s at (end b ++ end (b + 1))
+      (end (b + 2)) refl h₃) in
       let x₃ = read-signed s (at + 12) (signed (b + 3))
       (holds-right s at (end b ++ end (b + 1) ++ end (b + 2)) (end (b + 3)) refl h₄) in
-      let z : at + entrySize - (at + zeroOffset) ≡ entrySize - zeroOffset = omega arith in (
-        rw (x₀, x₁, x₂, x₃),
-        read-16 s (at + countOffset) small (holds-right s at four count refl h₅),
-        held-zeros s (at + zeroOffset) (at + entrySize)
+      let z : at + entrySize axes - (at + zeroOffset axes) ≡ entrySize axes - zeroOffset axes = omega arith in (
+        entry-ends s i ∙ rw (x₀, x₁, x₂, x₃) (sym (box-ends boxes t)),
+        read-16 s (at + countOffset axes) small (holds-right s at four count refl h₅),
+        held-zeros s (at + zeroOffset axes) (at + entrySize axes)
             (holds-run (holds-right s at (four ++ count) gap refl h) (ap (λ k. replicate k 0) (sym z))),
       )
 
   pub entry-held : Bytes s → entryBox s i ≡ boxOf boxes t → entryCount s i ≡ countOf counts t → entryZero s i ≡ true →
       Holds s (entryOffset i) (entryBytes boxes counts t)
-  unfolding entryBox entryCount entryZero boxOf entryBytes boxBytes bytesSigned bytes32 bytes16 bytes
+  unfolding entryCount entryZero entryBytes boxBytes bytesSigned bytes32 bytes16 bytes
   entry-held byte box number zero =
       let at = entryOffset i in
       let b = numbersPerBox * t in
       let end : ℕ → List ℕ = λ k. bytesSigned (getD boxes k (pos 0)) in
       let count = bytes16 (countOf counts t) in
-      let gap : List ℕ = replicate (entrySize - zeroOffset) 0 in
+      let gap : List ℕ = replicate (entrySize axes - zeroOffset axes) 0 in
+      let ends = sym (entry-ends s i) ∙ box ∙ box-ends boxes t in
       let x₀ : i32At s at ≡ getD boxes b (pos 0) = cc in
       let x₁ : i32At s (at + 4) ≡ getD boxes (b + 1) (pos 0) = cc in
       let x₂ : i32At s (at + 8) ≡ getD boxes (b + 2) (pos 0) = cc in
       let x₃ : i32At s (at + 12) ≡ getD boxes (b + 3) (pos 0) = cc in
-      let z : at + entrySize - (at + zeroOffset) ≡ entrySize - zeroOffset = omega arith in
+      let z : at + entrySize axes - (at + zeroOffset axes) ≡ entrySize axes - zeroOffset axes = omega arith in
       let h₁ = holds-run (held-signed s at byte) (ap bytesSigned x₀) in
-      let h₂ = holds-append s at (end b) (end (b + 1)) refl h₁ (holds-run (held-signed s (at + 4) byte) (ap bytesSigned x₁)) in
+      let h₂ = holds-append s at (end b) (end (b + 1)) refl h₁ (holds-run (held-signed s (at + 4) byte)
+      (ap bytesSigned x₁)) in
       let h₃ = holds-append s at (end b ++ end (b + 1)) (end (b + 2)) refl h₂
       (holds-run (held-signed s (at + 8) byte) (ap bytesSigned x₂)) in
       let h₄ = holds-append s at (end b ++ end (b + 1) ++ end (b + 2)) (end (b + 3)) refl h₃
       (holds-run (held-signed s (at + 12) byte) (ap bytesSigned x₃)) in
       let four = end b ++ end (b + 1) ++ end (b + 2) ++ end (b + 3) in
-      let h₅ = holds-append s at four count refl h₄ (holds-run (held-16 s (at + countOffset) byte) (ap bytes16 number)) in
+      let h₅ = holds-append s at four count refl h₄ (holds-run (held-16 s (at + countOffset axes) byte)
+      (ap bytes16 number)) in
       holds-append s at (four ++ count) gap refl h₅
-      (holds-run (zeros-held s (at + zeroOffset) (at + entrySize) zero) (ap (λ k. replicate k 0) z))
+      (holds-run (zeros-held s (at + zeroOffset axes) (at + entrySize axes) zero) (ap (λ k. replicate k 0) z))
 
 -- ---- site i of the lists, as the site of a slot of a block
 module _ (s : List ℕ) (slot : ℕ) (xs ys : List ℤ) (cues : List ℕ) (i : ℕ) where
@@ -197,10 +210,11 @@ module _ (s : List ℕ) (slot : ℕ) (xs ys : List ℤ) (cues : List ℕ) (i : �
       let g = holds-left s at (x ++ y) c h in
       let e₀ = read-signed s at (sx i) (holds-left s at x y g) in
       let e₁ = read-signed s (at + 4) (sy i) (holds-right s at x y refl g) in
-      let e₂ = read-32 s (at + 8) (sc i) (holds-right s at (x ++ y) c refl h) in
+      let e₂ = read-32 s (at + cueOffset axes) (sc i) (holds-right s at (x ++ y) c refl h) in
       rw (e₀, e₁, e₂)
 
-  pub site-held : Bytes s → siteIn s slot ≡ record { x = getD xs i (pos 0); y = getD ys i (pos 0); cue = getD cues i 0 } →
+  pub site-held : Bytes s →
+      siteIn s slot ≡ record { x = getD xs i (pos 0); y = getD ys i (pos 0); cue = getD cues i 0 } →
       Holds s (siteOffset slot) (siteBytes xs ys cues i)
   unfolding siteIn siteBytes bytesSigned bytes32 bytes
   site-held byte e =
@@ -213,4 +227,4 @@ module _ (s : List ℕ) (slot : ℕ) (xs ys : List ℤ) (cues : List ℕ) (i : �
       let e₂ = ap (λ (q : Site). q .cue) e in
       let g = holds-append s at x y refl (holds-run (held-signed s at byte) (ap bytesSigned e₀))
       (holds-run (held-signed s (at + 4) byte) (ap bytesSigned e₁)) in
-      holds-append s at (x ++ y) c refl g (holds-run (held-32 s (at + 8) byte) (ap bytes32 e₂))
+      holds-append s at (x ++ y) c refl g (holds-run (held-32 s (at + cueOffset axes) byte) (ap bytes32 e₂))

@@ -1,5 +1,5 @@
--- A block that holds what the writer makes is good, with the entries or sites of the lists; a good block of bytes with these
--- entries or sites holds what the writer makes. Assumes nothing.
+-- A block that holds what the writer makes is good, with the entries or sites of the lists; a good block of bytes with
+-- these entries or sites holds what the writer makes. Assumes nothing.
 use Prim.Native.Nat.{ℕ, _+_, _*_, _<_, _≤_}
 use mathlib.Core.Bool.{true}
 use mathlib.Core.List.{List}
@@ -11,9 +11,10 @@ use lib.ListN.{length, getD}
 use borrow.Author.Tests.{eqb-true, eqb-false, eq-eqb, ltb-true, ltb-false}
 use Rattle.blocks.specs.Accepted.{GoodHead, GoodDirectoryBlock}
 use Rattle.blocks.specs.Block.{headerIn, kindDue}
-use Rattle.blocks.specs.Directory.{directoryBlocks, entriesDue, entryOffset, entryBox, entryCount, entryZero, directoryPadding}
-use Rattle.blocks.specs.Layout.{blockSize, kindAt, tilesAt, reservedAt, payloadAt, checkAt, entrySize, entriesPerBlock}
-use Rattle.blocks.specs.Layout.{siteSize, maxSites, maxTiles, directoryKind, tileKind}
+use Rattle.blocks.specs.Directory.{directoryBlocks, entriesDue, entryOffset, entryBox, entryCount, entryZero}
+use Rattle.blocks.specs.Directory.{directoryPadding}
+use Rattle.blocks.specs.Layout.{axes, blockSize, kindAt, tilesAt, reservedAt, payloadAt, checkAt, entrySize}
+use Rattle.blocks.specs.Layout.{entriesPerBlock, siteSize, maxSites, maxTiles, directoryKind, tileKind}
 use Rattle.blocks.specs.declared.header.Header.{Header}
 use Rattle.codec.specs.Zeros.{zeros}
 use Rattle.codec.specs.Number.{limit16, Bytes, u16At}
@@ -31,13 +32,19 @@ use Rattle.codec.proofs.Holds.{Holds, holds-each, holds-joined}
 use Rattle.encode.proofs.EncodeLaws.{length-entry, length-site, length-entries, length-sites, due-few, due-within}
 use Rattle.encode.proofs.EncodeLaws.{blocks-few}
 use Rattle.writer.specs.Made.{Signed, Unsigned}
-use Rattle.writer.proofs.BlockFields.{Fields, fields-read, fields-held, entry-read, entry-held, site-read, site-held}
+use Rattle.writer.proofs.BlockFields.{Fields, fields-read, fields-held, entry-read, entry-held, site-read}
+use Rattle.writer.proofs.BlockFields.{site-held}
 
 -- the fields that both kinds of block have in common
 module _ {s : List ℕ} {kind p : ℕ} where
   head-of : {n t : ℕ} {payload : List ℕ} → Fields s kind p n t payload → GoodHead kind s p
   unfolding kindDue
-  head-of g = record { sync = g .sync; check = g .check; due = eq-eqb (getD s kindAt 0) kind (g .kinds); position = g .position }
+  head-of g = record {
+    sync = g .sync;
+    check = g .check;
+    due = eq-eqb (getD s kindAt 0) kind (g .kinds);
+    position = g .position;
+  }
 
   kind-of : GoodHead kind s p → getD s kindAt 0 ≡ kind
   unfolding kindDue
@@ -47,36 +54,41 @@ module _ {s : List ℕ} {kind p : ℕ} where
 -- its entries are those of its tiles
 abbrev pub Entries : List ℤ → List ℕ → List ℕ → ℕ → Type 0
 Entries boxes counts s p = (i : ℕ) → i < entriesDue (headerOf counts) p →
-    (entryBox s i ≡ boxOf boxes (entriesPerBlock * p + i))
-    × (entryCount s i ≡ countOf counts (entriesPerBlock * p + i))
+    (entryBox s i ≡ boxOf boxes (entriesPerBlock axes * p + i))
+    × (entryCount s i ≡ countOf counts (entriesPerBlock axes * p + i))
 
 module _ (boxes : List ℤ) (counts : List ℕ) (s : List ℕ) (p : ℕ) (size : length s ≡ blockSize) where
   payload : List ℕ
-  payload = joined (entryBytes boxes counts) (entriesPerBlock * p) (entriesDue (headerOf counts) p)
+  payload = joined (entryBytes boxes counts) (entriesPerBlock axes * p) (entriesDue (headerOf counts) p)
 
   entries-fit : payloadAt + length payload ≤ checkAt
   unfolding payload
   entries-fit =
-      omega (arith, length-entries boxes counts (entriesPerBlock * p) (entriesDue (headerOf counts) p), due-few (headerOf counts) p)
+      omega (
+        arith,
+        length-entries boxes counts (entriesPerBlock axes * p) (entriesDue (headerOf counts) p),
+        due-few (headerOf counts) p,
+      )
 
   payload-end : payloadAt + length payload ≡ entryOffset (entriesDue (headerOf counts) p)
   unfolding payload entryOffset
-  payload-end = omega (arith, length-entries boxes counts (entriesPerBlock * p) (entriesDue (headerOf counts) p))
+  payload-end = omega (arith, length-entries boxes counts (entriesPerBlock axes * p) (entriesDue (headerOf counts) p))
 
   module _ (signed : Signed boxes) (few : length counts ≤ maxTiles) (here : p < directoryBlocks (headerOf counts))
-      (small : (t : ℕ) → t < length counts → countOf counts t ≤ maxSites)
+      (small : (t : ℕ) → t < length counts → countOf counts t ≤ maxSites axes)
       (valid : (t : ℕ) → t < length counts → geometry.validBox (boxOf boxes t) ≡ true) where
     entries-read : Holds s payloadAt payload → (i : ℕ) → i < entriesDue (headerOf counts) p →
-        (entryBox s i ≡ boxOf boxes (entriesPerBlock * p + i))
-        × (entryCount s i ≡ countOf counts (entriesPerBlock * p + i))
+        (entryBox s i ≡ boxOf boxes (entriesPerBlock axes * p + i))
+        × (entryCount s i ≡ countOf counts (entriesPerBlock axes * p + i))
         × (entryZero s i ≡ true)
     unfolding payload entryOffset
     entries-read h i l =
-        let t = entriesPerBlock * p + i in
+        let t = entriesPerBlock axes * p + i in
         let k : t < length counts = omega (arith, due-within (headerOf counts) p here) in
         entry-read s i boxes counts t signed (omega (arith, small t k))
-        (holds-each s (entryBytes boxes counts) entrySize payloadAt (entriesPerBlock * p) (entriesDue (headerOf counts) p)
-        (λ j m. length-entry boxes counts (entriesPerBlock * p + j)) h i l)
+        (holds-each s (entryBytes boxes counts) (entrySize axes) payloadAt (entriesPerBlock axes * p)
+        (entriesDue (headerOf counts) p)
+        (λ j m. length-entry boxes counts (entriesPerBlock axes * p + j)) h i l)
 
     pub directory-read : Holds s 0 (directoryBytes boxes counts p) →
         GoodDirectoryBlock s p (headerOf counts) × Entries boxes counts s p
@@ -87,7 +99,7 @@ module _ (boxes : List ℤ) (counts : List ℕ) (s : List ℕ) (p : ℕ) (size :
         (omega (arith, blocks-few (headerOf counts)))
         (omega (arith, due-few (headerOf counts) p)) (omega arith) h in
         let e = entries-read (g .held) in
-        let tile : (i : ℕ) → i < n → entriesPerBlock * p + i < length counts = λ i l. omega
+        let tile : (i : ℕ) → i < n → entriesPerBlock axes * p + i < length counts = λ i l. omega
         (arith, due-within (headerOf counts) p here) in (
           record {
             head = head-of g;
@@ -95,8 +107,8 @@ module _ (boxes : List ℤ) (counts : List ℕ) (s : List ℕ) (p : ℕ) (size :
             entries = g .entries;
             padding = both-and (both-and (g .reserved) (every-holds (entryZero s) n (λ i l. e i l .2)))
                 (ap (λ k. zeros s k checkAt) (sym payload-end) ∙ g .unused);
-            boxes = λ i l. rw (e i l .0) (valid (entriesPerBlock * p + i) (tile i l));
-            counts = λ i l. rw (e i l .1) (small (entriesPerBlock * p + i) (tile i l));
+            boxes = λ i l. rw (e i l .0) (valid (entriesPerBlock axes * p + i) (tile i l));
+            counts = λ i l. rw (e i l .1) (small (entriesPerBlock axes * p + i) (tile i l));
           },
           λ i l. (e i l .0, e i l .1),
         )
@@ -115,9 +127,9 @@ module _ (boxes : List ℤ) (counts : List ℕ) (s : List ℕ) (p : ℕ) (size :
         entries = g .entries;
         tiles = ap (λ (h : Header). h .tiles) (g .header);
         reserved = y .0;
-        held = holds-joined s (entryBytes boxes counts) entrySize payloadAt (entriesPerBlock * p) n
-            (λ j m. length-entry boxes counts (entriesPerBlock * p + j))
-            (λ i l. entry-held s i boxes counts (entriesPerBlock * p + i) byte (e i l .0) (e i l .1)
+        held = holds-joined s (entryBytes boxes counts) (entrySize axes) payloadAt (entriesPerBlock axes * p) n
+            (λ j m. length-entry boxes counts (entriesPerBlock axes * p + j))
+            (λ i l. entry-held s i boxes counts (entriesPerBlock axes * p + i) byte (e i l .0) (e i l .1)
             (every-at (entryZero s) n i (y .1) l));
         unused = ap (λ k. zeros s k checkAt) payload-end ∙ z .1;
         check = g .head .check;
@@ -127,7 +139,8 @@ module _ (boxes : List ℤ) (counts : List ℕ) (s : List ℕ) (p : ℕ) (size :
 module _ (s : List ℕ) where
   tile-zeros : headerIn s .tiles ≡ 0 → zeros s reservedAt payloadAt ≡ true → zeros s tilesAt payloadAt ≡ true
   unfolding u16At
-  tile-zeros e z = zeros-hold s tilesAt payloadAt (λ i l k. by-test (ltb i reservedAt) (λ t. first i k (ltb-true i reservedAt t))
+  tile-zeros e z =
+      zeros-hold s tilesAt payloadAt (λ i l k. by-test (ltb i reservedAt) (λ t. first i k (ltb-true i reservedAt t))
       (λ t. zeros-at s reservedAt payloadAt z i (ltb-false i reservedAt t) l))
     where
       first : (i : ℕ) → tilesAt ≤ i → i < reservedAt → getD s i 0 ≡ 0
@@ -138,8 +151,10 @@ module _ (s : List ℕ) where
   unfolding u16At
   tiles-zero z =
       let a = zeros-at s tilesAt payloadAt z tilesAt (omega arith) (omega arith) in
-      let b = zeros-at s tilesAt payloadAt z (tilesAt + 1) (omega arith) (omega arith) in
-      (omega (arith, a, b), zeros-hold s reservedAt payloadAt (λ i l k. zeros-at s tilesAt payloadAt z i (omega arith) l))
+      let b = zeros-at s tilesAt payloadAt z (tilesAt + 1) (omega arith) (omega arith) in (
+        omega (arith, a, b),
+        zeros-hold s reservedAt payloadAt (λ i l k. zeros-at s tilesAt payloadAt z i (omega arith) l),
+      )
 
 -- ---- a tile's block
 -- its sites are n sites of the lists from site `first` on
@@ -151,7 +166,8 @@ Sites xs ys cues s first n = (slot : ℕ) → slot < n →
       cue = getD cues (first + slot) 0;
     }
 
-module _ (xs ys : List ℤ) (cues : List ℕ) (s : List ℕ) (p first n : ℕ) (size : length s ≡ blockSize) (few : n ≤ maxSites) where
+module _ (xs ys : List ℤ) (cues : List ℕ) (s : List ℕ) (p first n : ℕ) (size : length s ≡ blockSize)
+    (few : n ≤ maxSites axes) where
   sites : List ℕ
   sites = joined (siteBytes xs ys cues) first n
 
@@ -170,12 +186,13 @@ module _ (xs ys : List ℤ) (cues : List ℕ) (s : List ℕ) (p first n : ℕ) (
   tile-read sx sy sc lp bounds inside h =
       let g = fields-read s size tileKind p n 0 sites sites-fit lp (omega arith) (omega arith) h in
       let e : Sites xs ys cues s first n = λ slot l. site-read s slot xs ys cues (first + slot) sx sy sc
-      (holds-each s (siteBytes xs ys cues) siteSize payloadAt first n (λ j m. length-site xs ys cues (first + j))
+      (holds-each s (siteBytes xs ys cues) (siteSize axes) payloadAt first n (λ j m. length-site xs ys cues (first + j))
       (g .held) slot l) in (
         record {
           head = head-of g;
           entries = g .entries;
-          padding = both-and (tile-zeros s (g .tiles) (g .reserved)) (ap (λ k. zeros s k checkAt) (sym sites-end) ∙ g .unused);
+          padding = both-and (tile-zeros s (g .tiles) (g .reserved)) (ap (λ k. zeros s k checkAt) (sym sites-end)
+              ∙ g .unused);
           inside = λ slot l. ap (λ (q : Site). geometry.inside bounds (sitePoint q)) (e slot l) ∙ inside slot l;
         },
         e,
@@ -194,7 +211,8 @@ module _ (xs ys : List ℤ) (cues : List ℕ) (s : List ℕ) (p first n : ℕ) (
         entries = g .entries;
         tiles = y .0;
         reserved = y .1;
-        held = holds-joined s (siteBytes xs ys cues) siteSize payloadAt first n (λ j m. length-site xs ys cues (first + j))
+        held = holds-joined s (siteBytes xs ys cues) (siteSize axes) payloadAt first n
+            (λ j m. length-site xs ys cues (first + j))
             (λ slot l. site-held s slot xs ys cues (first + slot) byte (e slot l));
         unused = ap (λ k. zeros s k checkAt) sites-end ∙ z .1;
         check = g .head .check;

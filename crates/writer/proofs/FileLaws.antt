@@ -1,5 +1,5 @@
--- The file that the writer makes passes the full check and gives its lists back; a file of bytes that passes holds what the
--- writer makes of the lists that are read from it. Assumes nothing.
+-- The file that the writer makes passes the full check and gives its lists back; a file of bytes that passes holds what
+-- the writer makes of the lists that are read from it. Assumes nothing.
 use Prim.Native.Nat.{ℕ, _+_, _*_, _/_, _%_, _<_, _≤_}
 use mathlib.Core.List.{List}
 use mathlib.Core.Path.{_≡_, sym, ap, _∙_}
@@ -12,7 +12,7 @@ use borrow.Author.Tests.{ltb-true, ltb-false}
 use Rattle.blocks.specs.Accepted.{GoodDirectoryBlock}
 use Rattle.blocks.specs.Block.{blockAt}
 use Rattle.blocks.specs.Directory.{directoryBlocks, boxAt, countAt}
-use Rattle.blocks.specs.Layout.{blockSize, entriesPerBlock, maxSites}
+use Rattle.blocks.specs.Layout.{axes, blockSize, entriesPerBlock, maxSites}
 use Rattle.codec.specs.Number.{Bytes}
 use Rattle.codec.specs.Tabulate.{joined}
 use Rattle.encode.specs.Encode.{directoryBytes, tileBytesOf, fileBytes, fileLength}
@@ -22,8 +22,8 @@ use Rattle.tiles.specs.Tile.{siteIn, tilePosition, siteAt}
 use Rattle.base.proofs.Tests.{by-test}
 use Rattle.blocks.proofs.BlockLaws as blocks
 use Rattle.blocks.proofs.DirectoryLaws.{entry-block, entry-due, block-fits, count-small}
-use Rattle.codec.proofs.Holds.{Holds, holds-run, holds-part, part-holds, holds-left, holds-right, holds-append, holds-each}
-use Rattle.codec.proofs.Holds.{holds-joined}
+use Rattle.codec.proofs.Holds.{Holds, holds-run, holds-part, part-holds, holds-left, holds-right, holds-append}
+use Rattle.codec.proofs.Holds.{holds-each, holds-joined}
 use Rattle.codec.proofs.Joined.{length-joined}
 use Rattle.encode.proofs.EncodeLaws.{length-directory-block, length-tile-block, due-few, due-within, blocks-few}
 use Rattle.writer.specs.Accepted.{GoodSupply}
@@ -34,7 +34,8 @@ use Rattle.writer.proofs.BlockRound.{Entries, directory-read, directory
 pub record Reads (f : List ℕ) (s : Supply) : Type 0 where
   pub box : (t : ℕ) → t < tilesOf s → boxAt f t ≡ boxOf (s .boxes) t
   pub count : (t : ℕ) → t < tilesOf s → countAt f t ≡ countOf (s .counts) t
-  pub site : (t slot : ℕ) → t < tilesOf s → slot < countOf (s .counts) t → siteAt f (headerOf (s .counts)) t slot ≡ siteOf s t slot
+  pub site : (t slot : ℕ) → t < tilesOf s → slot < countOf (s .counts) t →
+      siteAt f (headerOf (s .counts)) t slot ≡ siteOf s t slot
 
 -- a block of a file of bytes is one of bytes
 pub block-bytes : (f : List ℕ) (p : ℕ) → Bytes f → Bytes (blockAt f p)
@@ -42,16 +43,17 @@ unfolding blockAt
 block-bytes f p byte i =
     let s = drop (blockSize * p) f in
     by-test (ltb i blockSize)
-    (λ e. rw (getD-take blockSize s i 0 (ltb-true i blockSize e), getD-drop (blockSize * p) f i 0) (byte (blockSize * p + i)))
+    (λ e. rw (getD-take blockSize s i 0 (ltb-true i blockSize e), getD-drop (blockSize * p) f i 0)
+    (byte (blockSize * p + i)))
     (λ e. let l : length (take blockSize s) ≤ i = omega (arith, length-take blockSize s, ltb-false i blockSize e) in
     rw (List·getD-eq-default (take blockSize s) 0 l) (lit< tt))
 
 -- a tile's entry is entry t % 24 of directory block t / 24
-tile-entry : (t : ℕ) → entriesPerBlock * (t / entriesPerBlock) + t % entriesPerBlock ≡ t
+tile-entry : (t : ℕ) → entriesPerBlock axes * (t / entriesPerBlock axes) + t % entriesPerBlock axes ≡ t
 tile-entry t = omega arith
 
-entry-of : (p i : ℕ) → i < entriesPerBlock → ((entriesPerBlock * p + i) / entriesPerBlock ≡ p) ×
-    ((entriesPerBlock * p + i) % entriesPerBlock ≡ i)
+entry-of : (p i : ℕ) → i < entriesPerBlock axes → ((entriesPerBlock axes * p + i) / entriesPerBlock axes ≡ p) ×
+    ((entriesPerBlock axes * p + i) % entriesPerBlock axes ≡ i)
 entry-of p i l = (omega arith, omega arith)
 
 module _ (s : Supply) where
@@ -61,15 +63,17 @@ module _ (s : Supply) where
   abbrev tile : ℕ → List ℕ
   tile = tileBytesOf (s .counts) (s .xs) (s .ys) (s .cues)
 
-  length-all : length (joined directory 0 (directoryBlocks (headerOf (s .counts)))) ≡ blockSize * directoryBlocks (headerOf (s .counts))
+  length-all : length (joined directory 0 (directoryBlocks (headerOf (s .counts))))
+      ≡ blockSize * directoryBlocks (headerOf (s .counts))
   length-all = length-joined directory blockSize 0 (directoryBlocks (headerOf (s .counts)))
       (λ i l. length-directory-block (s .boxes) (s .counts) (0 + i))
 
-  module _ (few : (t : ℕ) → t < tilesOf s → countOf (s .counts) t ≤ maxSites) where
+  module _ (few : (t : ℕ) → t < tilesOf s → countOf (s .counts) t ≤ maxSites axes) where
     length-tile : (t : ℕ) → t < tilesOf s → length (tile t) ≡ blockSize
     unfolding tileBytesOf
     length-tile t l =
-        length-tile-block (s .xs) (s .ys) (s .cues) (tilePosition (headerOf (s .counts)) t) (offset (s .counts) t) (countOf (s .counts) t)
+        length-tile-block (s .xs) (s .ys) (s .cues) (tilePosition (headerOf (s .counts)) t) (offset (s .counts) t)
+        (countOf (s .counts) t)
         (few t l)
 
     tile-width : (k : ℕ) → k < tilesOf s → length (tile (0 + k)) ≡ blockSize
@@ -87,16 +91,19 @@ module _ (s : Supply) where
 
     -- ---- block by block
     module _ (f : List ℕ) where
-      file-directory : Holds f 0 (fileBytes s) → (p : ℕ) → p < directoryBlocks (headerOf (s .counts)) → Holds (blockAt f p) 0 (directory p)
+      file-directory : Holds f 0 (fileBytes s) → (p : ℕ) → p < directoryBlocks (headerOf (s .counts)) →
+          Holds (blockAt f p) 0 (directory p)
       unfolding fileBytes blockAt
       file-directory h p l =
-          let g = holds-left f 0 (joined directory 0 (directoryBlocks (headerOf (s .counts)))) (joined tile 0 (tilesOf s)) h in
+          let g = holds-left f 0 (joined directory 0 (directoryBlocks (headerOf (s .counts))))
+          (joined tile 0 (tilesOf s)) h in
           let e = holds-each f directory blockSize 0 0 (directoryBlocks (headerOf (s .counts)))
           (λ i m. length-directory-block (s .boxes) (s .counts) (0 + i)) g p l in
           let m = length-directory-block (s .boxes) (s .counts) p in
           holds-part (holds-run e (ap directory (zero-add p))) blockSize (blockSize * p) 0 (omega arith) (omega arith)
 
-      file-tile : Holds f 0 (fileBytes s) → (t : ℕ) → t < tilesOf s → Holds (blockAt f (tilePosition (headerOf (s .counts)) t)) 0 (tile t)
+      file-tile : Holds f 0 (fileBytes s) → (t : ℕ) → t < tilesOf s →
+          Holds (blockAt f (tilePosition (headerOf (s .counts)) t)) 0 (tile t)
       unfolding fileBytes blockAt tilePosition
       file-tile h t l =
           let d = directoryBlocks (headerOf (s .counts)) in
@@ -107,7 +114,8 @@ module _ (s : Supply) where
           holds-part (holds-run e (ap tile (zero-add t))) blockSize (blockSize * (d + t)) 0 (omega arith) (omega arith)
 
       blocks-file : ((p : ℕ) → p < directoryBlocks (headerOf (s .counts)) → Holds (blockAt f p) 0 (directory p)) →
-          ((t : ℕ) → t < tilesOf s → Holds (blockAt f (tilePosition (headerOf (s .counts)) t)) 0 (tile t)) → Holds f 0 (fileBytes s)
+          ((t : ℕ) → t < tilesOf s → Holds (blockAt f (tilePosition (headerOf (s .counts)) t)) 0 (tile t)) →
+          Holds f 0 (fileBytes s)
       unfolding fileBytes blockAt tilePosition
       blocks-file h g =
           let d = directoryBlocks (headerOf (s .counts)) in
@@ -115,14 +123,16 @@ module _ (s : Supply) where
           holds-append f 0 (joined directory 0 d) (joined tile 0 (tilesOf s)) u
           (holds-joined f directory blockSize 0 0 d (λ i m. length-directory-block (s .boxes) (s .counts) (0 + i))
           (λ p l. let m = length-directory-block (s .boxes) (s .counts) p in
-          holds-run (part-holds blockSize (blockSize * p) (h p l) (omega arith) (omega arith)) (ap directory (sym (zero-add p)))))
+          holds-run (part-holds blockSize (blockSize * p) (h p l) (omega arith) (omega arith))
+          (ap directory (sym (zero-add p)))))
           (holds-joined f tile blockSize (blockSize * d) 0 (tilesOf s) tile-width
           (λ t l. let m = length-tile t l in
           holds-run (part-holds blockSize (blockSize * (d + t)) (g t l) (omega arith) (omega arith))
           (ap tile (sym (zero-add t)))))
 
 -- ---- what is written, read
-module _ (s : Supply) (g : GoodSupply s) (typed : Typed s) (f : List ℕ) (size : length f ≡ fileLength (headerOf (s .counts)))
+module _ (s : Supply) (g : GoodSupply s) (typed : Typed s) (f : List ℕ)
+    (size : length f ≡ fileLength (headerOf (s .counts)))
     (h : Holds f 0 (fileBytes s)) where
   fits : (p : ℕ) → p < directoryBlocks (headerOf (s .counts)) + tilesOf s → length (blockAt f p) ≡ blockSize
   unfolding fileLength
@@ -132,14 +142,16 @@ module _ (s : Supply) (g : GoodSupply s) (typed : Typed s) (f : List ℕ) (size 
       GoodDirectoryBlock (blockAt f p) p (headerOf (s .counts))
       × Entries (s .boxes) (s .counts) (blockAt f p) p
   directory-at p l =
-      directory-read (s .boxes) (s .counts) (blockAt f p) p (fits p (omega arith)) (typed .boxes) (g .most) l (g .counts)
+      directory-read (s .boxes) (s .counts) (blockAt f p) p (fits p (omega arith)) (typed .boxes) (g .most)
+      l (g .counts)
       (g .boxes)
       (file-directory s (g .counts) f h p l)
 
   entry-at : (t : ℕ) → t < tilesOf s → (boxAt f t ≡ boxOf (s .boxes) t) × (countAt f t ≡ countOf (s .counts) t)
   unfolding boxAt countAt
   entry-at t l =
-      let e = directory-at (t / entriesPerBlock) (entry-block (headerOf (s .counts)) t l) .1 (t % entriesPerBlock)
+      let e = directory-at (t / entriesPerBlock axes) (entry-block (headerOf (s .counts)) t l) .1
+      (t % entriesPerBlock axes)
       (entry-due (headerOf (s .counts)) t l) in
       let q = tile-entry t in
       (e .0 ∙ ap (boxOf (s .boxes)) q, e .1 ∙ ap (countOf (s .counts)) q)
@@ -150,9 +162,11 @@ module _ (s : Supply) (g : GoodSupply s) (typed : Typed s) (f : List ℕ) (size 
   unfolding tileBytesOf tilePosition
   tile-at t l =
       let p = directoryBlocks (headerOf (s .counts)) + t in
-      tile-read (s .xs) (s .ys) (s .cues) (blockAt f p) p (offset (s .counts) t) (countOf (s .counts) t) (fits p (omega arith))
+      tile-read (s .xs) (s .ys) (s .cues) (blockAt f p) p (offset (s .counts) t) (countOf (s .counts) t)
+      (fits p (omega arith))
       (g .counts t l)
-      (typed .xs) (typed .ys) (typed .cues) (omega (arith, blocks-few (headerOf (s .counts)), g .most)) (boxOf (s .boxes) t)
+      (typed .xs) (typed .ys) (typed .cues) (omega (arith, blocks-few (headerOf (s .counts)), g .most))
+      (boxOf (s .boxes) t)
       (λ slot k. g .inside t slot l k)
       (file-tile s (g .counts) f h t l)
 
@@ -180,26 +194,29 @@ module _ (s : Supply) (g : GoodSupply s) (typed : Typed s) (f : List ℕ) (size 
   }
 
 -- ---- what is read, written
-pub good-holds : (f : List ℕ) (s : Supply) → Bytes f → GoodFile f (headerOf (s .counts)) → Reads f s → Holds f 0 (fileBytes s)
+pub good-holds : (f : List ℕ) (s : Supply) → Bytes f → GoodFile f (headerOf (s .counts)) → Reads f s →
+    Holds f 0 (fileBytes s)
 unfolding boxAt countAt siteAt tileBytesOf tilePosition
 good-holds f s byte g r =
     blocks-file s few f
     (λ p l. directory-held (s .boxes) (s .counts) (blockAt f p) p (size p (omega arith)) (block-bytes f p byte)
     (g .directory .blocks p l)
     (λ i k. let a = entry-of p i (omega (arith, due-few (headerOf (s .counts)) p)) in
-    let t = entriesPerBlock * p + i in
+    let t = entriesPerBlock axes * p + i in
     let m : t < tilesOf s = omega (arith, due-within (headerOf (s .counts)) p l) in
     (rw (a .0, a .1) at (r .box t m), rw (a .0, a .1) at (r .count t m))))
     (λ t l. let p = tilePosition (headerOf (s .counts)) t in
-    tile-held (s .xs) (s .ys) (s .cues) (blockAt f p) p (offset (s .counts) t) (countOf (s .counts) t) (size p (position t l))
+    tile-held (s .xs) (s .ys) (s .cues) (blockAt f p) p (offset (s .counts) t) (countOf (s .counts) t)
+    (size p (position t l))
     (few t l)
     (block-bytes f p byte) (rw (r .count t l) at (g .opened t l)) (λ slot k. r .site t slot l k))
   where
-    few : (t : ℕ) → t < tilesOf s → countOf (s .counts) t ≤ maxSites
+    few : (t : ℕ) → t < tilesOf s → countOf (s .counts) t ≤ maxSites axes
     few t l = rw (r .count t l) at (count-small (g .directory) t l)
 
     size : (p : ℕ) → p < directoryBlocks (headerOf (s .counts)) + tilesOf s → length (blockAt f p) ≡ blockSize
     size p l = blocks.length-block f p (block-fits (g .directory) p l)
 
-    position : (t : ℕ) → t < tilesOf s → tilePosition (headerOf (s .counts)) t < directoryBlocks (headerOf (s .counts)) + tilesOf s
+    position : (t : ℕ) → t < tilesOf s →
+        tilePosition (headerOf (s .counts)) t < directoryBlocks (headerOf (s .counts)) + tilesOf s
     position t l = omega arith

@@ -1,9 +1,9 @@
--- The lists that a file holds: they are read from it, they are good where the file is, and no other lists are read from it.
--- Assumes nothing.
+-- The lists that a file holds: they are read from it, they are good where the file is, and no other lists are read from
+-- it. Assumes nothing.
 use Prim.Native.Nat.{ℕ, zero, suc, _+_, _*_, _-_, _/_, _%_, _<_, _≤_}
 use mathlib.Core.List.{List, [], _∷_}
 use mathlib.Core.Path.{_≡_, refl, sym, ap, _∙_}
-use native.Mathlib.Nat.{add-zero, zero-add}
+use native.Mathlib.Nat.{zero-add}
 use native.Mathlib.Omega.{arith}
 use lib.Dec.{lit<}
 use lib.IntN.{ℤ, pos}
@@ -12,7 +12,7 @@ use lib.Seq.{take-length}
 use lib.Signed.{mag}
 use Rattle.blocks.specs.Block.{blockAt}
 use Rattle.blocks.specs.Directory.{entryOffset, entryBox, entryCount, boxAt, countAt}
-use Rattle.blocks.specs.Layout.{countOffset, entriesPerBlock}
+use Rattle.blocks.specs.Layout.{axes, countOffset, entriesPerBlock}
 use Rattle.blocks.specs.declared.header.Header.{Header}
 use Rattle.codec.specs.Number.{limit32, limitSigned, Bytes, u32At, i32At}
 use Rattle.codec.specs.Tabulate.{tabulate, joined}
@@ -59,11 +59,14 @@ module _ (f : List ℕ) (h : Header) where
       ∙ ap (λ i. getD (boxNumbers (boxAt f i)) j (pos 0)) (zero-add t)
 
   box-own : (t : ℕ) → t < h .tiles → boxOf boxes t ≡ boxAt f t
-  unfolding boxOf boxNumbers boxAt entryBox
+  unfolding boxOf boxNumbers boxAt entryBox tabulate
   box-own t l =
-      let e₀ : getD boxes (numbersPerBox * t) (pos 0) ≡ getD (boxNumbers (boxAt f t)) 0 (pos 0) =
-      ap (λ i. getD boxes i (pos 0)) (sym (add-zero (numbersPerBox * t))) ∙ number-own t 0 l (lit< tt) in
-      rw (e₀, number-own t 1 l (lit< tt), number-own t 2 l (lit< tt), number-own t 3 l (lit< tt))
+      rw (
+        number-own t 0 l (lit< tt),
+        number-own t 1 l (lit< tt),
+        number-own t 2 l (lit< tt),
+        number-own t 3 l (lit< tt),
+      )
 
   -- ---- a field of all sites
   module _ {A : Type 0} (field : Site → A) where
@@ -154,20 +157,27 @@ module _ (f : List ℕ) (h : Header) where
     column-signed field small =
         joined-all (λ t. tabulate (λ slot. field (siteAt f h t slot)) 0 (countAt f t)) (λ z. mag z < limitSigned)
         (pos 0) 0 (h .tiles) (lit< tt)
-        (λ t. tabulate-all (λ slot. field (siteAt f h t slot)) (λ z. mag z < limitSigned) (pos 0) 0 (countAt f t) (lit< tt)
+        (λ t. tabulate-all (λ slot. field (siteAt f h t slot)) (λ z. mag z < limitSigned) (pos 0) 0
+        (countAt f t) (lit< tt)
         (small t))
 
     pub typed-own : Typed (supplyOf f h)
-    unfolding supplyOf boxNumbers boxAt entryBox countAt entryCount column siteAt siteIn
+    unfolding supplyOf boxNumbers boxAt entryBox tabulate countAt entryCount column siteAt siteIn
     typed-own = record {
       boxes = joined-all (λ t. boxNumbers (boxAt f t)) (λ z. mag z < limitSigned) (pos 0) 0 (h .tiles) (lit< tt)
-          (λ t. four-all (λ z. mag z < limitSigned) (signed-at _ _) (signed-at _ _) (signed-at _ _) (signed-at _ _) (lit< tt));
+          (λ t. four-all (λ z. mag z < limitSigned) (signed-at _ _) (signed-at _ _) (signed-at _ _)
+          (signed-at _ _) (lit< tt));
       counts = tabulate-all (countAt f) (λ n. n < limit32) 0 0 (h .tiles) (lit< tt)
-          (λ t. let p = t / entriesPerBlock in
-          omega (arith, u16-small (blockAt f p) (entryOffset (t % entriesPerBlock) + countOffset) (block-bytes f p byte)));
+          (λ t. let p = t / entriesPerBlock axes in
+          omega (
+            arith,
+            u16-small (blockAt f p) (entryOffset (t % entriesPerBlock axes) + countOffset axes)
+                (block-bytes f p byte),
+          ));
       xs = column-signed (λ (q : Site). q .x) (λ t slot. signed-at _ _);
       ys = column-signed (λ (q : Site). q .y) (λ t slot. signed-at _ _);
-      cues = joined-all (λ t. tabulate (λ slot. siteAt f h t slot .cue) 0 (countAt f t)) (λ n. n < limit32) 0 0 (h .tiles)
+      cues = joined-all (λ t. tabulate (λ slot. siteAt f h t slot .cue) 0 (countAt f t)) (λ n. n < limit32) 0
+          0 (h .tiles)
           (lit< tt)
           (λ t. tabulate-all (λ slot. siteAt f h t slot .cue) (λ n. n < limit32) 0 0 (countAt f t) (lit< tt)
           (λ slot. u32-small (blockAt f _) _ (block-bytes f _ byte)));
@@ -176,12 +186,14 @@ module _ (f : List ℕ) (h : Header) where
 -- ---- no other lists
 module _ (f : List ℕ) (s : Supply) (g : GoodSupply s) (r : Reads f s) where
   -- a list that is read part by part, where part t has size t elements, from start t on
-  parts : {A : Type 0} (l : List A) (d : A) (start size : ℕ → ℕ) → start 0 ≡ 0 → ((t : ℕ) → start (t + 1) ≡ start t + size t) →
+  parts : {A : Type 0} (l : List A) (d : A) (start size : ℕ → ℕ) → start 0 ≡ 0 →
+      ((t : ℕ) → start (t + 1) ≡ start t + size t) →
       length l ≡ start (tilesOf s) → ((t : ℕ) → t < tilesOf s → start t + size t ≤ length l) →
       joined (λ t. tabulate (λ i. getD l (start t + i) d) 0 (size t)) 0 (tilesOf s) ≡ l
   parts l d start size z next n fits =
       let e : start (0 + tilesOf s) - start 0 ≡ length l = omega (arith, ap start (zero-add (tilesOf s))) in
-      joined-same (λ t. tabulate (λ i. getD l (start t + i) d) 0 (size t)) (λ t. take (size t) (drop (start t) l)) 0 (tilesOf s)
+      joined-same (λ t. tabulate (λ i. getD l (start t + i) d) 0 (size t)) (λ t. take (size t) (drop (start t) l))
+      0 (tilesOf s)
       (λ t k. let q = zero-add t in rw q (tabulate-part l d (start t) (size t) (fits t k)))
       ∙ joined-parts l start size next 0 (tilesOf s)
       ∙ ap (λ k. take k (drop (start 0) l)) e ∙ ap (λ k. take (length l) (drop k l)) z ∙ take-length l
@@ -197,12 +209,13 @@ module _ (f : List ℕ) (s : Supply) (g : GoodSupply s) (r : Reads f s) where
   boxes-only =
       joined-same (λ t. boxNumbers (boxAt f t)) (λ t. tabulate
       (λ i. getD (s .boxes) (numbersPerBox * t + i) (pos 0)) 0 numbersPerBox) 0 (tilesOf s)
-      (λ t l. let q = zero-add t in rw (q, add-zero) (ap boxNumbers (r .box t l)))
+      (λ t l. let q = zero-add t in rw q (ap boxNumbers (r .box t l)))
       ∙ parts (s .boxes) (pos 0) (λ t. numbersPerBox * t) (λ t. numbersPerBox) refl (λ t. omega arith) (g .numbers)
       (λ t l. omega (arith, g .numbers))
 
   column-only : {A : Type 0} (field : Site → A) (l : List A) (d : A) → length l ≡ total (s .counts) →
-      ((t slot : ℕ) → t < tilesOf s → slot < countOf (s .counts) t → field (siteAt f (headerOf (s .counts)) t slot) ≡ getD l
+      ((t slot : ℕ) → t < tilesOf s → slot < countOf (s .counts) t →
+      field (siteAt f (headerOf (s .counts)) t slot) ≡ getD l
       (offset (s .counts) t + slot) d) →
       column field f (headerOf (s .counts)) ≡ l
   unfolding column offset
@@ -211,7 +224,8 @@ module _ (f : List ℕ) (s : Supply) (g : GoodSupply s) (r : Reads f s) where
       (λ t. tabulate (λ i. getD l (offset (s .counts) t + i) d) 0 (countOf (s .counts) t)) 0 (tilesOf s)
       (λ t k. let q = zero-add t in
       rw (q, r .count t k)
-      (tabulate-same (λ slot. field (siteAt f (headerOf (s .counts)) t slot)) (λ i. getD l (offset (s .counts) t + i) d) 0
+      (tabulate-same (λ slot. field (siteAt f (headerOf (s .counts)) t slot)) (λ i. getD l (offset (s .counts) t + i) d)
+      0
       (countOf (s .counts) t)
       (λ slot m. let e = zero-add slot in rw e (h t slot k m))))
       ∙ parts l d (offset (s .counts)) (countOf (s .counts)) refl (offset-next (s .counts)) n
@@ -222,7 +236,10 @@ module _ (f : List ℕ) (s : Supply) (g : GoodSupply s) (r : Reads f s) where
   only-own = rw (
     boxes-only,
     counts-only,
-    column-only (λ (q : Site). q .x) (s .xs) (pos 0) (g .xs) (λ t slot k m. ap (λ (q : Site). q .x) (r .site t slot k m)),
-    column-only (λ (q : Site). q .y) (s .ys) (pos 0) (g .ys) (λ t slot k m. ap (λ (q : Site). q .y) (r .site t slot k m)),
-    column-only (λ (q : Site). q .cue) (s .cues) 0 (g .cues) (λ t slot k m. ap (λ (q : Site). q .cue) (r .site t slot k m)),
+    column-only (λ (q : Site). q .x) (s .xs) (pos 0) (g .xs) (λ t slot k m. ap (λ (q : Site). q .x)
+        (r .site t slot k m)),
+    column-only (λ (q : Site). q .y) (s .ys) (pos 0) (g .ys) (λ t slot k m. ap (λ (q : Site). q .y)
+        (r .site t slot k m)),
+    column-only (λ (q : Site). q .cue) (s .cues) 0 (g .cues) (λ t slot k m. ap (λ (q : Site). q .cue)
+        (r .site t slot k m)),
   )

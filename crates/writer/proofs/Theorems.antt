@@ -31,8 +31,10 @@ use Rattle.writer.proofs.WriteLaws.{tests-good, tests-enough, call-acce
 -- ---- the call
 -- the writer accepts exactly good lists, where the file fits the output slice, and gives the file's length
 pub write-exactly : (s : Supply) (room n : ℕ) →
-    (writeCall s room ≡ accepted n → GoodSupply s × (fileLength (headerOf (s .counts)) ≤ room) × (n ≡ fileLength (headerOf (s .counts))))
-    × (GoodSupply s × (fileLength (headerOf (s .counts)) ≤ room) × (n ≡ fileLength (headerOf (s .counts))) → writeCall s room ≡ accepted n)
+    (writeCall s room ≡ accepted n → GoodSupply s × (fileLength (headerOf (s .counts)) ≤ room)
+    × (n ≡ fileLength (headerOf (s .counts))))
+    × (GoodSupply s × (fileLength (headerOf (s .counts)) ≤ room) × (n ≡ fileLength (headerOf (s .counts))) →
+    writeCall s room ≡ accepted n)
 unfolding writeCall
 write-exactly s room n = (
   λ e. let h = andThen-accepted (writeTests s room) (λ _. accepted (fileLength (headerOf (s .counts)))) e in
@@ -60,8 +62,8 @@ module _ (s : Supply) (out : List ℕ) (n : ℕ) (e : writeCall s (length out) �
     ap (drop n) laid ∙ drop-at (fileBytes s) (drop n out) n size,
   )
 
--- ---- "A file passes the full check exactly when our writer makes it from some town" (demand 2): with the header h, and into
--- an output slice of the file's length
+-- ---- "A file passes the full check exactly when our writer makes it from some town" (demand 2): with the header h,
+-- and into an output slice of the file's length
 module _ (f : List ℕ) (h : Header) where
   -- what was made: lists that pass the writer's tests, whose bytes are the file
   module _ (s : Supply) (m : Made f h s) where
@@ -151,7 +153,8 @@ module _ (s : Supply) (typed : Typed s) (out : List ℕ) (n : ℕ) (e : writeCal
         typed = typed;
         header = refl;
         answer = answer;
-        bytes = λ o l. exit-accepted s o (ap (writeCall s) l ∙ answer) ∙ over-all o (fileBytes s) (l ∙ ap length q) ∙ sym q;
+        bytes = λ o l. exit-accepted s o (ap (writeCall s) l ∙ answer) ∙ over-all o (fileBytes s) (l ∙ ap length q)
+            ∙ sym q;
       }
 
   -- what the writer leaves passes the full check

@@ -9,7 +9,7 @@ use lib.ListN.{length}
 use borrow.Author.Tests.{leb-true, le-leb, eqb-true, eq-eqb}
 use Rattle.base.specs.Refusal.{accepted, refused}
 use Rattle.blocks.specs.Directory.{directoryBlocks}
-use Rattle.blocks.specs.Layout.{blockSize, maxSites, maxTiles}
+use Rattle.blocks.specs.Layout.{axes, blockSize, maxSites, maxTiles}
 use Rattle.codec.specs.Over.{over}
 use Rattle.codec.specs.Tabulate.{joined}
 use Rattle.encode.specs.Encode.{directoryBytes, tileBytesOf, fileBytes, fileLength}
@@ -22,7 +22,8 @@ use Rattle.codec.proofs.Joined.{length-joined}
 use Rattle.codec.proofs.Over.{also}
 use Rattle.encode.proofs.EncodeLaws.{length-directory-block}
 use Rattle.writer.specs.Accepted.{GoodSupply}
-use Rattle.writer.specs.Write.{tilesFit, entryFits, listsFit, sitesFit, tileFits, writeTests, writeCall, writeExit}
+use Rattle.writer.specs.Write.{tilesFit, entryFits, listsFit, sitesFit, tileFits, writeTests, writeCall}
+use Rattle.writer.specs.Write.{writeExit}
 
 -- ---- test by test
 pub tiles-good : (t : ℕ) → tilesFit t ≡ true → (1 ≤ t) × (t ≤ maxTiles)
@@ -31,9 +32,9 @@ tiles-good t e = let h = and-both _ _ e in (leb-true 1 t (h .0), leb-true t maxT
 
 pub entry-good : (boxes : List ℤ) (counts : List ℕ) (t : ℕ) → entryFits boxes counts t ≡ true →
     (validBox (boxOf boxes t) ≡ true)
-    × (countOf counts t ≤ maxSites)
+    × (countOf counts t ≤ maxSites axes)
 unfolding entryFits
-entry-good boxes counts t e = let h = and-both _ _ e in (h .0, leb-true (countOf counts t) maxSites (h .1))
+entry-good boxes counts t e = let h = and-both _ _ e in (h .0, leb-true (countOf counts t) (maxSites axes) (h .1))
 
 pub lists-good : (sum x y cue : ℕ) → listsFit sum x y cue ≡ true → (x ≡ sum) × (y ≡ sum) × (cue ≡ sum)
 unfolding listsFit
@@ -42,7 +43,8 @@ lists-good sum x y cue e =
     let g = and-both _ _ (h .0) in
     (eqb-true x sum (g .0), eqb-true y sum (g .1), eqb-true cue sum (h .1))
 
-tile-good : (boxes : List ℤ) (counts : List ℕ) (xs ys : List ℤ) (t : ℕ) → tileFits boxes counts xs ys t ≡ true → (slot : ℕ) →
+tile-good : (boxes : List ℤ) (counts : List ℕ) (xs ys : List ℤ) (t : ℕ) → tileFits boxes counts xs ys t ≡ true →
+    (slot : ℕ) →
     slot < countOf counts t → inside (boxOf boxes t) (pointOf xs ys (offset counts t + slot)) ≡ true
 unfolding tileFits sitesFit
 tile-good boxes counts xs ys t e slot l =
@@ -57,7 +59,8 @@ tile-test boxes counts xs ys t e₁ e₂ e₃ = rw (e₁, e₂, e₃)
 
 -- ---- all tests
 module _ (s : Supply) (room : ℕ) where
-  pub tests-good : {u : Unit} → writeTests s room ≡ accepted u → GoodSupply s × (fileLength (headerOf (s .counts)) ≤ room)
+  pub tests-good : {u : Unit} → writeTests s room ≡ accepted u →
+      GoodSupply s × (fileLength (headerOf (s .counts)) ≤ room)
   unfolding writeTests
   tests-good e =
       let a = require-accepted _ _ _ _ e in
@@ -68,7 +71,8 @@ module _ (s : Supply) (room : ℕ) where
       let h = require-accepted _ _ _ _ (g .1) in
       let t = tiles-good (tilesOf s) (a .0) in
       let l = lists-good (total (s .counts)) (length (s .xs)) (length (s .ys)) (length (s .cues)) (d .0) in
-      let v : (t : ℕ) → t < tilesOf s → (validBox (boxOf (s .boxes) t) ≡ true) × (countOf (s .counts) t ≤ maxSites) =
+      let v : (t : ℕ) → t < tilesOf s →
+      (validBox (boxOf (s .boxes) t) ≡ true) × (countOf (s .counts) t ≤ maxSites axes) =
       λ t k. entry-good (s .boxes) (s .counts) t (every-at (entryFits (s .boxes) (s .counts)) (tilesOf s) t (c .0) k) in (
         record {
           least = t .0;
@@ -89,7 +93,7 @@ module _ (s : Supply) (room : ℕ) where
   unfolding writeTests tilesFit entryFits listsFit tileFits sitesFit
   tests-enough g h =
       let v = every-holds (entryFits (s .boxes) (s .counts)) (tilesOf s)
-      (λ t k. both-and (g .boxes t k) (le-leb (countOf (s .counts) t) maxSites (g .counts t k))) in
+      (λ t k. both-and (g .boxes t k) (le-leb (countOf (s .counts) t) (maxSites axes) (g .counts t k))) in
       let w = every-holds (tileFits (s .boxes) (s .counts) (s .xs) (s .ys)) (tilesOf s)
       (λ t k. every-holds (λ i. inside (boxOf (s .boxes) t) (pointOf (s .xs) (s .ys) (offset (s .counts) t + i)))
       (countOf (s .counts) t)
@@ -134,5 +138,6 @@ module _ (s : Supply) (out : List ℕ) where
       let g = directoryBytes (s .boxes) (s .counts) in
       let n = length-joined g blockSize 0 (directoryBlocks (headerOf (s .counts)))
       (λ i l. length-directory-block (s .boxes) (s .counts) (0 + i)) in
-      also out 0 (blockSize * directoryBlocks (headerOf (s .counts))) (joined g 0 (directoryBlocks (headerOf (s .counts))))
+      also out 0 (blockSize * directoryBlocks (headerOf (s .counts)))
+      (joined g 0 (directoryBlocks (headerOf (s .counts))))
       (joined (tileBytesOf (s .counts) (s .xs) (s .ys) (s .cues)) 0 (tilesOf s)) e₁ e₂ (omega (arith, n))

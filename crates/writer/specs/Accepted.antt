@@ -3,7 +3,7 @@ use Prim.Native.Nat.{ℕ, _+_, _*_, _<_, _≤_}
 use mathlib.Core.Bool.{true}
 use mathlib.Core.Path.{_≡_}
 use lib.ListN.{length}
-use Rattle.blocks.specs.Layout.{maxSites, maxTiles}
+use Rattle.blocks.specs.Layout.{axes, maxSites, maxTiles}
 use Rattle.encode.specs.Supply.{Supply, tilesOf, numbersPerBox, boxOf, countOf, offset, total, pointOf}
 use Rattle.geometry.specs.Box as geometry
 
@@ -12,7 +12,7 @@ pub record GoodSupply (s : Supply) : Type 0 where
   pub most : tilesOf s ≤ maxTiles
   pub numbers : length (s .boxes) ≡ numbersPerBox * tilesOf s
   pub boxes : (t : ℕ) → t < tilesOf s → geometry.validBox (boxOf (s .boxes) t) ≡ true
-  pub counts : (t : ℕ) → t < tilesOf s → countOf (s .counts) t ≤ maxSites
+  pub counts : (t : ℕ) → t < tilesOf s → countOf (s .counts) t ≤ maxSites axes
   pub xs : length (s .xs) ≡ total (s .counts)
   pub ys : length (s .ys) ≡ total (s .counts)
   pub cues : length (s .cues) ≡ total (s .counts)

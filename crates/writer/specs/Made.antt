@@ -1,5 +1,5 @@
--- A file and the lists from which the writer makes it (demand 2: "A file passes the full check exactly when our writer makes
--- it from some town").
+-- A file and the lists from which the writer makes it (demand 2: "A file passes the full check exactly when our writer
+-- makes it from some town").
 use Prim.Native.Nat.{ℕ, _<_}
 use mathlib.Core.List.{List, [], _∷_}
 use mathlib.Core.Path.{_≡_}
@@ -31,8 +31,8 @@ pub record Typed (s : Supply) : Type 0 where
   pub ys : Signed (s .ys)
   pub cues : Unsigned (s .cues)
 
--- the writer makes exactly this file, with the header h, from these lists: into an output slice of the file's length, whatever it
--- held before
+-- the writer makes exactly this file, with the header h, from these lists: into an output slice of the file's length,
+-- whatever it held before
 pub record Made (f : List ℕ) (h : Header) (s : Supply) : Type 0 where
   pub typed : Typed s
   pub header : headerOf (s .counts) ≡ h

@@ -35,8 +35,8 @@ sitesFit bounds xs ys i n = every (λ slot. inside bounds (pointOf xs ys (i + sl
 unfoldable pub tileFits : List ℤ → List ℕ → List ℤ → List ℤ → ℕ → Bool
 tileFits boxes counts xs ys t = sitesFit (boxOf boxes t) xs ys (offset counts t) (countOf counts t)
 
--- "Order: 6, 15 (boxes are not 4 numbers for each tile, in the directory's order), 9, 15 (a site list's length is not the sum
--- of counts), 10, 14"; the block is 0 "for every refusal by the writer"
+-- "Order: 6, 15 (boxes are not 4 numbers for each tile, in the directory's order), 9, 15 (a site list's length is not
+-- the sum of counts), 10, 14"; the block is 0 "for every refusal by the writer"
 unfoldable pub writeTests : Supply → ℕ → Outcome Unit
 writeTests s room =
     require (tilesFit (tilesOf s)) #tiles 0

@@ -2,7 +2,7 @@
 ghost use mathlib.Core.Path.{_≡_};
 ghost use Prim.Native.Nat.{ℕ, _+_, _*_, _<_, _≤_};
 ghost use lib.ListN.{length};
-ghost use Rattle.blocks.specs.Layout.{maxSites, maxTiles};
+ghost use Rattle.blocks.specs.Layout.{axes, maxSites, maxTiles};
 ghost use Rattle.blocks.specs.Outcome.{numberOutcome};
 ghost use Rattle.base.specs.Every.{every};
 ghost use Rattle.encode.specs.Supply.{supply, numbersPerBox, boxOf, countOf, total, pointOf};
@@ -66,7 +66,9 @@ fn entries_fit(boxes: &[i32], counts: &[u32]) -> bool
 
 // The sum of counts that passed test 9.
 fn sum_of(counts: &[u32]) -> usize
-    requires { ⌜ (length (now counts) ≤ maxTiles) × ((t : ℕ) → t < length (now counts) → countOf (now counts) t ≤ maxSites) ⌝ }
+    requires { ⌜
+        (length (now counts) ≤ maxTiles)
+        × ((t : ℕ) → t < length (now counts) → countOf (now counts) t ≤ maxSites axes) ⌝ }
     ensures { λ r. ⌜ r ≡ total (now (counts .entry)) ⌝ }
 {
     let mut sum = 0;
@@ -150,8 +152,9 @@ pub fn failed_test(
     room: usize,
 ) -> u32
     ensures { λ r. ⌜
-        numberOutcome r 0 ≡ writeTests (supply (now (boxes .entry)) (now (counts .entry)) (now (xs .entry)) (now (ys .entry))
-        (now (cues .entry))) room ⌝ }
+        numberOutcome r 0 ≡ writeTests
+        (supply (now (boxes .entry)) (now (counts .entry)) (now (xs .entry)) (now (ys .entry)) (now (cues .entry)))
+        room ⌝ }
 {
     if !tiles_fit(counts.len()) {
         return base::TILES;

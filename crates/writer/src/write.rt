@@ -30,8 +30,9 @@ pub fn write(
         (supply (now (boxes .entry)) (now (counts .entry)) (now (xs .entry)) (now (ys .entry)) (now (cues .entry)))
         (length (now (out .entry))) ⌝ }
     ensures output { λ r. ⌜
-        now (out .exit) ≡ writeExit (supply (now (boxes .entry)) (now (counts .entry)) (now (xs .entry)) (now (ys .entry))
-        (now (cues .entry))) (now (out .entry)) ⌝ }
+        now (out .exit) ≡ writeExit
+        (supply (now (boxes .entry)) (now (counts .entry)) (now (xs .entry)) (now (ys .entry)) (now (cues .entry)))
+        (now (out .entry)) ⌝ }
 {
     let failed = failed_test(boxes, counts, xs, ys, cues, out.len());
     if failed != 0 {

@@ -14,7 +14,8 @@ use Rattle.blocks.proofs.directory.directory_block.Tie as tie
 
 -- what each call answers, in terms of the block's own header
 tiles : (c : tie.After-tiles-due) →
-    let s : tie.Start = search in c .tiles-due .result ≡ tilesDue (headerIn (s .args .s .now)) (s .args .first) (s .args .blocks)
+    let s : tie.Start = search in
+    c .tiles-due .result ≡ tilesDue (headerIn (s .args .s .now)) (s .args .first) (s .args .blocks)
 tiles c =
     let s : tie.Start = search in
     let h : tie.After-header-in = search in
@@ -53,11 +54,13 @@ passed-tiles : (c : tie.Else2) →
 passed-tiles c = passed (tiles search) (c .if2 .left)
 
 passed-entries : (c : tie.Else3) →
-    let s : tie.Start = search in eqb (entriesIn (s .args .s .now)) (entriesDue (headerIn (s .args .s .now)) (s .args .p)) ≡ true
+    let s : tie.Start = search in
+    eqb (entriesIn (s .args .s .now)) (entriesDue (headerIn (s .args .s .now)) (s .args .p)) ≡ true
 passed-entries c = let a : tie.After-u16-at = search in equal (a .u16-at .ensures .0) (due search) (c .if3 .left)
 
 passed-padding : (c : tie.Else4) →
-    let s : tie.Start = search in directoryPadding (s .args .s .now) (entriesDue (headerIn (s .args .s .now)) (s .args .p)) ≡ true
+    let s : tie.Start = search in
+    directoryPadding (s .args .s .now) (entriesDue (headerIn (s .args .s .now)) (s .args .p)) ≡ true
 passed-padding c = passed (padding search) (c .if4 .left)
 
 head-number-requires : tie.Need-head-number-requires

@@ -1,6 +1,6 @@
 use borrow.Author.Needs.{needs}
 use Rattle.codec.proofs.Number.{local-i32}
-use Rattle.blocks.specs.Directory.{entryBox}
+use Rattle.blocks.proofs.DirectoryLaws.{entry-ends}
 use Rattle.blocks.proofs.entry.entry_box.Statement.{statement}
 use Rattle.blocks.proofs.entry.entry_box.Tie as tie
 
@@ -29,19 +29,24 @@ i32-at-requires-4 : tie.Need-i32-at-requires-4
 i32-at-requires-4 c κs = search needs
 
 returns : tie.Need-returns
-unfolding entryBox
 returns c =
+    let s : tie.Start = search in
+    let o : tie.After-entry-offset = search in
+    let a₁ : tie.After-i32-at = search in
+    let a₂ : tie.After-i32-at2 = search in
+    let a₃ : tie.After-i32-at3 = search in
+    let a = a₁ .i32-at in
+    let g = a₂ .i32-at2 in
+    let b = a₃ .i32-at3 in
     let d = c .i32-at4 in
-    let b = c .before .i32-at3 in
-    let g = c .before .before .i32-at2 in
-    let a = c .before .before .before .i32-at in
     simp (
+      entry-ends (s .args .s .now) (s .args .i),
       local-i32 (a .result) (a .ok),
       local-i32 (b .result) (b .ok),
       local-i32 (g .result) (g .ok),
       local-i32 (d .result) (d .ok),
     )
-    (simp (a .ensures, b .ensures, g .ensures, d .ensures, c .before .before .before .before .entry-offset .ensures .0))
+    (simp (a .ensures, b .ensures, g .ensures, d .ensures, o .entry-offset .ensures .0))
 
 pub entry-box-spec : {M : Type 1} → statement M
 entry-box-spec =

@@ -15,14 +15,16 @@ use Rattle.codec.proofs.writing.bits.Tie as tie
 
 module _ (x : ℤ) (f : SFits w32 x) where
   -- the number -1 - x, in a local
-  low : leZ (pos 0) (toZ w32 (ofZ w32 x)) ≡ false → (k : ℕ) × (negsuc 0 -ℤ toZ w32 (ofZ w32 x) ≡ pos k) × (k < limitSigned)
+  low : leZ (pos 0) (toZ w32 (ofZ w32 x)) ≡ false →
+      (k : ℕ) × (negsuc 0 -ℤ toZ w32 (ofZ w32 x) ≡ pos k) × (k < limitSigned)
       × (0xffff_ffff - k ≡ bits x)
   low e =
       let b = toZ-ofZ f in
       let l = bits-down x (f .sfits) (rw b at e) in
       (l .0, ap (λ z. negsuc 0 -ℤ z) b ∙ l .1, l .2, l .3)
 
-  low-val : (e : leZ (pos 0) (toZ w32 (ofZ w32 x)) ≡ false) → toZ w32 (ofZ w32 (negsuc 0 -ℤ toZ w32 (ofZ w32 x))) ≡ pos (low e .0)
+  low-val : (e : leZ (pos 0) (toZ w32 (ofZ w32 x)) ≡ false) →
+      toZ w32 (ofZ w32 (negsuc 0 -ℤ toZ w32 (ofZ w32 x))) ≡ pos (low e .0)
   low-val e = rw (low e .1) (toZ-pos w32 (low e .2))
 
 cast-result : tie.Need-cast-result

@@ -78,7 +78,8 @@ returns : tie.Need-returns Inv-loop μ-loop
 returns c =
     let s : tie.Start Inv-loop μ-loop = search in
     let l : tie.At-loop Inv-loop μ-loop = search in
-    joined-end (directoryBytes (s .args .boxes .now) (s .args .counts .now)) (l .loop .d) (blockSize * l .loop .p) (l .loop .p)
+    joined-end (directoryBytes (s .args .boxes .now) (s .args .counts .now)) (l .loop .d) (blockSize * l .loop .p)
+    (l .loop .p)
     (l .loop .left) (search needs)
     ∙ l .loop .inv .2
 

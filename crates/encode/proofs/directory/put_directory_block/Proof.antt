@@ -4,7 +4,7 @@ use native.Mathlib.Omega.{arith}
 use lib.ListN.{length}
 use borrow.Author.Needs.{needs}
 use Rattle.blocks.specs.Directory.{entriesDue}
-use Rattle.blocks.specs.Layout.{directoryKind, blockSize, entriesPerBlock}
+use Rattle.blocks.specs.Layout.{axes, directoryKind, blockSize, entriesPerBlock}
 use Rattle.codec.specs.Over.{over}
 use Rattle.codec.specs.Tabulate.{joined}
 use Rattle.encode.specs.Encode.{headBytes, blockBytes, entryBytes, directoryBytes}
@@ -92,13 +92,14 @@ returns c =
     let a = s .args in
     let t = length (a .counts .now) in
     let at = blockSize * a .p in
-    let first = entriesPerBlock * a .p in
+    let first = entriesPerBlock axes * a .p in
     let n = e .entries-due .result in
     let used = u .entry-offset .ensures .1 in
     let g = entryBytes (a .boxes .now) (a .counts .now) in
     let q = length-entries (a .boxes .now) (a .counts .now) first n in
     block-row (a .d .now) at (headBytes directoryKind (a .p) n t) (joined g first n) (u .entry-offset .result)
-    (length-head directoryKind (a .p) n t) (omega (arith, q, used)) (omega (arith, e .entries-due .ensures .1, used)) (s .pre .0)
+    (length-head directoryKind (a .p) n t) (omega (arith, q, used)) (omega (arith, e .entries-due .ensures .1, used))
+    (s .pre .0)
     (hd .put-head .ensures) (z .put-zeros .ensures) (y .put-entries .ensures) (x .put-zeros2 .ensures)
     (w .put-checksum .ensures)
     ∙ ap (λ k. over (a .d .now) at (blockBytes (headBytes directoryKind (a .p) k t) (joined g first k)))

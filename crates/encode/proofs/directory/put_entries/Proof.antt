@@ -3,7 +3,7 @@ use mathlib.Core.Path.{_≡_, sym, ap, _∙_}
 use native.Mathlib.Omega.{arith}
 use lib.ListN.{length}
 use borrow.Author.Needs.{needs}
-use Rattle.blocks.specs.Layout.{entrySize}
+use Rattle.blocks.specs.Layout.{axes, entrySize}
 use Rattle.codec.specs.Over.{over}
 use Rattle.codec.specs.Tabulate.{joined}
 use Rattle.codec.proofs.Joined.{joined-turn, joined-end}
@@ -15,7 +15,7 @@ use Rattle.encode.proofs.directory.put_entries.Tie as tie
 
 abbrev Inv-loop : tie.InvT-loop
 Inv-loop d₀ start boxes counts first n at₀ t₀ left₀ d at t left =
-    (at + entrySize * left ≤ length d) × (length d ≡ length d₀) × (numbersPerBox * (t + left) ≤ length boxes)
+    (at + entrySize axes * left ≤ length d) × (length d ≡ length d₀) × (numbersPerBox * (t + left) ≤ length boxes)
     × (t + left ≤ length counts)
     × (over d at (joined (entryBytes boxes counts) t left) ≡ over d₀ start (joined (entryBytes boxes counts) first n))
 
@@ -50,7 +50,8 @@ loop-again c =
       omega (arith, k, l .loop .inv),
       search needs,
       search needs,
-      joined-turn (entryBytes (a .boxes .now) (a .counts .now)) (l .loop .d) (l .loop .at) (l .loop .at + entrySize)
+      joined-turn (entryBytes (a .boxes .now) (a .counts .now)) (l .loop .d) (l .loop .at)
+          (l .loop .at + entrySize axes)
           (l .loop .t) (l .loop .left)
           (search needs) (p .ensures) (ap (λ w. l .loop .at + w)
           (sym (length-entry (a .boxes .now) (a .counts .now) (l .loop .t)))) ∙ l .loop .inv .4,

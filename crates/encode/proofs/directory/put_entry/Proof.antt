@@ -1,7 +1,7 @@
 use Prim.Native.Nat.{_+_}
 use mathlib.Core.Path.{ap, _∙_}
 use borrow.Author.Needs.{needs}
-use Rattle.blocks.specs.Layout.{countOffset}
+use Rattle.blocks.specs.Layout.{axes, countOffset}
 use Rattle.codec.specs.Bytes.{bytes16}
 use Rattle.codec.specs.Over.{over}
 use Rattle.encode.proofs.EncodeLaws.{entry-row}
@@ -45,7 +45,8 @@ returns c =
     let c₃ = c₂ .before .before .before .before .before in
     let a = c₃ .before .before .before .before .args in
     entry-row (a .d .now) (a .at) (a .boxes .now) (a .counts .now) (a .t) (c₃ .put-box .ensures)
-    (c₁ .put-u16 .ensures ∙ ap (λ n. over (c₃ .put-box .last .0) (a .at + countOffset) (bytes16 n)) (c₂ .wide .ensures .0))
+    (c₁ .put-u16 .ensures ∙ ap (λ n. over (c₃ .put-box .last .0) (a .at + countOffset axes) (bytes16 n))
+    (c₂ .wide .ensures .0))
     (c .before .before .put-zeros .ensures)
 
 pub put-entry-spec : {M : Type 1} → statement M

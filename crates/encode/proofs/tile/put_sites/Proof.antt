@@ -3,7 +3,7 @@ use mathlib.Core.Path.{_≡_, sym, ap, _∙_}
 use native.Mathlib.Omega.{arith}
 use lib.ListN.{length}
 use borrow.Author.Needs.{needs}
-use Rattle.blocks.specs.Layout.{siteSize}
+use Rattle.blocks.specs.Layout.{axes, siteSize}
 use Rattle.codec.specs.Over.{over}
 use Rattle.codec.specs.Tabulate.{joined}
 use Rattle.codec.proofs.Joined.{joined-turn, joined-end}
@@ -14,7 +14,7 @@ use Rattle.encode.proofs.tile.put_sites.Tie as tie
 
 abbrev Inv-loop : tie.InvT-loop
 Inv-loop d₀ start xs ys cues first n at₀ i₀ left₀ d at i left =
-    (at + siteSize * left ≤ length d) × (length d ≡ length d₀) × (i + left ≤ length xs) × (i + left ≤ length ys)
+    (at + siteSize axes * left ≤ length d) × (length d ≡ length d₀) × (i + left ≤ length xs) × (i + left ≤ length ys)
     × (i + left ≤ length cues)
     × (over d at (joined (siteBytes xs ys cues) i left) ≡ over d₀ start (joined (siteBytes xs ys cues) first n))
 
@@ -50,7 +50,8 @@ loop-again c =
       search needs,
       search needs,
       search needs,
-      joined-turn (siteBytes (a .xs .now) (a .ys .now) (a .cues .now)) (l .loop .d) (l .loop .at) (l .loop .at + siteSize)
+      joined-turn (siteBytes (a .xs .now) (a .ys .now) (a .cues .now)) (l .loop .d) (l .loop .at)
+          (l .loop .at + siteSize axes)
           (l .loop .i) (l .loop .left)
           (search needs) (p .ensures) (ap (λ w. l .loop .at + w)
           (sym (length-site (a .xs .now) (a .ys .now) (a .cues .now) (l .loop .i)))) ∙ l .loop .inv .5,
@@ -63,7 +64,8 @@ returns : tie.Need-returns Inv-loop μ-loop
 returns c =
     let l = c .before in
     let a = l .before .before .before .args in
-    joined-end (siteBytes (a .xs .now) (a .ys .now) (a .cues .now)) (l .loop .d) (l .loop .at) (l .loop .i) (l .loop .left)
+    joined-end (siteBytes (a .xs .now) (a .ys .now) (a .cues .now)) (l .loop .d) (l .loop .at) (l .loop .i)
+    (l .loop .left)
     (search needs) ∙ l .loop .inv .5
 
 pub put-sites-spec : {M : Type 1} → statement M

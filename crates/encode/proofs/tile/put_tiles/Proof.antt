@@ -18,9 +18,11 @@ use Rattle.encode.proofs.tile.put_tiles.Tie as tie
 
 abbrev Inv-loop : tie.InvT-loop
 Inv-loop d₀ counts xs ys cues p₀ t₀ first₀ d p t first =
-    (p ≡ directoryBlocks (headerOf counts) + t) × (first ≡ offset counts t) × (t ≤ length counts) × (length d ≡ length d₀)
+    (p ≡ directoryBlocks (headerOf counts) + t) × (first ≡ offset counts t) × (t ≤ length counts)
+    × (length d ≡ length d₀)
     × (over d (blockSize * p) (joined (tileBytesOf counts xs ys cues) t (length counts - t))
-    ≡ over d₀ (blockSize * directoryBlocks (headerOf counts)) (joined (tileBytesOf counts xs ys cues) 0 (length counts)))
+    ≡ over d₀ (blockSize * directoryBlocks (headerOf counts)) (joined (tileBytesOf counts xs ys cues) 0
+    (length counts)))
 
 abbrev μ-loop : tie.MeasureT-loop
 μ-loop d₀ counts xs ys cues p₀ t₀ first₀ d p t first = length counts - t
@@ -118,7 +120,8 @@ loop-again c =
       search needs,
       omega (arith, k, l .loop .inv .3),
       ap (λ k. over (p .last .0) (blockSize * (l .loop .p + 1)) (joined g (t + 1) k)) m
-          ∙ joined-turn g (l .loop .d) (blockSize * l .loop .p) (blockSize * (l .loop .p + 1)) t (length (a .counts .now) - t)
+          ∙ joined-turn g (l .loop .d) (blockSize * l .loop .p) (blockSize * (l .loop .p + 1)) t
+          (length (a .counts .now) - t)
           (search needs)
           (p .ensures ∙ ap (over (l .loop .d) (blockSize * l .loop .p)) e) (omega (arith, w)) ∙ l .loop .inv .4,
     )
@@ -131,7 +134,8 @@ returns c =
     let s : tie.Start Inv-loop μ-loop = search in
     let l : tie.At-loop Inv-loop μ-loop = search in
     let a = s .args in
-    joined-end (tileBytesOf (a .counts .now) (a .xs .now) (a .ys .now) (a .cues .now)) (l .loop .d) (blockSize * l .loop .p)
+    joined-end (tileBytesOf (a .counts .now) (a .xs .now) (a .ys .now) (a .cues .now)) (l .loop .d)
+    (blockSize * l .loop .p)
     (l .loop .t)
     (length (a .counts .now) - l .loop .t) (search needs) ∙ l .loop .inv .4
 

@@ -2,8 +2,9 @@ use Prim.Native.Nat.{ℕ, _+_, _*_}
 use lib.IntN.{ℤ, pos}
 use lib.ListN.{getD}
 use borrow.Author.Needs.{needs}
-use Rattle.encode.specs.Supply.{numbersPerBox, boxOf}
+use Rattle.encode.specs.Supply.{numbersPerBox}
 use Rattle.codec.proofs.Number.{local-i32}
+use Rattle.encode.proofs.SupplyLaws.{box-ends}
 use Rattle.writer.proofs.supply.box_of.Statement.{statement}
 use Rattle.writer.proofs.supply.box_of.Tie as tie
 
@@ -44,12 +45,13 @@ shared-slice-copy-out-high-y : tie.Need-shared-slice-copy-out-high-y
 shared-slice-copy-out-high-y c = search needs
 
 returns : tie.Need-returns
-unfolding boxOf
 returns c =
-    let a = c .before .before .before .before .args in
+    let s : tie.Start = search in
+    let a = s .args in
     let z : ℕ → ℤ = λ i. getD (a .boxes .now) i (pos 0) in
     let b = numbersPerBox * a .t in
     simp (
+      box-ends (a .boxes .now) (a .t),
       local-i32 (z b) (c .before .before .before .low-x .given),
       local-i32 (z (b + 1)) (c .before .before .low-y .given),
       local-i32 (z (b + 2)) (c .before .high-x .given),

@@ -22,7 +22,8 @@ pass-1 : (c : tie.Else1) → let s : tie.Start = search in tilesFit (length (s .
 pass-1 c = let t : tie.After-tiles-fit = search in passed (t .tiles-fit .ensures) (c .if1 .left)
 
 pass-2 : (c : tie.Else2) →
-    let s : tie.Start = search in eqb (length (s .args .boxes .now)) (numbersPerBox * length (s .args .counts .now)) ≡ true
+    let s : tie.Start = search in
+    eqb (length (s .args .boxes .now)) (numbersPerBox * length (s .args .counts .now)) ≡ true
 pass-2 c = eq-eqb _ _ (c .if2 .left)
 
 pass-3 : (c : tie.Else3) →
@@ -34,7 +35,8 @@ pass-3 c = let t : tie.After-entries-fit = search in passed (t .entries-fit .ens
 lists : (c : tie.After-lists-fit) →
     let s : tie.Start = search in
     let a = s .args in
-    c .lists-fit .result ≡ listsFit (total (a .counts .now)) (length (a .xs .now)) (length (a .ys .now)) (length (a .cues .now))
+    c .lists-fit .result ≡ listsFit (total (a .counts .now)) (length (a .xs .now)) (length (a .ys .now))
+    (length (a .cues .now))
 lists c =
     let s : tie.Start = search in
     let n : tie.After-sum-of = search in
@@ -117,7 +119,8 @@ tiles-inside-requires c κs =
     let s : tie.Start = search in
     let e : tie.Else2 = search in
     let a = s .args in
-    let l = lists-good (total (a .counts .now)) (length (a .xs .now)) (length (a .ys .now)) (length (a .cues .now)) (pass-4 c) in
+    let l = lists-good (total (a .counts .now)) (length (a .xs .now)) (length (a .ys .now)) (length (a .cues .now))
+    (pass-4 c) in
     (e .if2 .left, l .0, l .1)
 
 header-of-requires : tie.Need-header-of-requires

@@ -9,7 +9,8 @@ use Rattle.encode.specs.Supply.{supply, headerOf}
 use Rattle.blocks.proofs.OutcomeLaws.{number-accepted, number-refused}
 use Rattle.writer.specs.Accepted.{GoodSupply}
 use Rattle.writer.specs.Write.{writeTests}
-use Rattle.writer.proofs.WriteLaws.{tests-good, call-refused, call-accepted, exit-refused, exit-accepted, file-row}
+use Rattle.writer.proofs.WriteLaws.{tests-good, call-refused, call-accepted, exit-refused, exit-accepted}
+use Rattle.writer.proofs.WriteLaws.{file-row}
 use Rattle.writer.proofs.write.write.Statement.{statement}
 use Rattle.writer.proofs.write.write.Tie as tie
 
@@ -79,7 +80,8 @@ returns-2 c =
     let s = supply (a .boxes .now) (a .counts .now) (a .xs .now) (a .ys .now) (a .cues .now) in
     let e = call-accepted s (length (a .out .now)) (accepted-tests search) in (
       ap accepted (c .file-length .ensures ∙ ap fileLength (h .header-of .ensures .0)) ∙ sym e,
-      file-row s (a .out .now) (d .put-directory .ensures) (t .put-tiles .ensures) ∙ sym (exit-accepted s (a .out .now) e),
+      file-row s (a .out .now) (d .put-directory .ensures) (t .put-tiles .ensures)
+          ∙ sym (exit-accepted s (a .out .now) e),
     )
 
 pub write-spec : {M : Type 1} → statement M
