@@ -1,6 +1,6 @@
 -- Laws of a test of many numbers. Assumes nothing.
 use Prim.Native.Nat.{ℕ, zero, suc, _<_}
-use mathlib.Core.Bool.{Bool, true, false}
+use mathlib.Core.Bool.{Bool, true, false, _&&_, and-true, and-assoc}
 use mathlib.Core.Logic.{⊎-elim}
 use mathlib.Core.Path.{_≡_, refl, ap, _∙_}
 use native.Mathlib.Nat.{not-suc-le-zero, eq-or-lt-of-le, le-of-suc-le-suc}
@@ -23,3 +23,9 @@ module _ (f : ℕ → Bool) where
 
   pub every-fails : (n i : ℕ) → i < n → f i ≡ false → every f n ≡ false
   every-fails n i l e = by-test (every f n) (λ t. clash (every-at n i t l) e) (λ q. q)
+
+-- the first number taken out
+pub every-first : (f : ℕ → Bool) (n : ℕ) → every f (suc n) ≡ f 0 && every (λ i. f (suc i)) n
+unfolding every
+every-first f zero = rw and-true
+every-first f (suc n) = rw (every-first f n) (and-assoc (f 0) (every (λ i. f (suc i)) n) (f (suc n)))

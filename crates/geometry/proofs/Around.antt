@@ -1,4 +1,4 @@
--- The box around points that are given by columns: it holds them all, and every box that does holds it. Assumes nothing.
+-- The box around points given by columns: it holds them all, and every box that does holds it. Assumes nothing.
 use Prim.Native.Nat.{ℕ, zero, suc, _+_, _<_}
 use mathlib.Core.Bool.{Bool, true, false}
 use mathlib.Core.List.{List, [], _∷_}
@@ -68,13 +68,15 @@ module _ (lt le : ℤ → ℤ → Bool) (self : (a : ℤ) → le a a ≡ true)
   foremost-first a [] = each-cons (From a) a [] (self a) (λ i l. absurd (omega arith))
   foremost-first a (x ∷ c) = by-test (lt x a)
       (λ e.
+      let P = From (foremost lt x c) in
       let r = foremost-first x c in
-      rw e (each-cons (From (foremost lt x c)) a (x ∷ c) (trans (foremost lt x c) x a (r 0 (omega arith)) (yes-le x a e)) r))
+      rw e (each-cons P a (x ∷ c) (trans (foremost lt x c) x a (r 0 (omega arith)) (yes-le x a e)) r))
       (λ e.
       let P = From (foremost lt a c) in
       let r = foremost-first a c in
       let h = r 0 (omega arith) in
-      rw e (each-cons P a (x ∷ c) h (each-cons P x c (trans (foremost lt a c) a x h (no-le x a e)) (each-rest P a c r))))
+      let k = trans (foremost lt a c) a x h (no-le x a e) in
+      rw e (each-cons P a (x ∷ c) h (each-cons P x c k (each-rest P a c r))))
 
 abbrev span : List ℤ → List ℤ
 span c = least c ∷ greatest c ∷ []
@@ -137,7 +139,8 @@ module _ (n : ℕ) where
       both-and (span-valid c (omega (arith, h .0)) (λ i l. both i (omega (arith, h .0)) .0))
       (around-valid cols (h .1) s (λ i l. both i l .1))
 
-  pub around-holds : (cols : List (List ℤ)) → All (λ c. length c ≡ n) cols → (i : ℕ) → i < n → In (around cols) (row cols i)
+  pub around-holds : (cols : List (List ℤ)) → All (λ c. length c ≡ n) cols → (i : ℕ) → i < n
+      → In (around cols) (row cols i)
   unfolding around row
   around-holds [] h i l = none
   around-holds (c ∷ cols) h i l = more (span-holds c i (omega (arith, h .0))) (around-holds cols (h .1) i l)

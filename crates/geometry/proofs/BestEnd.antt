@@ -11,7 +11,8 @@ use borrow.Author.Tests.{ltb-true, ltb-false}
 use Rattle.base.proofs.Tests.{cond-ind, cond-ap}
 use Rattle.geometry.specs.Box.{lo, hi, validAxis}
 use Rattle.geometry.specs.Distance.{square, closest, farthest}
-use Rattle.geometry.proofs.OneAxis.{Axis, axis, On, low-on, high-on, limited-on, closest-least, farthest-most, closest-bound, farthest-bound}
+use Rattle.geometry.proofs.OneAxis.{Axis, axis, On, low-on, high-on, limited-on}
+use Rattle.geometry.proofs.OneAxis.{closest-least, farthest-most, closest-bound, farthest-bound}
 use Rattle.geometry.proofs.Shift.{shift, Limited, at-most-shift, square-shift, axisBound, less-sub}
 use Rattle.geometry.specs.Margin.{gain, bestEnd}
 use Rattle.geometry.proofs.Line.{order, rises}
@@ -20,7 +21,12 @@ use Rattle.geometry.proofs.Line.{order, rises}
 rises-signed : (x h e b : ℤ) → Limited x → Limited h → Limited e → Limited b → shift x ≤ shift h → shift e ≤ shift b →
     square x e + square h b ≤ square h e + square x b
 rises-signed x h e b lx lh le lb p q =
-    rw (square-shift x e (lx .small) (le .small), square-shift h b (lh .small) (lb .small), square-shift h e (lh .small) (le .small), square-shift x b (lx .small) (lb .small))
+    rw (
+      square-shift x e (lx .small) (le .small),
+      square-shift h b (lh .small) (lb .small),
+      square-shift h e (lh .small) (le .small),
+      square-shift x b (lx .small) (lb .small),
+    )
     (rises (shift x) (shift h) (shift e) (shift b) p q)
 
 -- from x: the square to the farther end of e, and to the closest point of b
@@ -67,21 +73,17 @@ module _ (o e b : List ℤ) (ao : Axis o) where
       let nh = closest-least b (hi o) ab (ao .high) z pz in
       order (shift y) (shift z)
       (λ q.
-      let r = rises-signed x (hi o) y z lx (ao .high) ly lz (at-most-shift x (hi o) (lx .small) (ao .high .small) (px .to)) q in
+      let up = at-most-shift x (hi o) (lx .small) (ao .high .small) (px .to) in
+      let r = rises-signed x (hi o) y z lx (ao .high) ly lz up q in
       best-end-ind o e b (λ w. square x y + near b w ≤ far e w + square x z) (λ t. omega arith) (λ t. omega arith))
       (λ q.
-      let r = rises-signed (lo o) x z y (ao .low) lx lz ly (at-most-shift (lo o) x (ao .low .small) (lx .small) (px .from)) q in
+      let up = at-most-shift (lo o) x (ao .low .small) (lx .small) (px .from) in
+      let r = rises-signed (lo o) x z y (ao .low) lx lz ly up q in
       best-end-ind o e b (λ w. square x y + near b w ≤ far e w + square x z) (λ t. omega arith) (λ t. omega arith))
 
--- the squares from the better end
-abbrev pub best-far : List ℤ → List ℤ → List ℤ → ℕ
-best-far o e b = far e (bestEnd o e b)
-
-abbrev pub best-near : List ℤ → List ℤ → List ℤ → ℕ
-best-near o e b = near b (bestEnd o e b)
-
 -- the difference from the better end is the larger one
-pub best-gain : (o e b : List ℤ) → gain e b (bestEnd o e b) ≡ cond (ltZ (gain e b (lo o)) (gain e b (hi o))) (gain e b (hi o)) (gain e b (lo o))
+pub best-gain : (o e b : List ℤ)
+    → gain e b (bestEnd o e b) ≡ cond (ltZ (gain e b (lo o)) (gain e b (hi o))) (gain e b (hi o)) (gain e b (lo o))
 unfolding bestEnd
 best-gain o e b = cond-ap (gain e b) (ltZ (gain e b (lo o)) (gain e b (hi o))) (hi o) (lo o)
 

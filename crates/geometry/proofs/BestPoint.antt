@@ -17,7 +17,8 @@ use Rattle.geometry.proofs.BestEnd.{best-end-on, best-end-limited, best
 -- three boxes within the limits, with as many axes
 pub data Three : List (List ℤ) → List (List ℤ) → List (List ℤ) → Type 0 where
   no-axis : Three [] [] []
-  next-axis : {o e b : List ℤ} {os es bs : List (List ℤ)} → Axis o → Axis e → Axis b → Three os es bs → Three (o ∷ os) (e ∷ es) (b ∷ bs)
+  next-axis : {o e b : List ℤ} {os es bs : List (List ℤ)} → Axis o → Axis e → Axis b → Three os es bs
+      → Three (o ∷ os) (e ∷ es) (b ∷ bs)
 
 pub three : (o e b : List (List ℤ)) → validBox o ≡ true → validBox e ≡ true → validBox b ≡ true → length e ≡ length o →
     length b ≡ length o → Three o e b

@@ -1,8 +1,8 @@
--- The corners of a box by their numbers: each is a point of the box, and the margin's point of O is one. Assumes nothing.
+-- The corners of a box by number: each is a point of the box, and the margin's point of O is one. Assumes nothing.
 use Prim.Native.Nat.{ℕ, _+_, _*_, _/_, _%_, _<_}
-use mathlib.Core.Bool.{true, false}
+use mathlib.Core.Bool.{true}
 use mathlib.Core.List.{List, [], _∷_}
-use mathlib.Core.Path.{_≡_, refl, ap, _∙_}
+use mathlib.Core.Path.{_≡_, refl, _∙_}
 use native.Mathlib.Nat.{two-pow-succ}
 use native.Mathlib.Omega.{arith}
 use lib.Dec.{eqb}
@@ -65,7 +65,9 @@ best-corner (next-axis {o} {e} {b} {os} {es} {bs} ao ae ab r) =
     by-test (better o e b)
     (λ t.
     let h : bestEnd o e b ≡ hi o = best-end-test o e b ∙ rw t in
-    record { number = 2 * k .number + 1; below = omega (arith, k .below); is = rw (h, k .is, corner-high o os (k .number)) })
+    let m = corner-high o os (k .number) in
+    record { number = 2 * k .number + 1; below = omega (arith, k .below); is = rw (h, k .is, m) })
     (λ t.
     let h : bestEnd o e b ≡ lo o = best-end-test o e b ∙ rw t in
-    record { number = 2 * k .number; below = omega (arith, k .below); is = rw (h, k .is, corner-low o os (k .number)) })
+    let m = corner-low o os (k .number) in
+    record { number = 2 * k .number; below = omega (arith, k .below); is = rw (h, k .is, m) })

@@ -7,5 +7,6 @@ mod BestEnd
 pub mod BestPoint
 mod Corners
 mod Around
+pub mod ByAxis
 pub mod Two
 pub mod Theorems

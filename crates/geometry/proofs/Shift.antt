@@ -216,3 +216,7 @@ add-sub a b c d =
 
 pub mag-difference : (a b m : ℕ) → a ≤ m → b ≤ m → mag (pos a -ℤ pos b) ≤ m
 mag-difference a b m h k = omega (arith, abs-difference a b, mag-abs (pos a -ℤ pos b))
+
+pub add-none : (z : ℤ) → z +ℤ pos 0 ≡ z
+add-none (pos n) = ap pos (omega arith)
+add-none (negsuc n) = sub-neg 0 (suc n) n (omega arith)

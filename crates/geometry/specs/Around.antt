@@ -1,5 +1,5 @@
--- Points by columns, one list of coordinates for each axis, and the smallest box around them (document 01, "The join": "O is
--- the smallest box around the stops").
+-- Points by columns, one list of coordinates for each axis, and the smallest box around them (document 01, "The join":
+-- "O is the smallest box around the stops").
 --   row cols i      the point at an index
 --   points cols n   the points at the indices below n
 --   around cols     the box from the least to the greatest coordinate on each axis

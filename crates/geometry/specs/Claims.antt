@@ -1,4 +1,4 @@
--- What the theorems say of near, far and the margin: that they are the least and the largest, over all whole-number points.
+-- What the theorems say of near, far and the margin: they are the least and the largest, over all whole-number points.
 use Prim.Native.Nat.{ℕ, _≤_}
 use mathlib.Core.Bool.{true}
 use mathlib.Core.List.{List}

@@ -1,4 +1,5 @@
-// The squared distance of two points; the least and the largest from a point to the points of a box: near and far of document 01.
+// The squared distance of two points; the least and the largest from a point to the points of a box: near and far of
+// document 01.
 ghost use mathlib.Core.Path.{_≡_};
 ghost use mathlib.Core.Bool.{true};
 ghost use Rattle.geometry.specs.Box.{validBox, validPoint};

@@ -22,7 +22,8 @@ use Rattle.base.proofs.Tests.{and-both}
 use Rattle.blocks.proofs.Theorems.{entry-of-accepted}
 use Rattle.codec.proofs.Over.{length-over}
 use Rattle.geometry.proofs.Theorems.{closer-corners}
-use Rattle.geometry.proofs.Two.{two, axis-x, axis-y, valid-axes-2}
+use Rattle.geometry.proofs.ByAxis.{valid-axis-at}
+use Rattle.geometry.proofs.Two.{two, axis-x, axis-y}
 use Rattle.prune.specs.Corners.{cornerA, cornerB, cornerC, cornerD, FarTable, FarTables, NearOf}
 use Rattle.prune.specs.declared.corners.Nears.{Nears}
 use Rattle.prune.proofs.Filling.{filled-at}
@@ -64,9 +65,8 @@ pub record Corners (o : List (List ℤ)) : Type 0 where
 
 pub corners-valid : (o : List (List ℤ)) → length o ≡ 2 → validBox o ≡ true → Corners o
 corners-valid o n v =
-    let t = valid-axes-2 o n v in
-    let x = ends (axis-x o) (t .0) in
-    let y = ends (axis-y o) (t .1) in
+    let x = ends (axis-x o) (valid-axis-at o v 0 (omega arith)) in
+    let y = ends (axis-y o) (valid-axis-at o v 1 (omega arith)) in
     record {
       a = point (lo (axis-x o)) (lo (axis-y o)) (x .0) (y .0);
       b = point (lo (axis-x o)) (hi (axis-y o)) (x .0) (y .1);

@@ -25,7 +25,8 @@ returns c =
     let a : tie.After-end-at = search in
     let x : SFits w32 (a .end-at .result) = sfits-of (a .end-at .ok) in
     let y : SFits w32 (c .end-at2 .result) = sfits-of (c .end-at2 .ok) in
-    rw (toZ-ofZ x, toZ-ofZ y, a .end-at .ensures, c .end-at2 .ensures) (sym (corner-2 (s .args .t1) (s .args .c) (search needs)))
+    rw (toZ-ofZ x, toZ-ofZ y, a .end-at .ensures, c .end-at2 .ensures)
+    (sym (corner-2 (s .args .t1) (s .args .c) (search needs)))
 
 pub corner-spec : {M : Type 1} → statement M
 corner-spec =

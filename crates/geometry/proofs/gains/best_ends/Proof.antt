@@ -14,22 +14,25 @@ best-end-requires c κs = search needs
 
 farthest-requires : tie.Need-farthest-requires
 farthest-requires c κs =
-    let s = c .before in
+    let s : tie.Start = search in
+    let o = s .args .o in
     let k : SFits w32 (c .best-end .result) = sfits-of (c .best-end .ok) in
-    let x : c .best-end .result ≡ bestEnd (s .args .o) (s .args .e) (s .args .b) = c .best-end .ensures in
-    (s .pre .1 .0, rw (toZ-ofZ k, x) (valid-on (s .pre .0) (best-end-on (s .args .o) (s .args .e) (s .args .b) (axis (s .args .o) (s .pre .0)))))
+    let x : c .best-end .result ≡ bestEnd o (s .args .e) (s .args .b) = c .best-end .ensures in
+    (s .pre .1 .0, rw (toZ-ofZ k, x) (valid-on (s .pre .0) (best-end-on o (s .args .e) (s .args .b) (axis o (s .pre .0)))))
 
 closest-requires : tie.Need-closest-requires
 closest-requires c κs = search needs
 
 returns : tie.Need-returns
 returns c =
-    let s = c .before .before .before in
-    let kx : SFits w32 (c .before .before .best-end .result) = sfits-of (c .before .before .best-end .ok) in
-    let ky : SFits w32 (c .before .farthest .result) = sfits-of (c .before .farthest .ok) in
+    let s : tie.Start = search in
+    let o : tie.After-best-end = search in
+    let e : tie.After-farthest = search in
+    let kx : SFits w32 (o .best-end .result) = sfits-of (o .best-end .ok) in
+    let ky : SFits w32 (e .farthest .result) = sfits-of (e .farthest .ok) in
     let kz : SFits w32 (c .closest .result) = sfits-of (c .closest .ok) in
-    let x : c .before .before .best-end .result ≡ bestEnd (s .args .o) (s .args .e) (s .args .b) = c .before .before .best-end .ensures in
-    let y = simp x at (simp (toZ-ofZ kx) at (c .before .farthest .ensures)) in
+    let x : o .best-end .result ≡ bestEnd (s .args .o) (s .args .e) (s .args .b) = o .best-end .ensures in
+    let y = simp x at (simp (toZ-ofZ kx) at (e .farthest .ensures)) in
     let z = simp x at (simp (toZ-ofZ kx) at (c .closest .ensures)) in
     (toZ-ofZ kx ∙ x, (toZ-ofZ ky ∙ y, toZ-ofZ kz ∙ z))
 

@@ -27,7 +27,9 @@ sub-result : tie.Need-sub-result
 sub-result c = fits (c .args .far) (c .args .near) (c .pre .0) (c .pre .1)
 
 returns : tie.Need-returns
-returns c = toZ-ofZ (fits (c .args .far) (c .args .near) (c .pre .0) (c .pre .1)) ∙ signed (c .args .far) (c .args .near) (c .pre .0) (c .pre .1)
+returns c =
+    toZ-ofZ (fits (c .args .far) (c .args .near) (c .pre .0) (c .pre .1))
+    ∙ signed (c .args .far) (c .args .near) (c .pre .0) (c .pre .1)
 
 pub difference-spec : {M : Type 1} → statement M
 difference-spec = tie.close (tie.spec cast-result cast-result-2 sub-result returns)

@@ -24,65 +24,78 @@ array-copy-out-h c = search needs
 over : (s : tie.Start) → Axis (s .args .t1)
 over s = axis (s .args .t1) (s .pre .0)
 
-low : (s : tie.Start) → withinLimits (lo (s .args .t1)) ≡ true
-low s = valid-on (s .pre .0) (low-on (over s))
-
-high : (s : tie.Start) → withinLimits (hi (s .args .t1)) ≡ true
-high s = valid-on (s .pre .0) (high-on (over s))
-
 -- and as the code passes them on
-passed : (s : tie.Start) → (withinLimits (toZ w32 (ofZ w32 (lo (s .args .t1)))) ≡ true) × (withinLimits (toZ w32 (ofZ w32 (hi (s .args .t1)))) ≡ true)
-passed s = (rw (toZ-ofZ (limited-fits (over s .low))) (low s), rw (toZ-ofZ (limited-fits (over s .high))) (high s))
+low : (s : tie.Start) → withinLimits (toZ w32 (ofZ w32 (lo (s .args .t1)))) ≡ true
+low s = rw (toZ-ofZ (limited-fits (over s .low))) (valid-on (s .pre .0) (low-on (over s)))
+
+high : (s : tie.Start) → withinLimits (toZ w32 (ofZ w32 (hi (s .args .t1)))) ≡ true
+high s = rw (toZ-ofZ (limited-fits (over s .high))) (valid-on (s .pre .0) (high-on (over s)))
 
 -- the squares from the low end
 max-square-requires : tie.Need-max-square-requires
-max-square-requires c κs = let s = c .before .before in (s .pre .1 .0, search (passed s .0, passed s .1))
+max-square-requires c κs = let s : tie.Start = search in (s .pre .1 .0, low s)
 
 min-square-requires : tie.Need-min-square-requires
-min-square-requires c κs = let s = c .before .before .before in (s .pre .1 .1, search (passed s .0, passed s .1))
+min-square-requires c κs = let s : tie.Start = search in (s .pre .1 .1, low s)
 
-squares-low : (c : tie.After-min-square) →
-    (c .before .max-square .result ≡ far (c .before .before .before .before .args .e) (lo (c .before .before .before .before .args .t1))) × (c .min-square .result ≡ near (c .before .before .before .before .args .b) (lo (c .before .before .before .before .args .t1)))
-squares-low c =
-    let fits = limited-fits (over (c .before .before .before .before) .low) in
-    (simp (toZ-ofZ fits) at (c .before .max-square .ensures), simp (toZ-ofZ fits) at (c .min-square .ensures))
+module _ (c : tie.After-min-square) where
+  start-low : tie.Start
+  start-low = search
+
+  squares-low : (c .before .max-square .result ≡ far (start-low .args .e) (lo (start-low .args .t1)))
+      × (c .min-square .result ≡ near (start-low .args .b) (lo (start-low .args .t1)))
+  unfolding start-low
+  squares-low =
+      let fits = limited-fits (over start-low .low) in
+      (simp (toZ-ofZ fits) at (c .before .max-square .ensures), simp (toZ-ofZ fits) at (c .min-square .ensures))
 
 difference-requires : tie.Need-difference-requires
+unfolding start-low
 difference-requires c κs =
-    let s = c .before .before .before .before in
+    let s = start-low c in
     let b = square-bounds (s .args .t1) (s .args .e) (s .args .b) (s .pre) (lo (s .args .t1)) (low-on (over s)) in
     let q = squares-low c in
     omega arith
 
 -- the squares from the high end
 max-square-requires-2 : tie.Need-max-square-requires-2
-max-square-requires-2 c κs = let s = c .before .before .before .before .before in (s .pre .1 .0, search (passed s .0, passed s .1))
+max-square-requires-2 c κs = let s : tie.Start = search in (s .pre .1 .0, high s)
 
 min-square-requires-2 : tie.Need-min-square-requires-2
-min-square-requires-2 c κs = let s = c .before .before .before .before .before .before in (s .pre .1 .1, search (passed s .0, passed s .1))
+min-square-requires-2 c κs = let s : tie.Start = search in (s .pre .1 .1, high s)
 
-squares-high : (c : tie.After-min-square2) →
-    (c .before .max-square2 .result ≡ far (c .before .before .before .before .before .before .before .args .e) (hi (c .before .before .before .before .before .before .before .args .t1))) × (c .min-square2 .result ≡ near (c .before .before .before .before .before .before .before .args .b) (hi (c .before .before .before .before .before .before .before .args .t1)))
-squares-high c =
-    let fits = limited-fits (over (c .before .before .before .before .before .before .before) .high) in
-    (simp (toZ-ofZ fits) at (c .before .max-square2 .ensures), simp (toZ-ofZ fits) at (c .min-square2 .ensures))
+module _ (c : tie.After-min-square2) where
+  start-high : tie.Start
+  start-high = search
+
+  squares-high : (c .before .max-square2 .result ≡ far (start-high .args .e) (hi (start-high .args .t1)))
+      × (c .min-square2 .result ≡ near (start-high .args .b) (hi (start-high .args .t1)))
+  unfolding start-high
+  squares-high =
+      let fits = limited-fits (over start-high .high) in
+      (simp (toZ-ofZ fits) at (c .before .max-square2 .ensures), simp (toZ-ofZ fits) at (c .min-square2 .ensures))
 
 difference-requires-2 : tie.Need-difference-requires-2
+unfolding start-high
 difference-requires-2 c κs =
-    let s = c .before .before .before .before .before .before .before in
+    let s = start-high c in
     let b = square-bounds (s .args .t1) (s .args .e) (s .args .b) (s .pre) (hi (s .args .t1)) (high-on (over s)) in
     let q = squares-high c in
     omega arith
 
 returns : tie.Need-returns
-unfolding gain
+unfolding gain start-low start-high
 returns c =
-    let d = c .before .before .before in
+    let d : tie.After-difference = search in
     let l = squares-low (d .before) in
     let h = squares-high (c .before) in
-    let low-gain : d .difference .result ≡ pos (d .before .before .max-square .result) -ℤ pos (d .before .min-square .result) = d .difference .ensures in
-    let high-gain : c .difference2 .result ≡ pos (c .before .before .max-square2 .result) -ℤ pos (c .before .min-square2 .result) = c .difference2 .ensures in
-    (toZ-ofZ (sfits-of (d .difference .ok)) ∙ low-gain ∙ rw (l .0, l .1), toZ-ofZ (sfits-of (c .difference2 .ok)) ∙ high-gain ∙ rw (h .0, h .1))
+    let low-gain : d .difference .result ≡ pos (d .before .before .max-square .result) -ℤ pos (d .before .min-square .result) =
+    d .difference .ensures in
+    let high-gain : c .difference2 .result ≡ pos (c .before .before .max-square2 .result) -ℤ pos (c .before .min-square2 .result) =
+    c .difference2 .ensures in (
+      toZ-ofZ (sfits-of (d .difference .ok)) ∙ low-gain ∙ cc (l .0, l .1),
+      toZ-ofZ (sfits-of (c .difference2 .ok)) ∙ high-gain ∙ cc (h .0, h .1),
+    )
 
 pub gains-at-ends-spec : {M : Type 1} → statement M
 gains-at-ends-spec =

@@ -1,10 +1,10 @@
-use mathlib.Core.Path.{_≡_}
-use lib.ListN.{length}
 use mir.Facts.{toZ-ofZ}
 use mir.Syntax.{w32}
 use mir.Val.{SFits}
 use borrow.Author.Needs.{sfits-of, needs}
-use Rattle.geometry.proofs.Two.{at-x, at-y, inside-2}
+use Rattle.base.specs.Every.{every}
+use Rattle.geometry.specs.Axes.{coordinate}
+use Rattle.geometry.proofs.ByAxis.{inside-every}
 use Rattle.geometry.proofs.limits.inside.Statement.{statement}
 use Rattle.geometry.proofs.limits.inside.Tie as tie
 
@@ -30,15 +30,23 @@ both-requires : tie.Need-both-requires
 both-requires c κs = search needs
 
 returns : tie.Need-returns
+unfolding every
 returns c =
-    let s = c .before .before .before .before .before .before .before in
+    let s : tie.Start = search in
     let b = s .args .t1 in
     let p = s .args .t2 in
-    let n : length b ≡ 2 = search needs in
-    let m : length p ≡ 2 = search needs in
-    let x : SFits w32 (at-x p) = sfits-of (c .before .before .before .before .before .on-axis-arg2 .given) in
-    let y : SFits w32 (at-y p) = sfits-of (c .before .before .on-axis-arg4 .given) in
-    simp (c .both .ensures, c .before .on-axis2 .ensures, c .before .before .before .before .on-axis .ensures, inside-2 b p n m, toZ-ofZ x, toZ-ofZ y)
+    let x : tie.After-on-axis = search in
+    let y : tie.After-on-axis2 = search in
+    let px : SFits w32 (coordinate p 0) = sfits-of (x .before .on-axis-arg2 .given) in
+    let py : SFits w32 (coordinate p 1) = sfits-of (y .before .on-axis-arg4 .given) in
+    simp (
+      c .both .ensures,
+      y .on-axis2 .ensures,
+      x .on-axis .ensures,
+      inside-every b p 2 (search needs) (search needs),
+      toZ-ofZ px,
+      toZ-ofZ py,
+    )
 
 pub inside-spec : {M : Type 1} → statement M
 inside-spec =

@@ -1,7 +1,6 @@
-use mathlib.Core.Path.{_≡_}
-use lib.ListN.{length}
 use borrow.Author.Needs.{needs}
-use Rattle.geometry.proofs.Two.{valid-box-2}
+use Rattle.base.specs.Every.{every}
+use Rattle.geometry.proofs.ByAxis.{valid-box-every}
 use Rattle.geometry.proofs.limits.valid_box.Statement.{statement}
 use Rattle.geometry.proofs.limits.valid_box.Tie as tie
 
@@ -21,10 +20,16 @@ both-requires : tie.Need-both-requires
 both-requires c κs = search needs
 
 returns : tie.Need-returns
+unfolding every
 returns c =
-    let b = c .before .before .before .before .before .args .t1 in
-    let n : length b ≡ 2 = search needs in
-    simp (c .both .ensures, c .before .valid-axis2 .ensures, c .before .before .before .valid-axis .ensures, valid-box-2 b n)
+    let s : tie.Start = search in
+    let x : tie.After-valid-axis = search in
+    simp (
+      c .both .ensures,
+      c .before .valid-axis2 .ensures,
+      x .valid-axis .ensures,
+      valid-box-every (s .args .t1) 2 (search needs),
+    )
 
 pub valid-box-spec : {M : Type 1} → statement M
 valid-box-spec =

@@ -1,10 +1,10 @@
-use mathlib.Core.Path.{_≡_}
-use lib.ListN.{length}
 use mir.Facts.{toZ-ofZ}
 use mir.Syntax.{w32}
 use mir.Val.{SFits}
 use borrow.Author.Needs.{sfits-of, needs}
-use Rattle.geometry.proofs.Two.{at-x, at-y, valid-point-2}
+use Rattle.base.specs.Every.{every}
+use Rattle.geometry.specs.Axes.{coordinate}
+use Rattle.geometry.proofs.ByAxis.{valid-point-every}
 use Rattle.geometry.proofs.limits.valid_point.Statement.{statement}
 use Rattle.geometry.proofs.limits.valid_point.Tie as tie
 
@@ -24,12 +24,22 @@ both-requires : tie.Need-both-requires
 both-requires c κs = search needs
 
 returns : tie.Need-returns
+unfolding every
 returns c =
-    let p = c .before .before .before .before .before .args .t1 in
-    let n : length p ≡ 2 = search needs in
-    let x : SFits w32 (at-x p) = sfits-of (c .before .before .before .before .within-limits-arg .given) in
-    let y : SFits w32 (at-y p) = sfits-of (c .before .before .within-limits-arg2 .given) in
-    simp (c .both .ensures, c .before .within-limits2 .ensures, c .before .before .before .within-limits .ensures, valid-point-2 p n, toZ-ofZ x, toZ-ofZ y)
+    let s : tie.Start = search in
+    let p = s .args .t1 in
+    let x : tie.After-within-limits = search in
+    let y : tie.After-within-limits2 = search in
+    let px : SFits w32 (coordinate p 0) = sfits-of (x .before .within-limits-arg .given) in
+    let py : SFits w32 (coordinate p 1) = sfits-of (y .before .within-limits-arg2 .given) in
+    simp (
+      c .both .ensures,
+      y .within-limits2 .ensures,
+      x .within-limits .ensures,
+      valid-point-every p 2 (search needs),
+      toZ-ofZ px,
+      toZ-ofZ py,
+    )
 
 pub valid-point-spec : {M : Type 1} → statement M
 valid-point-spec =

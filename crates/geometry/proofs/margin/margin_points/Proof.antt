@@ -1,12 +1,12 @@
-use mathlib.Core.Path.{_∙_}
+use mathlib.Core.Path.{_≡_, _∙_}
+use lib.ListN.{length}
 use mir.Facts.{toZ-ofZ}
 use mir.Syntax.{w64}
 use mir.Val.{SFits}
 use borrow.Author.Needs.{sfits-of, needs}
-use Rattle.geometry.proofs.Two.{axis-x, axis-y}
 use Rattle.geometry.specs.Calls.{reachedOf}
-use Rattle.geometry.proofs.BestEnd.{Valid}
-use Rattle.geometry.proofs.Two.{three-2, reached-2, reached-at}
+use Rattle.geometry.proofs.ByAxis.{valid-axes-at}
+use Rattle.geometry.proofs.Two.{reached-2, reached-at}
 use Rattle.geometry.proofs.margin.margin_points.Statement.{statement}
 use Rattle.geometry.proofs.margin.margin_points.Tie as tie
 
@@ -22,12 +22,10 @@ array-copy-out-best-ends-2 c = search needs
 array-copy-out-best-ends-3 : tie.Need-array-copy-out-best-ends-3
 array-copy-out-best-ends-3 c = search needs
 
--- the tests passed on each axis
-axes : (s : tie.Start) → Valid (axis-x (s .args .t1)) (axis-x (s .args .t2)) (axis-x (s .args .t3)) × Valid (axis-y (s .args .t1)) (axis-y (s .args .t2)) (axis-y (s .args .t3))
-axes s = three-2 (s .args .t1) (s .args .t2) (s .args .t3) (search needs) (search needs) (search needs) (s .pre)
-
 best-ends-requires : tie.Need-best-ends-requires
-best-ends-requires c κs = axes (c .before .before .before .before) .0
+best-ends-requires c κs =
+    let s : tie.Start = search in
+    valid-axes-at (s .args .t1) (s .args .t2) (s .args .t3) (s .pre) 0 (search needs) (search needs) (search needs)
 
 array-copy-out-best-ends-4 : tie.Need-array-copy-out-best-ends-4
 array-copy-out-best-ends-4 c = search needs
@@ -39,20 +37,34 @@ array-copy-out-best-ends-6 : tie.Need-array-copy-out-best-ends-6
 array-copy-out-best-ends-6 c = search needs
 
 best-ends-requires-2 : tie.Need-best-ends-requires-2
-best-ends-requires-2 c κs = axes (c .before .before .before .before .before .before .before .before) .1
+best-ends-requires-2 c κs =
+    let s : tie.Start = search in
+    valid-axes-at (s .args .t1) (s .args .t2) (s .args .t3) (s .pre) 1 (search needs) (search needs) (search needs)
+
+axes : (s : tie.Start) → (length (s .args .t1) ≡ 2) × ((length (s .args .t2) ≡ 2) × (length (s .args .t3) ≡ 2))
+axes s = (search needs, (search needs, search needs))
 
 returns : tie.Need-returns
 unfolding reachedOf reached-at
 returns c =
-    let s = c .before .before .before .before .before .before .before .before .before .before .before .before .before .before .before in
-    let km : SFits w64 (c .before .before .before .before .before .before .before .before .before .before .before .before .before .before .margin-within .result) = sfits-of (c .before .before .before .before .before .before .before .before .before .before .before .before .before .before .margin-within .ok) in
-    reached-2 (s .args .t1) (s .args .t2) (s .args .t3) (search needs) (search needs) (search needs) _ _ _ _ _ _ _ (toZ-ofZ km ∙ c .before .before .before .before .before .before .before .before .before .before .before .before .before .before .margin-within .ensures)
-    (toZ-ofZ (sfits-of (c .before .before .before .before .before .struct-told .given .0 .1)) ∙ c .before .before .before .before .before .before .before .before .before .before .best-ends .ensures .0)
-    (toZ-ofZ (sfits-of (c .before .before .before .before .struct-told2 .given .0 .1)) ∙ c .before .before .before .before .before .before .best-ends2 .ensures .0)
-    (toZ-ofZ (sfits-of (c .before .before .before .struct-told3 .given .1 .0 .1)) ∙ c .before .before .before .before .before .before .before .before .before .before .best-ends .ensures .1 .0)
-    (toZ-ofZ (sfits-of (c .before .before .struct-told4 .given .1 .0 .1)) ∙ c .before .before .before .before .before .before .best-ends2 .ensures .1 .0)
-    (toZ-ofZ (sfits-of (c .before .struct-told5 .given .1 .1 .0 .1)) ∙ c .before .before .before .before .before .before .before .before .before .before .best-ends .ensures .1 .1)
-    (toZ-ofZ (sfits-of (c .struct-told6 .given .1 .1 .0 .1)) ∙ c .before .before .before .before .before .before .best-ends2 .ensures .1 .1)
+    let s : tie.Start = search in
+    let m : tie.After-margin-within = search in
+    let x : tie.After-best-ends = search in
+    let y : tie.After-best-ends2 = search in
+    let ox : tie.After-struct-told = search in
+    let oy : tie.After-struct-told2 = search in
+    let ex : tie.After-struct-told3 = search in
+    let ey : tie.After-struct-told4 = search in
+    let bx : tie.After-struct-told5 = search in
+    let fits : SFits w64 (m .margin-within .result) = sfits-of (m .margin-within .ok) in
+    reached-2 (s .args .t1) (s .args .t2) (s .args .t3) (axes s .0) (axes s .1 .0) (axes s .1 .1) _ _ _ _ _ _ _
+    (toZ-ofZ fits ∙ m .margin-within .ensures)
+    (toZ-ofZ (sfits-of (ox .struct-told .given .0 .1)) ∙ x .best-ends .ensures .0)
+    (toZ-ofZ (sfits-of (oy .struct-told2 .given .0 .1)) ∙ y .best-ends2 .ensures .0)
+    (toZ-ofZ (sfits-of (ex .struct-told3 .given .1 .0 .1)) ∙ x .best-ends .ensures .1 .0)
+    (toZ-ofZ (sfits-of (ey .struct-told4 .given .1 .0 .1)) ∙ y .best-ends2 .ensures .1 .0)
+    (toZ-ofZ (sfits-of (bx .struct-told5 .given .1 .1 .0 .1)) ∙ x .best-ends .ensures .1 .1)
+    (toZ-ofZ (sfits-of (c .struct-told6 .given .1 .1 .0 .1)) ∙ y .best-ends2 .ensures .1 .1)
 
 pub margin-points-spec : {M : Type 1} → statement M
 margin-points-spec =

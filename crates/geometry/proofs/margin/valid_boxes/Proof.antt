@@ -18,7 +18,12 @@ both-requires-2 : tie.Need-both-requires-2
 both-requires-2 c κs = search needs
 
 returns : tie.Need-returns
-returns c = simp (c .both2 .ensures, c .before .valid-box3 .ensures, c .before .before .both .ensures, c .before .before .before .valid-box2 .ensures, c .before .before .before .before .valid-box .ensures)
+returns c =
+    let o : tie.After-valid-box = search in
+    let e : tie.After-valid-box2 = search in
+    let oe : tie.After-both = search in
+    let b : tie.After-valid-box3 = search in
+    simp (c .both2 .ensures, b .valid-box3 .ensures, oe .both .ensures, e .valid-box2 .ensures, o .valid-box .ensures)
 
 pub valid-boxes-spec : {M : Type 1} → statement M
 valid-boxes-spec =

@@ -1,0 +1,20 @@
+-- Axis by axis: the axes of a box and the coordinates of a point by index, and sums over the axes.
+use Prim.Native.Nat.{ℕ, zero, suc, _+_}
+use mathlib.Core.List.{List, []}
+use lib.IntN.{ℤ, pos, _+ℤ_}
+use lib.ListN.{getD}
+
+abbrev pub axisAt : List (List ℤ) → ℕ → List ℤ
+axisAt b i = getD b i []
+
+abbrev pub coordinate : List ℤ → ℕ → ℤ
+coordinate p i = getD p i (pos 0)
+
+-- f 0 + .. + f (n - 1)
+unfoldable pub sum : (ℕ → ℕ) → ℕ → ℕ
+sum f zero = 0
+sum f (suc n) = f 0 + sum (λ i. f (suc i)) n
+
+unfoldable pub sumℤ : (ℕ → ℤ) → ℕ → ℤ
+sumℤ f zero = pos 0
+sumℤ f (suc n) = f 0 +ℤ sumℤ (λ i. f (suc i)) n
