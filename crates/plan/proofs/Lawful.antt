@@ -1,4 +1,4 @@
--- The plan of a file whose directory is accepted is lawful for the stops of O. Assumes nothing.
+-- The plan of a file whose directory is accepted is lawful for the stops of O.
 use Prim.Native.Nat.{ℕ, zero, suc, _<_}
 use mathlib.Core.Bool.{true}
 use mathlib.Core.List.{List}
@@ -9,6 +9,7 @@ use lib.ListN.{length}
 use Rattle.base.specs.Refusal.{accepted}
 use Rattle.blocks.specs.Directory.{entryBox, directory, boxAt}
 use Rattle.blocks.specs.declared.header.Header.{Header}
+use Rattle.codec.specs.Tabulate.{tabulate}
 use Rattle.geometry.specs.Box.{validBox, inside}
 use Rattle.geometry.specs.Distance.{D, closestPoint, minDist}
 use Rattle.search.specs.Plan.{Lawful}
@@ -20,9 +21,10 @@ use Rattle.geometry.proofs.Two.{two, at-x, at-y}
 use Rattle.geometry.proofs.BestPoint.{three, over-in}
 use Rattle.geometry.proofs.Theorems.{closer-exact, closer-irreflexive, closer-transitive}
 use Rattle.plan.specs.FilePlan.{entries}
+use Rattle.plan.specs.Inner.Seam.{axisCount}
 
-pub box-axes : (f : List ℕ) (t : ℕ) → length (boxAt f t) ≡ 2
-unfolding boxAt entryBox
+pub box-axes : (f : List ℕ) (t : ℕ) → length (boxAt f t) ≡ axisCount
+unfolding boxAt entryBox tabulate
 box-axes f t = refl
 
 -- a cue other than c
@@ -40,7 +42,7 @@ reached b p axes w n =
     let e = two q (pos 0) (in-length i ∙ axes) in
     (record { x = at-x q; y = at-y q; cue = n }, (rw (← e) (in-test i), (rw (← e) refl, refl)))
 
-module _ (f : List ℕ) (h : Header) (o : List (List ℤ)) (read : directory f ≡ accepted h) (valid : validBox o ≡ true) (axes : length o ≡ 2) where
+module _ (f : List ℕ) (h : Header) (o : List (List ℤ)) (read : directory f ≡ accepted h) (valid : validBox o ≡ true) (axes : length o ≡ axisCount) where
   valid-at : (t : ℕ) → t < h .tiles → validBox (boxAt f t) ≡ true
   valid-at t l = entry-of-accepted f h t read l .0
 

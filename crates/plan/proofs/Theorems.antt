@@ -26,12 +26,13 @@ use Rattle.search.proofs.SameEntries.{same-pruned, same-pruned-count, same-mark
 use Rattle.search.proofs.Theorems.{only-tiles, same-run}
 use Rattle.tiles.proofs.Theorems.{sites-depend, opening-depends}
 use Rattle.plan.specs.FilePlan.{entries, openingOf, townOf}
+use Rattle.plan.specs.Inner.Seam.{axisCount}
 use Rattle.plan.proofs.Lawful.{lawful}
 use Rattle.plan.proofs.Openings.{opening-town, openings-checked, all-open, own-town}
 
 module _ (f : List ℕ) (h : Header) where
   -- box arithmetic and directory are as the search assumes, for every stop in O
-  pub plan-lawful : (o : List (List ℤ)) → directory f ≡ accepted h → validBox o ≡ true → length o ≡ 2 → Lawful (entries f h) o
+  pub plan-lawful : (o : List (List ℤ)) → directory f ≡ accepted h → validBox o ≡ true → length o ≡ axisCount → Lawful (entries f h) o
   plan-lawful = lawful f h
 
   -- a tile that opens holds the sites of the file's own town

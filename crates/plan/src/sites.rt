@@ -3,8 +3,7 @@ ghost use mathlib.Core.Path.{_≡_};
 ghost use Prim.Native.Nat.{_<_, _≤_};
 ghost use lib.ListN.{length};
 ghost use Rattle.base.specs.Refusal.{accepted, andThen};
-ghost use Rattle.blocks.specs.Layout.{maxSites};
-ghost use Rattle.search.specs.Plan.{ranked};
+ghost use Rattle.search.specs.Plan.{slots, ranked};
 ghost use Rattle.tiles.specs.Outcome.{openingOutcome};
 ghost use Rattle.tiles.specs.Tile.{siteIn};
 ghost use Rattle.plan.specs.FilePlan.{entries, openingOf, townOf};
@@ -21,7 +20,7 @@ use tiles::tile::Opening;
 // How many sites of tile t rank.
 pub fn ranked(f: &[u8], h: Header, t: usize) -> usize
     requires { ⌜ TileOf (now f) h t ⌝ }
-    ensures { λ r. ⌜ (r ≡ ranked (entries (now (f .entry)) h) t) × (r ≤ maxSites) ⌝ }
+    ensures { λ r. ⌜ (r ≡ ranked (entries (now (f .entry)) h) t) × (r ≤ slots) ⌝ }
 {
     directory::count_at(f, h, t)
 }
@@ -29,7 +28,7 @@ pub fn ranked(f: &[u8], h: Header, t: usize) -> usize
 // How many sites tile t has.
 pub fn count(f: &[u8], h: Header, t: usize) -> usize
     requires { ⌜ TileOf (now f) h t ⌝ }
-    ensures { λ r. ⌜ (r ≡ length (townOf (now (f .entry)) h t)) × (r ≤ maxSites) ⌝ }
+    ensures { λ r. ⌜ (r ≡ length (townOf (now (f .entry)) h t)) × (r ≤ slots) ⌝ }
 {
     directory::count_at(f, h, t)
 }

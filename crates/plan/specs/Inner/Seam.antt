@@ -7,12 +7,14 @@ use lib.IntN.{ℤ}
 use lib.ListN.{length}
 use Rattle.base.specs.Refusal.{accepted}
 use Rattle.blocks.specs.Directory.{directory, boxAt}
-use Rattle.blocks.specs.Layout.{blockSize, maxSites}
+use Rattle.blocks.specs.Layout as layout
+use Rattle.blocks.specs.Layout.{blockSize}
 use Rattle.blocks.specs.declared.header.Header.{Header}
 use Rattle.codec.specs.Tabulate.{tabulate}
 use Rattle.geometry.specs.Box.{validBox, validPoint}
 use Rattle.geometry.specs.Corners.{corner, corners}
 use Rattle.geometry.specs.Distance.{D, maxDist}
+use Rattle.search.specs.Plan.{slots}
 use Rattle.search.specs.declared.Place.{Place}
 use Rattle.tiles.specs.Tile.{sitePoint, siteIn}
 use Rattle.tiles.specs.declared.tile.Site.{Site}
@@ -20,7 +22,7 @@ use Rattle.plan.specs.FilePlan.{openingOf, townOf}
 
 -- the axes of a town
 abbrev pub axisCount : ℕ
-axisCount = 2
+axisCount = layout.axes
 
 -- a tile of a file whose directory is accepted
 pub record TileOf (f : List ℕ) (h : Header) (t : ℕ) : Type 0 where
@@ -58,7 +60,7 @@ sitePlace p a s = record { dist = D p (sitePoint s); site = a; cue = s .cue }
 -- a block with n sites at valid points
 pub record Sited (s : List ℕ) (n : ℕ) : Type 0 where
   pub whole : length s ≡ blockSize
-  pub few : n ≤ maxSites
+  pub few : n ≤ slots
   pub valid : (slot : ℕ) → slot < n → validPoint (sitePoint (siteIn s slot)) ≡ true
 
 -- the block of a tile that opens, with n sites: those of the file's own town
