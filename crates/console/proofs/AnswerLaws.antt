@@ -1,34 +1,23 @@
--- Laws of the program's answer: what the join answers can be printed. Assumes nothing.
+-- Laws of the program's answer: what the join answers can be printed.
 use Prim.Native.Nat.{ℕ, _≤_}
 use mathlib.Core.List.{List}
 use mathlib.Core.Path.{_≡_}
-use native.Mathlib.Omega.{arith}
 use lib.IntN.{ℤ}
-use lib.ListN.{length}
 use Rattle.base.specs.Refusal.{accepted}
-use Rattle.codec.proofs.Over.{length-over}
-use Rattle.join.specs.Join.{Result, Slices, joinEnd, filled}
-use Rattle.join.proofs.Theorems.{answered}
-use Rattle.search.specs.Run.{placesUsed}
+use Rattle.join.specs.Join.{Result, joinEnd}
+use Rattle.list.specs.Lists.{Slices}
+use Rattle.stops.specs.Stops.{stopCount}
+use Rattle.join.proofs.Theorems.{answer-fits}
 use Rattle.search.proofs.Walk.{by-outcome}
-use Rattle.console.specs.Output.{Fitting, Printable}
+use Rattle.console.specs.Inner.Room.{Fitting, Printable}
+use Rattle.console.specs.Limits.{requestStops}
 
-module _ (f : List ℕ) (xs ys : List ℤ) (k : ℕ) (out : Slices) (few : length xs ≤ 128) where
-  fitting : (r : Result) → joinEnd f xs ys k out .outcome ≡ accepted r →
-      Fitting (length xs) k (r .used) (length (joinEnd f xs ys k out .slices .dist)) (length (joinEnd f xs ys k out .slices .site)) (length (joinEnd f xs ys k out .slices .cue))
-  unfolding filled placesUsed
+module _ (f : List ℕ) (cols : List (List ℤ)) (k : ℕ) (out : Slices) (few : stopCount cols ≤ requestStops) where
+  fitting : (r : Result) → joinEnd f cols k out .outcome ≡ accepted r
+      → Fitting (stopCount cols) k (r .used) (joinEnd f cols k out .slices .lists)
   fitting r e =
-      let a = answered f xs ys k out r e in
-      let q = a .ready in
-      let room = a .slices in
-      record {
-        stops = few;
-        few = omega (arith, a .used, q .few-k);
-        some = omega (arith, a .used);
-        dist = rw (room, length-over) (q .d);
-        site = rw (room, length-over) (q .s);
-        cue = rw (room, length-over) (q .c);
-      }
+      let a = answer-fits f cols k out r e in
+      record { stops = few; few = a .0; some = a .1 .0; long = a .1 .1 }
 
-  pub printable : Printable (length xs) k (length (joinEnd f xs ys k out .slices .dist)) (length (joinEnd f xs ys k out .slices .site)) (length (joinEnd f xs ys k out .slices .cue)) (joinEnd f xs ys k out .outcome)
-  printable = by-outcome (joinEnd f xs ys k out .outcome) (λ r e. rw e (fitting r e)) (λ n b e. rw e tt)
+  pub printable : Printable (stopCount cols) k (joinEnd f cols k out .slices .lists) (joinEnd f cols k out .outcome)
+  printable = by-outcome (joinEnd f cols k out .outcome) (λ r e. rw e (fitting r e)) (λ n b e. rw e tt)

@@ -1,10 +1,12 @@
--- Laws of the printed lines: what parts the places, and how long a text can be. Assumes nothing.
+-- Laws of the printed lines: what parts the places, and how long a text can be.
 use Prim.Native.Nat.{ℕ, zero, suc, _+_, _*_, _^_, _<_, _≤_}
 use mathlib.Core.List.{List, _++_}
 use mathlib.Core.Path.{_≡_, refl, ap, _∙_}
 use native.Mathlib.Nat.{suc-mul, mul-le-mul-right}
 use native.Mathlib.Omega.{arith}
 use lib.ListN.{length, getD, length-append}
+use Rattle.search.specs.Limits.{maxK}
+use Rattle.console.specs.Inner.Room.{stopRoom}
 use Rattle.console.specs.Line.{separator, refusedLine, countsLine, placeText, placeAt, placesText, stopLine}
 use Rattle.console.specs.Text.{bytes, labelled}
 use Rattle.console.proofs.TextLaws.{labelled-32, labelled-64, joined-short}
@@ -96,7 +98,7 @@ module _ (dist site cue : List ℕ) (ds : (i : ℕ) → getD dist i 0 < 2 ^ 64) 
       ∙ ap (λ n. n + 1)
       (length-append (number ++ bytes ":") places ∙ ap (λ n. n + length places) (length-append number (bytes ":")))
 
-  pub stop-short : (k used i : ℕ) → used ≤ 64 → i < 2 ^ 64 → length (stopLine dist site cue k used i) ≤ 2843
+  pub stop-short : (k used i : ℕ) → used ≤ maxK → i < 2 ^ 64 → length (stopLine dist site cue k used i) ≤ stopRoom
   stop-short k used i few l =
       omega (arith, length-stop k used i, labelled-64 (bytes "stop ") i l, places-short (i * k) used)
 

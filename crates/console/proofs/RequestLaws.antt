@@ -1,4 +1,4 @@
--- Laws of what the program reads. Assumes nothing.
+-- Laws of what the program reads.
 use Prim.Native.Nat.{ℕ, _+_, _*_, _-_, _<_, _≤_}
 use mathlib.Core.Bool.{true, _&&_}
 use mathlib.Core.List.{List, [], _∷_, _++_}
@@ -14,6 +14,7 @@ use borrow.Author.Tests.{leb-true}
 use Rattle.base.proofs.Tests.{and-both}
 use Rattle.codec.specs.Number.{i32At}
 use Rattle.codec.proofs.Tabulate.{length-tabulate, tabulate-last}
+use Rattle.console.specs.Limits.{maxInput, requestStops}
 use Rattle.console.specs.Request.{stopCount, coordinates, headLength, wellFormed}
 
 -- one more number of a stop, stored after the others
@@ -30,16 +31,16 @@ stored-next input at i l v h e q =
 -- ---- a whole request
 pub record Whole (input : List ℕ) : Type 0 where
   pub long : 8 ≤ length input
-  pub few : stopCount input ≤ 128
+  pub few : stopCount input ≤ requestStops
   pub stops : 8 + 8 * stopCount input ≤ length input
 
 pub whole : (input : List ℕ) → wellFormed input ≡ true → Whole input
 unfolding wellFormed headLength
 whole input e =
     let n = stopCount input in
-    let p = and-both (leb 8 (length input) && leb (length input) 65536) (leb n 128 && leb (8 + 8 * n) (length input)) e in
-    let q = and-both (leb 8 (length input)) (leb (length input) 65536) (p .0) in
-    let r = and-both (leb n 128) (leb (8 + 8 * n) (length input)) (p .1) in
+    let p = and-both (leb 8 (length input) && leb (length input) maxInput) (leb n requestStops && leb (8 + 8 * n) (length input)) e in
+    let q = and-both (leb 8 (length input)) (leb (length input) maxInput) (p .0) in
+    let r = and-both (leb n requestStops) (leb (8 + 8 * n) (length input)) (p .1) in
     record { long = leb-true _ _ (q .0); few = leb-true _ _ (r .0); stops = leb-true _ _ (r .1) }
 
 pub length-coordinates : (input : List ℕ) (at n : ℕ) → length (coordinates input at n) ≡ n

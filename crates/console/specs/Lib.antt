@@ -1,4 +1,6 @@
+pub mod Limits
 pub mod Text
 pub mod Line
 pub mod Request
 pub mod Output
+pub mod Inner

@@ -8,6 +8,7 @@ use lib.IntN.{ℤ}
 use lib.ListN.{length, drop}
 use Rattle.codec.specs.Number.{u32At, i32At}
 use Rattle.codec.specs.Tabulate.{tabulate}
+use Rattle.console.specs.Limits.{maxInput, requestStops}
 
 unfoldable pub kOf : List ℕ → ℕ
 kOf input = u32At input 0
@@ -35,5 +36,5 @@ fileOf input = drop (headLength (stopCount input)) input
 -- "at most 65,536 bytes"; "Too long, n over 128 (its own limit), or cut before the stops end: it prints `input`"
 unfoldable pub wellFormed : List ℕ → Bool
 wellFormed input =
-    (leb 8 (length input) && leb (length input) 65536)
-    && (leb (stopCount input) 128 && leb (headLength (stopCount input)) (length input))
+    (leb 8 (length input) && leb (length input) maxInput)
+    && (leb (stopCount input) requestStops && leb (headLength (stopCount input)) (length input))

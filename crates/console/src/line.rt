@@ -2,6 +2,8 @@
 ghost use Prim.Native.Nat.{_+_, _*_, _≤_};
 ghost use lib.ListN.{length};
 ghost use Rattle.codec.specs.Tabulate.{joined};
+ghost use Rattle.search.specs.Limits.{maxK};
+ghost use Rattle.console.specs.Inner.Room.{stopRoom};
 ghost use Rattle.console.specs.Line.{separator, placeText, placesText, stopLine, countsLine, refusedLine};
 ghost use Rattle.console.specs.Text.{labelled, Wrote};
 use crate::text::put_labelled;
@@ -81,10 +83,10 @@ pub fn put_stops(
     used: usize,
     n: usize,
 ) -> usize
-    requires { ⌜ (at + 2843 * n ≤ length (now out)) × (used ≤ 64) × (used ≤ k) ⌝ }
+    requires { ⌜ (at + stopRoom * n ≤ length (now out)) × (used ≤ maxK) × (used ≤ k) ⌝ }
     requires { ⌜ (n * k ≤ length (now dist)) × (n * k ≤ length (now site)) × (n * k ≤ length (now cue)) ⌝ }
     ensures text { λ r. ⌜ Wrote (now (out .entry)) at (joined (stopLine (now (dist .entry)) (now (site .entry)) (now (cue .entry)) k used) 0 n) (now (out .exit)) r ⌝ }
-    ensures end { λ r. ⌜ r ≤ at + 2843 * n ⌝ }
+    ensures end { λ r. ⌜ r ≤ at + stopRoom * n ⌝ }
 {
     let mut next = at;
     let mut i = 0;

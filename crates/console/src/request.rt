@@ -2,6 +2,7 @@
 ghost use mathlib.Core.Path.{_≡_};
 ghost use Prim.Native.Nat.{_+_, _*_, _≤_};
 ghost use lib.ListN.{length, take};
+ghost use Rattle.console.specs.Limits.{requestStops};
 ghost use Rattle.console.specs.Request.{stopCount, coordinates, headLength, wellFormed};
 use codec::reading::i32_at;
 use codec::reading::u32_at;
@@ -20,7 +21,7 @@ pub fn stop_count(input: &[u8]) -> usize
 
 // Where the stops end.
 pub fn head_length(n: usize) -> usize
-    requires { ⌜ n ≤ 128 ⌝ }
+    requires { ⌜ n ≤ requestStops ⌝ }
     ensures { λ r. ⌜ r ≡ headLength n ⌝ }
 {
     8 + 8 * n

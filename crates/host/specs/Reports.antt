@@ -1,6 +1,7 @@
 -- What C gets of an outcome: the number 0 and the call's values, or the refusal's number and block, and every value 0.
 use Prim.Native.Nat.{ℕ}
 use Rattle.base.specs.Refusal.{Outcome, accepted, refused}
+use Rattle.blocks.specs.declared.header.Header.{Header}
 use Rattle.join.specs.Join.{Result}
 use Rattle.prune.specs.Prune.{Counts}
 use Rattle.host.specs.declared.reports.JoinReport.{JoinReport}
@@ -17,8 +18,8 @@ pruneReport (accepted c) = record { number = 0; block = 0; tiles = c .tiles; pru
 pruneReport (refused number block) = record { number = number; block = block; tiles = 0; pruned = 0 }
 
 -- of a full check: T
-abbrev pub validateReport : Outcome ℕ → ValidateReport
-validateReport (accepted tiles) = record { number = 0; block = 0; tiles = tiles }
+abbrev pub validateReport : Outcome Header → ValidateReport
+validateReport (accepted h) = record { number = 0; block = 0; tiles = h .tiles }
 validateReport (refused number block) = record { number = number; block = block; tiles = 0 }
 
 -- of the writer: "the file's length in bytes"

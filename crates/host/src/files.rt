@@ -1,8 +1,10 @@
 // The calls on files, for hosts and tests in C: each gives its answer as a report, by value.
+ghost use mathlib.Core.List.{[], _∷_};
 ghost use mathlib.Core.Path.{_≡_};
 ghost use lib.ListN.{length};
 ghost use Rattle.encode.specs.Supply.{supply};
-ghost use Rattle.join.specs.Join.{joinEnd, lent};
+ghost use Rattle.join.specs.Join.{joinEnd};
+ghost use Rattle.list.specs.Lists.{lent};
 ghost use Rattle.prune.specs.Prune.{pruneCall, marksAfter};
 ghost use Rattle.tiles.specs.Validate.{validate};
 ghost use Rattle.writer.specs.Write.{writeCall, writeExit};
@@ -30,8 +32,11 @@ pub extern "C" fn nearby_join(
     cue: &mut [u32],
     marks: &mut [u8],
 ) -> JoinReport
-    ensures answer { λ r. ⌜ r ≡ joinReport (joinEnd (now (file .entry)) (now (xs .entry)) (now (ys .entry)) k (lent (now (dist .entry)) (now (site .entry)) (now (cue .entry)) (now (marks .entry))) .outcome) ⌝ }
-    ensures slices { λ _. ⌜ lent (now (dist .exit)) (now (site .exit)) (now (cue .exit)) (now (marks .exit)) ≡ joinEnd (now (file .entry)) (now (xs .entry)) (now (ys .entry)) k (lent (now (dist .entry)) (now (site .entry)) (now (cue .entry)) (now (marks .entry))) .slices ⌝ }
+    ensures answer { λ r. ⌜ r ≡ joinReport (joinEnd (now (file .entry)) (now (xs .entry) ∷ now (ys .entry) ∷ []) k
+        (lent (now (dist .entry)) (now (site .entry)) (now (cue .entry)) (now (marks .entry))) .outcome) ⌝ }
+    ensures slices { λ _. ⌜ lent (now (dist .exit)) (now (site .exit)) (now (cue .exit)) (now (marks .exit))
+        ≡ joinEnd (now (file .entry)) (now (xs .entry) ∷ now (ys .entry) ∷ []) k
+        (lent (now (dist .entry)) (now (site .entry)) (now (cue .entry)) (now (marks .entry))) .slices ⌝ }
 {
     reports::report_join(join_call::join(file, xs, ys, k, dist, site, cue, marks))
 }
@@ -47,8 +52,11 @@ pub extern "C" fn nearby_prune(
     k: u32,
     marks: &mut [u8],
 ) -> PruneReport
-    ensures answer { λ r. ⌜ r ≡ pruneReport (pruneCall (now (file .entry)) (boxOf x0 x1 y0 y1) k (now (marks .entry))) ⌝ }
-    ensures marks { λ _. ⌜ now (marks .exit) ≡ marksAfter (now (file .entry)) (boxOf x0 x1 y0 y1) k (now (marks .entry)) (pruneCall (now (file .entry)) (boxOf x0 x1 y0 y1) k (now (marks .entry))) ⌝ }
+    ensures answer { λ r. ⌜
+        r ≡ pruneReport (pruneCall (now (file .entry)) (boxOf x0 x1 y0 y1) k (now (marks .entry))) ⌝ }
+    ensures marks { λ _. ⌜
+        now (marks .exit) ≡ marksAfter (now (file .entry)) (boxOf x0 x1 y0 y1) k (now (marks .entry))
+        (pruneCall (now (file .entry)) (boxOf x0 x1 y0 y1) k (now (marks .entry))) ⌝ }
 {
     let o = box_of(x0, x1, y0, y1);
     reports::report_prune(prune_call::prune(file, o, k, marks))

@@ -1,12 +1,14 @@
 // The answers as C gets them, by value: the number 0 and the values, or the number and block of the refusal and zeros.
 ghost use mathlib.Core.Path.{_≡_};
-ghost use Rattle.blocks.specs.Outcome.{answerOutcome};
 ghost use Rattle.join.specs.Join.{joinOutcome};
 ghost use Rattle.prune.specs.Prune.{pruneOutcome};
+ghost use Rattle.tiles.specs.Outcome.{validationOutcome};
+ghost use Rattle.writer.specs.Write.{writeOutcome};
 ghost use Rattle.host.specs.Reports.{joinReport, pruneReport, validateReport, writeReport};
-use blocks::block::Answer;
 use join::call::JoinAnswer;
 use prune::call::PruneAnswer;
+use tiles::validate::Validation;
+use writer::write::WriteAnswer;
 
 #[repr(C)]
 pub struct JoinReport {
@@ -87,16 +89,16 @@ pub fn report_prune(answer: PruneAnswer) -> PruneReport
     }
 }
 
-pub fn report_validate(answer: Answer) -> ValidateReport
-    ensures { λ r. ⌜ r ≡ validateReport (answerOutcome answer) ⌝ }
+pub fn report_validate(answer: Validation) -> ValidateReport
+    ensures { λ r. ⌜ r ≡ validateReport (validationOutcome answer) ⌝ }
 {
     match answer {
-        Answer::Accepted(tiles) => ValidateReport {
+        Validation::Valid(h) => ValidateReport {
             number: 0,
             block: 0,
-            tiles,
+            tiles: h.tiles,
         },
-        Answer::Refused(r) => ValidateReport {
+        Validation::Refused(r) => ValidateReport {
             number: r.number,
             block: r.block,
             tiles: 0,
@@ -104,16 +106,16 @@ pub fn report_validate(answer: Answer) -> ValidateReport
     }
 }
 
-pub fn report_write(answer: Answer) -> WriteReport
-    ensures { λ r. ⌜ r ≡ writeReport (answerOutcome answer) ⌝ }
+pub fn report_write(answer: WriteAnswer) -> WriteReport
+    ensures { λ r. ⌜ r ≡ writeReport (writeOutcome answer) ⌝ }
 {
     match answer {
-        Answer::Accepted(length) => WriteReport {
+        WriteAnswer::Written(length) => WriteReport {
             number: 0,
             block: 0,
             length,
         },
-        Answer::Refused(r) => WriteReport {
+        WriteAnswer::Refused(r) => WriteReport {
             number: r.number,
             block: r.block,
             length: 0,

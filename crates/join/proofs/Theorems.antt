@@ -18,12 +18,14 @@ use Rattle.blocks.specs.declared.header.Header.{Header}
 use Rattle.codec.specs.Number.{Bytes}
 use Rattle.geometry.specs.Around.{around}
 use Rattle.geometry.specs.Box.{inside}
+use Rattle.list.specs.Inner.Keeping.{Long}
 use Rattle.list.specs.Lists.{Slices, placeAt}
 use Rattle.plan.specs.FilePlan.{plane, entries, openingOf, townOf}
 use Rattle.plan.specs.Inner.Seam.{axisCount}
 use Rattle.search.specs.Claims.{FullSearch, RunAnswers}
 use Rattle.search.specs.FullSearch.{firstOf, fullSearch}
 use Rattle.search.specs.Lists.{range, Distinct}
+use Rattle.search.specs.Limits.{maxK}
 use Rattle.search.specs.Plan.{Town}
 use Rattle.search.specs.Pruning.{pruned, prunedCount}
 use Rattle.search.specs.Run.{join, mark, padded, noPlace, slices, placesUsed, marks}
@@ -35,7 +37,7 @@ use Rattle.tiles.specs.Validate.{validate}
 use Rattle.base.proofs.Outcomes.{accepted-injective, accepted-refused}
 use Rattle.blocks.proofs.Theorems.{same-directory, directory-exactly}
 use Rattle.codec.proofs.Over.{getD-run}
-use Rattle.list.proofs.Laying.{lay-place}
+use Rattle.list.proofs.Laying.{lay-place, lay-long}
 use Rattle.plan.proofs.Tables.{range-length}
 use Rattle.plan.proofs.Theorems.{opening-checked, join-depends, pruned-count-depends, marks-depend, used-depends}
 use Rattle.plan.proofs.Theorems.{good-opens, good-agrees}
@@ -43,6 +45,8 @@ use Rattle.search.proofs.Lists.{all-map}
 use Rattle.search.proofs.Marks.{slices-length}
 use Rattle.search.proofs.Theorems as run
 use Rattle.search.proofs.Walk.{by-outcome}
+use Rattle.stops.specs.Inner.Good.{GoodArguments}
+use Rattle.stops.proofs.ArgumentLaws.{arguments-good}
 use Rattle.stops.proofs.StopLaws.{stops-length}
 use Rattle.tiles.proofs.Theorems.{validate-exactly}
 use Rattle.join.specs.Claims.{opened, left, Agreeing, Demand3}
@@ -92,6 +96,7 @@ module _ (f : List ℕ) (cols : List (List ℤ)) (k : ℕ) (out : Slices) where
   -- "Suppose the join answers", with the result r: then all tests passed, and the run gave lists ls
   record Answered (r : Result) : Type 0 where
     h : Header
+    args : GoodArguments (h .tiles) cols k (lengthsOf out)
     ready : length cols ≡ axisCount → RunReady f h cols k out
     dir : directory f ≡ accepted h
     ls : List (List Place)
@@ -114,6 +119,7 @@ module _ (f : List ℕ) (cols : List (List ℤ)) (k : ℕ) (out : Slices) where
       rw q at (tests-pass f cols k out d a) in
       record {
         h = h;
+        args = arguments-good (h .tiles) cols k (lengthsOf out) a;
         ready = run-ready f cols k out d a;
         dir = d;
         ls = ls;
@@ -131,6 +137,17 @@ module _ (f : List ℕ) (cols : List (List ℤ)) (k : ℕ) (out : Slices) where
       (λ n b q. accepted-refused {o = joinEnd f cols k out .outcome} {n = n} {b = b} e (rw (d, a, q))))
       (λ n b a. accepted-refused {o = joinEnd f cols k out .outcome} {n = n} {b = b} e (rw (d, a))))
       (λ n b d. accepted-refused {o = joinEnd f cols k out .outcome} {n = n} {b = b} e (rw d))
+
+  -- what an answer gives room for: at most k places a stop, and slices that hold them
+  pub answer-fits : (r : Result) → joinEnd f cols k out .outcome ≡ accepted r
+      → (r .used ≤ maxK) × ((r .used ≤ k) × Long (joinEnd f cols k out .slices .lists) (stopCount cols * k))
+  unfolding placesUsed filled
+  answer-fits r e =
+      let a = answered r e in
+      let g = a .args in
+      let u : r .used ≤ k = rw (a .result) (omega arith) in
+      (omega (arith, g .few-k), (u, rw (a .slices-are) (lay-long (out .lists) 0 (slices k (a .ls)) (stopCount cols * k)
+      (g .dist, (g .site, g .cue)))))
 
   -- ---- demand 3
 

@@ -16,11 +16,13 @@ cast-put-stops c = search needs
 
 put-stops-requires : tie.Need-put-stops-requires
 put-stops-requires c κs =
-    let s = c .before .before .before .before .before .before .before .before .before .before .before .before in
-    let told = c .before .before .before .before .before .before .answer .given in
-    let fit = rw (told .1) at (s .pre .1) in
-    let counts = c .before .before .before .put-counts .ensures in
-    ((omega (arith, counts .1, same-room (counts .0), s .pre .0, fit .stops), fit .few, fit .some), (fit .dist, fit .site, fit .cue))
+    let p : tie.After-put-counts = search in
+    let a : tie.After-answer = search in
+    let s : tie.Start = search in
+    let fit = rw (a .answer .given .1) at (s .pre .1) in
+    let counts = p .put-counts .ensures in
+    let long = fit .long in
+    ((omega (arith, counts .1, same-room (counts .0), s .pre .0, fit .stops), fit .few, fit .some), (long .0, long .1 .0, long .1 .1))
 
 enum-known-answer-2 : tie.Need-enum-known-answer-2
 enum-known-answer-2 c = search needs
@@ -34,11 +36,14 @@ same-length c = search needs
 returns : tie.Need-returns
 unfolding answerText
 returns c =
-    let s = c .before .before .before .before .before .before .before .before .before .before .before .before .before .before .before in
-    let told = c .before .before .before .before .before .before .before .before .before .answer .given in
+    let q : tie.After-put-stops = search in
+    let p : tie.After-put-counts = search in
+    let a : tie.After-answer = search in
+    let s : tie.Start = search in
+    let told = a .answer .given in
     let fit = rw (told .1) at (s .pre .1) in
-    let counts = c .before .before .before .before .before .before .put-counts .ensures in
-    let stops = c .before .before .put-stops .ensures in
+    let counts = p .put-counts .ensures in
+    let stops = q .put-stops .ensures in
     rw (told .1) (then (counts .0) (stops .0), omega (arith, counts .1, stops .1, fit .stops))
 
 same-length-2 : tie.Need-same-length-2

@@ -1,3 +1,4 @@
+use mathlib.Core.List.{[], _∷_}
 use mathlib.Core.Path.{sym}
 use borrow.Author.Needs.{needs}
 use Rattle.console.specs.Output.{endText, emptySlices}
@@ -32,16 +33,22 @@ slice-aggregate-put-answer-3 c = search needs
 put-answer-requires : tie.Need-put-answer-requires
 unfolding emptySlices
 put-answer-requires c κs =
-    let s = c .before .before .before .before .before .before .before .before .before .before .before .before .before .before .before in
+    let s : tie.Start = search in
+    let j : tie.After-join = search in
     let a = s .args in
-    (s .pre .1, rw (sym (c .before .before .before .before .before .before .before .before .join .ensures)) at (printable (a .file .now) (a .xs .now) (a .ys .now) (a .k) emptySlices (s .pre .0)))
+    let fits = printable (a .file .now) (a .xs .now ∷ a .ys .now ∷ []) (a .k) emptySlices (s .pre .0) in
+    (s .pre .1, rw (sym (j .join .ensures)) at fits)
 
 same-length : tie.Need-same-length
 same-length c = search needs
 
 returns : tie.Need-returns
 unfolding endText emptySlices
-returns c = let end = c .before .before .put-answer .ensures in (rw (sym (c .before .before .before .before .before .before .before .before .before .before .before .join .ensures)) (end .0), end .1)
+returns c =
+    let p : tie.After-put-answer = search in
+    let j : tie.After-join = search in
+    let end = p .put-answer .ensures in
+    (rw (sym (j .join .ensures)) (end .0), end .1)
 
 pub put-join-spec : {M : Type 1} → statement M
 put-join-spec =

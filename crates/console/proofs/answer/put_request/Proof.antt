@@ -1,43 +1,57 @@
 use Prim.Native.Nat.{_≤_}
 use native.Mathlib.Omega.{arith}
-use mathlib.Core.Path.{sym, ap, _∙_}
-use lib.ListN.{length}
+use mathlib.Core.Path.{_≡_, sym, ap, _∙_}
+use lib.ListN.{length, take}
 use borrow.Author.Needs.{needs}
 use Rattle.console.specs.Output.{endOf}
 use Rattle.console.specs.Request.{xsOf, ysOf, fileOf, kOf, headLength}
-use Rattle.console.proofs.RequestLaws.{whole, length-coordinates, rest-all}
+use Rattle.console.proofs.RequestLaws.{Whole, whole, length-coordinates, rest-all}
 use Rattle.console.proofs.answer.put_request.Statement.{statement}
 use Rattle.console.proofs.answer.put_request.Tie as tie
 
+-- the request is whole
+request : (s : tie.Start) → Whole (s .args .input .now)
+request s = whole (s .args .input .now) (s .pre .0)
+
 stop-count-requires : tie.Need-stop-count-requires
-stop-count-requires c κs = whole (c .before .before .args .input .now) (c .before .before .pre .0) .long
+stop-count-requires c κs = let s : tie.Start = search in request s .long
 
 u32-at-requires : tie.Need-u32-at-requires
-u32-at-requires c κs = omega (arith, whole (c .before .before .before .args .input .now) (c .before .before .before .pre .0) .long)
+u32-at-requires c κs = let s : tie.Start = search in omega (arith, request s .long)
 
 slice-aggregate-read-coordinates : tie.Need-slice-aggregate-read-coordinates
 slice-aggregate-read-coordinates c = search needs
 
 read-coordinates-requires : tie.Need-read-coordinates-requires
 read-coordinates-requires c κs =
-    let w = whole (c .before .before .before .before .before .args .input .now) (c .before .before .before .before .before .pre .0) in
-    (omega (arith, c .before .before .stop-count .ensures, w .stops), omega (arith, c .before .before .stop-count .ensures, w .few))
+    let n : tie.After-stop-count = search in
+    let s : tie.Start = search in
+    let w = request s in
+    (omega (arith, n .stop-count .ensures, w .stops), omega (arith, n .stop-count .ensures, w .few))
 
 slice-aggregate-read-coordinates-2 : tie.Need-slice-aggregate-read-coordinates-2
 slice-aggregate-read-coordinates-2 c = search needs
 
 read-coordinates-requires-2 : tie.Need-read-coordinates-requires-2
 read-coordinates-requires-2 c κs =
-    let w = whole (c .before .before .before .before .before .before .before .before .args .input .now) (c .before .before .before .before .before .before .before .before .pre .0) in
-    (omega (arith, c .before .before .before .before .before .stop-count .ensures, w .stops), omega (arith, c .before .before .before .before .before .stop-count .ensures, whole (c .before .before .before .before .before .before .before .before .args .input .now) (c .before .before .before .before .before .before .before .before .pre .0) .few))
+    let n : tie.After-stop-count = search in
+    let s : tie.Start = search in
+    let w = request s in
+    (omega (arith, n .stop-count .ensures, w .stops), omega (arith, n .stop-count .ensures, w .few))
 
 head-length-requires : tie.Need-head-length-requires
-head-length-requires c κs = omega (arith, c .before .before .before .before .before .before .before .stop-count .ensures, whole (c .before .before .before .before .before .before .before .before .before .before .args .input .now) (c .before .before .before .before .before .before .before .before .before .before .pre .0) .few)
+head-length-requires c κs =
+    let n : tie.After-stop-count = search in
+    let s : tie.Start = search in
+    omega (arith, n .stop-count .ensures, request s .few)
 
 -- the file starts within the input
-fits : (c : tie.After-head-length) → c .head-length .result ≤ length (c .before .before .before .before .before .before .before .before .before .before .before .args .input .now)
+fits : (c : tie.After-head-length) → (let s : tie.Start = search in c .head-length .result ≤ length (s .args .input .now))
 unfolding headLength
-fits c = omega (arith, c .head-length .ensures, c .before .before .before .before .before .before .before .before .stop-count .ensures, whole (c .before .before .before .before .before .before .before .before .before .before .before .args .input .now) (c .before .before .before .before .before .before .before .before .before .before .before .pre .0) .stops)
+fits c =
+    let n : tie.After-stop-count = search in
+    let s : tie.Start = search in
+    omega (arith, c .head-length .ensures, n .stop-count .ensures, request s .stops)
 
 sub-put-join : tie.Need-sub-put-join
 sub-put-join c = fits c
@@ -48,20 +62,47 @@ part-put-join-start c = fits c
 part-put-join-end : tie.Need-part-put-join-end
 part-put-join-end c = search needs
 
+-- each array has the coordinates of n stops at its front
+xs-length : (c : tie.After-read-coordinates) → (let n : tie.After-stop-count = search in
+    n .stop-count .result ≡ length (take (n .stop-count .result) (c .read-coordinates .last .1 .1 .1 .0)))
+xs-length c =
+    let n : tie.After-stop-count = search in
+    let s : tie.Start = search in
+    sym (ap length (c .read-coordinates .ensures) ∙ length-coordinates (s .args .input .now) 8 (n .stop-count .result))
+
+ys-length : (c : tie.After-read-coordinates2) → (let n : tie.After-stop-count = search in
+    n .stop-count .result ≡ length (take (n .stop-count .result) (c .read-coordinates2 .last .1 .1 .1 .0)))
+ys-length c =
+    let n : tie.After-stop-count = search in
+    let s : tie.Start = search in
+    sym (ap length (c .read-coordinates2 .ensures) ∙ length-coordinates (s .args .input .now) 12 (n .stop-count .result))
+
 array-share-prefix-xs : tie.Need-array-share-prefix-xs
-array-share-prefix-xs c = omega (arith, c .before .before .before .before .before .before .before .before .before .stop-count .ensures, whole (c .before .before .before .before .before .before .before .before .before .before .before .before .args .input .now) (c .before .before .before .before .before .before .before .before .before .before .before .before .pre .0) .few, c .before .before .before .before .before .before .read-coordinates .kept .1 .1 .1 .0)
+array-share-prefix-xs c =
+    let r : tie.After-read-coordinates = search in
+    let n : tie.After-stop-count = search in
+    let s : tie.Start = search in
+    omega (arith, n .stop-count .ensures, request s .few, r .read-coordinates .kept .1 .1 .1 .0)
 
 slice-aggregate-put-join : tie.Need-slice-aggregate-put-join
-slice-aggregate-put-join c = sym (ap length (c .before .before .before .before .before .before .before .read-coordinates .ensures) ∙ length-coordinates (c .before .before .before .before .before .before .before .before .before .before .before .before .before .args .input .now) 8 (c .before .before .before .before .before .before .before .before .before .before .stop-count .result))
+slice-aggregate-put-join c = let r : tie.After-read-coordinates = search in xs-length r
 
 array-share-prefix-ys : tie.Need-array-share-prefix-ys
-array-share-prefix-ys c = omega (arith, c .before .before .before .before .before .before .before .before .before .before .stop-count .ensures, whole (c .before .before .before .before .before .before .before .before .before .before .before .before .before .args .input .now) (c .before .before .before .before .before .before .before .before .before .before .before .before .before .pre .0) .few, c .before .before .before .before .read-coordinates2 .kept .1 .1 .1 .0)
+array-share-prefix-ys c =
+    let r : tie.After-read-coordinates2 = search in
+    let n : tie.After-stop-count = search in
+    let s : tie.Start = search in
+    omega (arith, n .stop-count .ensures, request s .few, r .read-coordinates2 .kept .1 .1 .1 .0)
 
 slice-aggregate-put-join-2 : tie.Need-slice-aggregate-put-join-2
-slice-aggregate-put-join-2 c = sym (ap length (c .before .before .before .before .before .read-coordinates2 .ensures) ∙ length-coordinates (c .before .before .before .before .before .before .before .before .before .before .before .before .before .before .args .input .now) 12 (c .before .before .before .before .before .before .before .before .before .before .before .stop-count .result))
+slice-aggregate-put-join-2 c = let r : tie.After-read-coordinates2 = search in ys-length r
 
 put-join-requires : tie.Need-put-join-requires
-put-join-requires c κs = (omega (arith, sym (ap length (c .before .before .before .before .before .before .before .before .before .read-coordinates .ensures) ∙ length-coordinates (c .before .before .before .before .before .before .before .before .before .before .before .before .before .before .before .args .input .now) 8 (c .before .before .before .before .before .before .before .before .before .before .before .before .stop-count .result)), c .before .before .before .before .before .before .before .before .before .before .before .before .stop-count .ensures, whole (c .before .before .before .before .before .before .before .before .before .before .before .before .before .before .before .args .input .now) (c .before .before .before .before .before .before .before .before .before .before .before .before .before .before .before .pre .0) .few), c .before .before .before .before .before .before .before .before .before .before .before .before .before .before .before .pre .1)
+put-join-requires c κs =
+    let r : tie.After-read-coordinates = search in
+    let n : tie.After-stop-count = search in
+    let s : tie.Start = search in
+    (omega (arith, xs-length r, n .stop-count .ensures, request s .few), s .pre .1)
 
 same-length : tie.Need-same-length
 same-length c = search needs
@@ -69,12 +110,25 @@ same-length c = search needs
 returns : tie.Need-returns
 unfolding endOf xsOf ysOf fileOf kOf
 returns c =
-    let s = c .before .before .before .before .before .before .before .before .before .before .before .before .before .before .before .before .before .before in
-    let n = c .before .before .before .before .before .before .before .before .before .before .before .before .before .before .before .stop-count .ensures in
-    let xs = c .before .before .before .before .before .before .before .before .before .before .before .before .read-coordinates .ensures in
-    let ys = c .before .before .before .before .before .before .before .before .before .read-coordinates2 .ensures in
-    let end = c .before .before .put-join .ensures in
-    (rw (xs, ys, length-coordinates (s .args .input .now) 8 (c .before .before .before .before .before .before .before .before .before .before .before .before .before .before .before .stop-count .result), rest-all (s .args .input .now) (c .before .before .before .before .before .before .before .head-length .result), c .before .before .before .before .before .before .before .head-length .ensures, c .before .before .before .before .before .before .before .before .before .before .before .before .before .before .u32-at .ensures, n) at (end .0), end .1)
+    let p : tie.After-put-join = search in
+    let l : tie.After-head-length = search in
+    let y : tie.After-read-coordinates2 = search in
+    let x : tie.After-read-coordinates = search in
+    let u : tie.After-u32-at = search in
+    let n : tie.After-stop-count = search in
+    let s : tie.Start = search in
+    let input = s .args .input .now in
+    let end = p .put-join .ensures in
+    let text = rw (
+      x .read-coordinates .ensures,
+      y .read-coordinates2 .ensures,
+      length-coordinates input 8 (n .stop-count .result),
+      rest-all input (l .head-length .result),
+      l .head-length .ensures,
+      u .u32-at .ensures,
+      n .stop-count .ensures,
+    ) at (end .0) in
+    (text, end .1)
 
 pub put-request-spec : {M : Type 1} → statement M
 put-request-spec =

@@ -11,7 +11,7 @@ use Rattle.console.proofs.line.put_stops.Tie as tie
 
 abbrev Inv-loop : tie.InvT-loop
 Inv-loop out₀ at dist site cue k used n next₀ i₀ out next i =
-    (i ≤ n) × (next ≤ at + 2843 * i) × (length out ≡ length out₀) × Parts (stopLine dist site cue k used) n out₀ at out next i
+    (i ≤ n) × (next ≤ at + stopRoom * i) × (length out ≡ length out₀) × Parts (stopLine dist site cue k used) n out₀ at out next i
 
 abbrev μ-loop : tie.MeasureT-loop
 μ-loop out₀ at dist site cue k used n next₀ i₀ out next i = n - i

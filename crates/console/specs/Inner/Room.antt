@@ -1,0 +1,30 @@
+-- Room for the output: what the code that prints an answer needs of it.
+use Prim.Native.Nat.{ℕ, _+_, _*_, _≤_}
+use mathlib.Core.List.{List}
+use Rattle.base.specs.Refusal.{Outcome, accepted, refused}
+use Rattle.join.specs.Join.{Result}
+use Rattle.list.specs.Inner.Keeping.{Long}
+use Rattle.list.specs.Lists.{Lists}
+use Rattle.search.specs.Limits.{maxK}
+use Rattle.console.specs.Limits.{requestStops}
+
+-- no line of counts and no line of a stop is longer; so is no output
+abbrev pub countsRoom : ℕ
+countsRoom = 53
+
+abbrev pub stopRoom : ℕ
+stopRoom = 2843
+
+abbrev pub outputRoom : ℕ
+outputRoom = countsRoom + requestStops * stopRoom
+
+-- the places are in the slices, and the text fits its room
+pub record Fitting (n k used : ℕ) (l : Lists) : Type 0 where
+  pub stops : n ≤ requestStops
+  pub few : used ≤ maxK
+  pub some : used ≤ k
+  pub long : Long l (n * k)
+
+abbrev pub Printable : ℕ → ℕ → Lists → Outcome Result → Type 0
+Printable n k l (accepted r) = Fitting n k (r .used) l
+Printable n k l (refused number block) = Unit
