@@ -23,3 +23,9 @@ module _ (f : ℕ → Bool) where
 
   pub every-fails : (n i : ℕ) → i < n → f i ≡ false → every f n ≡ false
   every-fails n i l e = by-test (every f n) (λ t. clash (every-at n i t l) e) (λ q. q)
+
+-- tests that agree below n
+pub every-same : (f g : ℕ → Bool) (n : ℕ) → ((i : ℕ) → i < n → f i ≡ g i) → every f n ≡ every g n
+unfolding every
+every-same f g zero h = refl
+every-same f g (suc n) h = rw (every-same f g n (λ i l. h i (omega arith)), h n (omega arith))
