@@ -28,7 +28,7 @@ use Rattle.plan.proofs.Measures.{closer-by-corners}
 use Rattle.plan.proofs.Tables.{range-length, range-at}
 use Rattle.search.proofs.Lists.{all-map, range-below}
 use Rattle.search.proofs.SameEntries.{total-same}
-use Rattle.prune.specs.Inner.Tables.{fars, nears, FarTable, belowAll}
+use Rattle.prune.specs.Inner.Tables.{fars, nears, FarTable, belowAll, sumBelow}
 
 -- ---- a part of a table filled tile by tile: one turn of the loop, and its end
 
@@ -58,13 +58,14 @@ module _ (f : List ℕ) (h : Header) (dir : directory f ≡ accepted h) (o : Lis
       let most = tiles-most f h dir in
       let size = range-length g 0 (h .tiles) in
       let long = table .long in
+      let part = map g (range 0 (h .tiles)) in
       rw e (record {
-        long = length-over d (c * maxTiles) (map g (range 0 (h .tiles))) ∙ long;
+        long = length-over d (c * maxTiles) part ∙ long;
         at = λ i t j u. by-test (ltb i c)
             (λ b. let k = ltb-true i c b in
-            getD-before d (c * maxTiles) (i * maxTiles + t) (map g (range 0 (h .tiles))) (omega arith) ∙ table .at i t k u)
+            getD-before d (c * maxTiles) (i * maxTiles + t) part (omega arith) ∙ table .at i t k u)
             (λ b. let q : i ≡ c = omega (arith, ltb-false i c b) in
-            rw q (getD-run d (c * maxTiles) t (map g (range 0 (h .tiles))) (omega arith) (omega arith)
+            rw q (getD-run d (c * maxTiles) t part (omega arith) (omega arith)
             ∙ range-at g 0 (h .tiles) t u ∙ rw (zero-add t)));
       })
 
@@ -79,11 +80,12 @@ module _ (f : List ℕ) (h : Header) (dir : directory f ≡ accepted h) (o : Lis
         ∙ sym (closer-by-corners f h dir v e t l below)
 
     -- so the sum over the tables decides
-    pub sum-prunes : (k : ℕ) → leb k (total (belowAll d (nears f h o t)) (ranked (entries f h)) (range 0 (h .tiles)))
-        ≡ pruned (entries f h) o k t
+    pub sum-prunes : (k : ℕ) → leb k (sumBelow f h d (nears f h o t) 0 (h .tiles)) ≡ pruned (entries f h) o k t
     unfolding pruned
-    sum-prunes k = ap (leb k) (total-same _ _ _ _ (range 0 (h .tiles))
-        (all-map (range 0 (h .tiles)) (λ e l. (tells-closer e l, refl)) (range-below 0 (h .tiles) (h .tiles) (omega arith))))
+    sum-prunes k =
+        let ts = range 0 (h .tiles) in
+        let all = range-below 0 (h .tiles) (h .tiles) (omega arith) in
+        ap (leb k) (total-same _ _ _ _ ts (all-map ts (λ e l. (tells-closer e l, refl)) all))
 
 -- no tile is far below near from each corner that is not from the first
 pub not-below : (d near : List ℕ) (e : ℕ) → getD near 0 0 ≤ getD d e 0 → belowAll d near e ≡ false

@@ -10,10 +10,10 @@ ghost use Rattle.blocks.specs.Layout.{maxSites, maxTiles};
 ghost use Rattle.codec.specs.Over.{over};
 ghost use Rattle.plan.specs.FilePlan.{entries};
 ghost use Rattle.plan.specs.Inner.Seam.{TileOf, ValidRegion, cornerCount};
-ghost use Rattle.search.specs.Lists.{range, bit, total};
+ghost use Rattle.search.specs.Lists.{bit};
 ghost use Rattle.search.specs.Plan.{ranked};
 ghost use Rattle.search.specs.Pruning.{pruned, prunedCount};
-ghost use Rattle.prune.specs.Inner.Tables.{farSize, FarTable, belowAll, few};
+ghost use Rattle.prune.specs.Inner.Tables.{farSize, FarTable, belowAll, sumBelow, few};
 ghost use Rattle.prune.specs.Prune.{pruneMarks};
 use crate::compare;
 use crate::tables;
@@ -38,8 +38,8 @@ fn weight(f: &[u8], h: Header, far: &[u64], e: usize, near: [u64; CORNERS]) -> u
     0
 }
 
-// Whether those of the tiles from `from` to `to` - 1 add up to at least k. It stops as soon as they do, and looks only at tiles
-// that pass the test of the first corner.
+// Whether those of the tiles from `from` to `to` - 1 add up to at least k. It stops as soon as they do, and looks only
+// at tiles that pass the test of the first corner.
 fn reaches_among(
     f: &[u8],
     h: Header,
@@ -51,8 +51,7 @@ fn reaches_among(
 ) -> bool
     requires { ⌜ (directory (now f) ≡ accepted h) × (length (now far) ≡ farSize) ⌝ }
     requires { ⌜ (from ≤ to) × (to ≤ h .tiles) ⌝ }
-    ensures { λ r. ⌜ r
-        ≡ leb k (total (belowAll (now (far .entry)) near) (ranked (entries (now (f .entry)) h)) (range from (to - from))) ⌝ }
+    ensures { λ r. ⌜ r ≡ leb k (sumBelow (now (f .entry)) h (now (far .entry)) near from (to - from)) ⌝ }
 {
     let mut sum: usize = 0;
     let mut e = compare::next_below(far, from, to, near[0]);
@@ -74,12 +73,11 @@ fn few_after(t: usize, tiles: usize) -> usize
     if tiles - t < FEW { tiles } else { t + FEW }
 }
 
-// Whether those of all tiles add up to at least k. A few tiles from `middle` on, which lie about O, are tried first: where the
-// tile that near is of is far from O, they mostly do it.
+// Whether those of all tiles add up to at least k. A few tiles from `middle` on, which lie about O, are tried first:
+// against a tile far from O they mostly do it.
 fn reaches(f: &[u8], h: Header, far: &[u64], middle: usize, near: [u64; CORNERS], k: usize) -> bool
     requires { ⌜ (directory (now f) ≡ accepted h) × (length (now far) ≡ farSize) × (middle ≤ h .tiles) ⌝ }
-    ensures { λ r. ⌜ r
-        ≡ leb k (total (belowAll (now (far .entry)) near) (ranked (entries (now (f .entry)) h)) (range 0 (h .tiles))) ⌝ }
+    ensures { λ r. ⌜ r ≡ leb k (sumBelow (now (f .entry)) h (now (far .entry)) near 0 (h .tiles)) ⌝ }
 {
     let to = few_after(middle, h.tiles);
     if reaches_among(f, h, far, near, middle, to, k) {
@@ -100,8 +98,8 @@ fn prune_tile(f: &[u8], h: Header, far: &[u64], middle: usize, o: Region, k: usi
     0
 }
 
-// A tile that lies about O: of the first `tiles` the one with the least far from two opposite corners. It is only where the sums
-// start: nothing rests on it.
+// A tile that lies about O: of the first `tiles` the one with the least far from two opposite corners. It is only where
+// the sums start: nothing rests on it.
 fn middle_tile(far: &[u64], tiles: usize) -> usize
     requires { ⌜ (tiles ≤ maxTiles) × (length (now far) ≡ farSize) ⌝ }
     ensures { λ r. ⌜ r ≤ tiles ⌝ }

@@ -4,6 +4,7 @@
 --   fars, nears  far from a stop to each tile; near from each corner to a tile
 --   FarTable     the parts of the first corners are filled
 --   belowAll     a tile is far below near, from each corner
+--   sumBelow     how many sites rank of those of some tiles that are
 --   FirstBelow   the first tile that is, from one corner
 --   few          how many tiles are tried first
 use Prim.Native.Nat.{ℕ, _+_, _*_, _<_, _≤_}
@@ -18,8 +19,8 @@ use Rattle.blocks.specs.Layout.{maxTiles}
 use Rattle.blocks.specs.declared.header.Header.{Header}
 use Rattle.plan.specs.FilePlan.{entries}
 use Rattle.plan.specs.Inner.Seam.{cornerOf, cornerCount, far}
-use Rattle.search.specs.Lists.{range}
-use Rattle.search.specs.Plan.{near}
+use Rattle.search.specs.Lists.{range, total}
+use Rattle.search.specs.Plan.{near, ranked}
 
 abbrev pub farSize : ℕ
 farSize = cornerCount * maxTiles
@@ -37,7 +38,12 @@ pub record FarTable (f : List ℕ) (h : Header) (o : List (List ℤ)) (n : ℕ) 
 unfoldable pub belowAll : List ℕ → List ℕ → ℕ → Bool
 belowAll table near e = every (λ c. ltb (getD table (c * maxTiles + e) 0) (getD near c 0)) cornerCount
 
--- from one tile on the first before `to` that is far below near, from the corner whose part stands first; `to` if there is none
+-- of the n tiles from a on
+abbrev pub sumBelow : List ℕ → Header → List ℕ → List ℕ → ℕ → ℕ → ℕ
+sumBelow f h table near a n = total (belowAll table near) (ranked (entries f h)) (range a n)
+
+-- from one tile on the first before `to` that is far below near, from the corner whose part stands first; `to` if
+-- there is none
 pub record FirstBelow (table : List ℕ) (near from to e : ℕ) : Type 0 where
   pub after : from ≤ e
   pub within : e ≤ to

@@ -1,5 +1,5 @@
 use Prim.Native.Nat.{ℕ, _+_, _-_, _*_, _<_, _≤_}
-use mathlib.Core.Bool.{cond}
+use mathlib.Core.Bool.{Bool, cond}
 use mathlib.Core.Path.{_≡_, ap, sym}
 use native.Mathlib.Omega.{arith}
 use lib.Dec.{leb}
@@ -8,9 +8,8 @@ use borrow.Author.Needs.{needs}
 use borrow.Author.Tests.{le-leb}
 use Rattle.blocks.specs.Layout.{maxSites, maxTiles}
 use Rattle.plan.specs.FilePlan.{entries}
-use Rattle.search.specs.Lists.{range, total}
 use Rattle.search.specs.Plan.{ranked}
-use Rattle.prune.specs.Inner.Tables.{belowAll, FirstBelow}
+use Rattle.prune.specs.Inner.Tables.{belowAll, sumBelow, FirstBelow}
 use Rattle.prune.proofs.Corners.{tiles-most, not-below}
 use Rattle.prune.proofs.Summing.{sum-turn, sum-skip, sum-done}
 use Rattle.prune.proofs.marking.reaches_among.Statement.{statement}
@@ -19,17 +18,21 @@ use Rattle.prune.proofs.marking.reaches_among.Tie as tie
 abbrev Inv-loop : tie.InvT-loop
 Inv-loop f h far from to k near sum₀ e₀ sum e =
     (from ≤ e) × (e ≤ to) × (sum ≤ maxSites * e)
-    × (sum + total (belowAll far near) (ranked (entries f h)) (range e (to - e))
-    ≡ total (belowAll far near) (ranked (entries f h)) (range from (to - from)))
+    × (sum + sumBelow f h far near e (to - e) ≡ sumBelow f h far near from (to - from))
 
 abbrev μ-loop : tie.MeasureT-loop
 μ-loop f h far from to k near sum₀ e₀ sum e = to - e
 
 -- what is left to sum from a tile on
 abbrev rest : tie.Start Inv-loop μ-loop → ℕ → ℕ
-rest s e =
-    total (belowAll (s .args .far .now) (s .args .t4)) (ranked (entries (s .args .f .now) (s .args .h)))
-    (range e (s .args .to - e))
+rest s e = sumBelow (s .args .f .now) (s .args .h) (s .args .far .now) (s .args .t4) e (s .args .to - e)
+
+-- which tiles add, and what
+abbrev adds : tie.Start Inv-loop μ-loop → ℕ → Bool
+adds s = belowAll (s .args .far .now) (s .args .t4)
+
+abbrev sites : tie.Start Inv-loop μ-loop → ℕ → ℕ
+sites s = ranked (entries (s .args .f .now) (s .args .h))
 
 most : (s : tie.Start Inv-loop μ-loop) → s .args .h .tiles ≤ maxTiles
 most s = tiles-most (s .args .f .now) (s .args .h) (s .pre .0 .0)
@@ -38,15 +41,13 @@ most s = tiles-most (s .args .f .now) (s .args .h) (s .pre .0 .0)
 passed : (s : tie.Start Inv-loop μ-loop) {a r : ℕ}
     → FirstBelow (s .args .far .now) (getD (s .args .t4) 0 0) a (s .args .to) r → rest s r ≡ rest s a
 passed s {a} {r} first =
-    sum-skip (belowAll (s .args .far .now) (s .args .t4)) (ranked (entries (s .args .f .now) (s .args .h))) a r (s .args .to)
-    (first .after) (first .within) (λ i l u. not-below (s .args .far .now) (s .args .t4) i (first .none i l u))
+    sum-skip (adds s) (sites s) a r (s .args .to) (first .after) (first .within)
+    (λ i l u. not-below (s .args .far .now) (s .args .t4) i (first .none i l u))
 
 -- a tile's turn
 turn : (s : tie.Start Inv-loop μ-loop) (e w : ℕ) → e < s .args .to
-    → w ≡ cond (belowAll (s .args .far .now) (s .args .t4) e) (ranked (entries (s .args .f .now) (s .args .h)) e) 0
-    → w + rest s (e + 1) ≡ rest s e
-turn s e w l q =
-    rw q (sum-turn (belowAll (s .args .far .now) (s .args .t4)) (ranked (entries (s .args .f .now) (s .args .h))) e (s .args .to) l)
+    → w ≡ cond (adds s e) (sites s e) 0 → w + rest s (e + 1) ≡ rest s e
+turn s e w l q = rw q (sum-turn (adds s) (sites s) e (s .args .to) l)
 
 array-read-next-below : tie.Need-array-read-next-below Inv-loop μ-loop
 array-read-next-below c = search needs
@@ -112,8 +113,7 @@ returns-2 : tie.Need-returns-2 Inv-loop μ-loop
 returns-2 c =
     let s : tie.Start Inv-loop μ-loop = search in
     let l : tie.At-loop Inv-loop μ-loop = search in
-    let p = belowAll (s .args .far .now) (s .args .t4) in
-    let t = sum-done p (ranked (entries (s .args .f .now) (s .args .h))) (l .loop .e) (s .args .to) (search needs) in
+    let t = sum-done (adds s) (sites s) (l .loop .e) (s .args .to) (search needs) in
     ap (leb (s .args .k)) (omega (arith, l .loop .inv .3, t))
 
 pub reaches-among-spec : {M : Type 1} → statement M

@@ -1,4 +1,4 @@
-use Prim.Native.Nat.{_-_, _≤_}
+use Prim.Native.Nat.{_-_, _<_, _≤_}
 use mathlib.Core.Path.{_≡_, sym, _∙_}
 use native.Mathlib.Omega.{arith}
 use borrow.Author.Needs.{needs}
@@ -42,7 +42,8 @@ loop-again c =
     let p : tie.After-corner-of Inv-loop μ-loop = search in
     let a : tie.After-fill-far Inv-loop μ-loop = search in
     let e = rw (p .corner-of .ensures .0) at (a .fill-far .ensures) in
-    (search needs, fill-corner (s .args .f .now) (s .args .h) (s .pre .0) (s .args .o) (search needs) (l .loop .inv .1) e)
+    let below : l .loop .c < cornerCount = search needs in
+    (search needs, fill-corner (s .args .f .now) (s .args .h) (s .pre .0) (s .args .o) below (l .loop .inv .1) e)
 
 same-length : tie.Need-same-length Inv-loop μ-loop
 same-length c =

@@ -62,7 +62,8 @@ loop-again c =
     let first = s .args .c * maxTiles in (
       search needs,
       length-set (l .loop .far) (first + l .loop .t) (c .far .result) ∙ l .loop .inv .1,
-      rw (c .far .ensures) (part-turn g first (l .loop .far) (l .loop .t) (s .args .h .tiles) (search needs) ∙ l .loop .inv .2),
+      rw (c .far .ensures)
+          (part-turn g first (l .loop .far) (l .loop .t) (s .args .h .tiles) (search needs) ∙ l .loop .inv .2),
     )
 
 same-length : tie.Need-same-length Inv-loop μ-loop
@@ -72,8 +73,8 @@ returns : tie.Need-returns Inv-loop μ-loop
 returns c =
     let s : tie.Start Inv-loop μ-loop = search in
     let l : tie.At-loop Inv-loop μ-loop = search in
-    part-done (seam.far (s .args .f .now) (s .args .p)) (s .args .c * maxTiles) (l .loop .far) (l .loop .t) (s .args .h .tiles)
-    (search needs) ∙ l .loop .inv .2
+    let g = seam.far (s .args .f .now) (s .args .p) in
+    part-done g (s .args .c * maxTiles) (l .loop .far) (l .loop .t) (s .args .h .tiles) (search needs) ∙ l .loop .inv .2
 
 pub fill-far-spec : {M : Type 1} → statement M
 fill-far-spec =

@@ -59,8 +59,8 @@ returns : tie.Need-returns Inv-loop μ-loop
 returns c =
     let s : tie.Start Inv-loop μ-loop = search in
     let l : tie.At-loop Inv-loop μ-loop = search in
-    fill-done (λ i. plan.near (entries (s .args .f .now) (s .args .h)) (cornerOf (s .args .o) i) (s .args .t)) (l .loop .near)
-    (l .loop .c) cornerCount (search needs) ∙ l .loop .inv .2
+    let g : ℕ → ℕ = λ i. plan.near (entries (s .args .f .now) (s .args .h)) (cornerOf (s .args .o) i) (s .args .t) in
+    fill-done g (l .loop .near) (l .loop .c) cornerCount (search needs) ∙ l .loop .inv .2
 
 pub near-from-spec : {M : Type 1} → statement M
 near-from-spec =
