@@ -29,3 +29,9 @@ pub every-first : (f : ℕ → Bool) (n : ℕ) → every f (suc n) ≡ f 0 && ev
 unfolding every
 every-first f zero = rw and-true
 every-first f (suc n) = rw (every-first f n) (and-assoc (f 0) (every (λ i. f (suc i)) n) (f (suc n)))
+
+-- tests that agree below n
+pub every-same : (f g : ℕ → Bool) (n : ℕ) → ((i : ℕ) → i < n → f i ≡ g i) → every f n ≡ every g n
+unfolding every
+every-same f g zero h = refl
+every-same f g (suc n) h = rw (every-same f g n (λ i l. h i (omega arith)), h n (omega arith))

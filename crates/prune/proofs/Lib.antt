@@ -1,2 +1,2 @@
-pub mod Closer
 pub mod Summing
+pub mod Corners

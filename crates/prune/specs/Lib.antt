@@ -1,2 +1,2 @@
 pub mod Prune
-pub mod Corners
+pub mod Inner

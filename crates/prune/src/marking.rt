@@ -1,151 +1,136 @@
 // The sum that prunes a tile, and the marks of all tiles.
 ghost use mathlib.Core.Path.{_≡_};
-ghost use mathlib.Core.Bool.{true, cond};
-ghost use Prim.Native.Nat.{_-_, _<_, _≤_};
+ghost use mathlib.Core.Bool.{cond};
+ghost use Prim.Native.Nat.{_+_, _-_, _≤_, min};
 ghost use lib.Dec.{leb};
 ghost use lib.ListN.{length};
 ghost use Rattle.base.specs.Refusal.{accepted};
-ghost use Rattle.blocks.specs.Directory.{directory, boxAt, countAt};
+ghost use Rattle.blocks.specs.Directory.{directory};
+ghost use Rattle.blocks.specs.Layout.{maxSites, maxTiles};
 ghost use Rattle.codec.specs.Over.{over};
-ghost use Rattle.geometry.specs.Box.{validBox};
-ghost use Rattle.geometry.specs.Margin.{closer};
-ghost use Rattle.search.specs.Lists.{range, bit, total};
+ghost use Rattle.plan.specs.FilePlan.{entries};
+ghost use Rattle.plan.specs.Inner.Seam.{TileOf, ValidRegion, cornerCount};
+ghost use Rattle.search.specs.Lists.{bit};
+ghost use Rattle.search.specs.Plan.{ranked};
 ghost use Rattle.search.specs.Pruning.{pruned, prunedCount};
-ghost use Rattle.prune.specs.Corners.{FarTables, NearOf};
-ghost use Rattle.plan.specs.FilePlan.{planOf};
+ghost use Rattle.prune.specs.Inner.Tables.{farSize, FarTable, belowAll, sumBelow, few};
 ghost use Rattle.prune.specs.Prune.{pruneMarks};
-use crate::corners;
-use crate::corners::Nears;
-use blocks::directory;
+use crate::compare;
+use crate::tables;
+use blocks::header::Header;
+use blocks::layout::MAX_TILES;
+use plan::region::CORNERS;
+use plan::region::Region;
+use plan::sites;
 
-// The count of tile e where it is closer, else 0.
-fn weight(
-    f: &[u8],
-    tiles: usize,
-    fa: &[u64],
-    fb: &[u64],
-    fc: &[u64],
-    fd: &[u64],
-    e: usize,
-    o: [[i32; 2]; 2],
-    b: [[i32; 2]; 2],
-    n: Nears,
-) -> usize
-    requires { ⌜ (directory (now f) ≡ accepted tiles) × ((e < tiles) × ((validBox o ≡ true) × (validBox b ≡ true))) ⌝ }
-    requires { ⌜ FarTables (now f) tiles o (now fa) (now fb) (now fc) (now fd) × NearOf o b n ⌝ }
-    ensures { λ r. ⌜ (r ≡ cond (closer o (boxAt (now (f .entry)) e) b) (countAt (now (f .entry)) e) 0) × (r ≤ 40) ⌝ }
+// How many tiles are tried first.
+const FEW: usize = 32;
+
+// How many sites of tile e rank where it is far below near from each corner, else 0.
+fn weight(f: &[u8], h: Header, far: &[u64], e: usize, near: [u64; CORNERS]) -> usize
+    requires { ⌜ TileOf (now f) h e × (length (now far) ≡ farSize) ⌝ }
+    ensures { λ r. ⌜ (r ≡ cond (belowAll (now (far .entry)) near e) (ranked (entries (now (f .entry)) h) e) 0)
+        × (r ≤ maxSites) ⌝ }
 {
-    if corners::below(fa, fb, fc, fd, e, n) {
-        return directory::count_at(f, tiles, e);
+    if compare::below(far, e, near) {
+        return sites::ranked(f, h, e);
     }
     0
 }
 
-// Whether the counts of those tiles from `from` to `to` - 1 that are closer than box b add up to at least k. It stops as soon as
-// they do, and looks only at tiles that pass the test of the first corner.
+// Whether those of the tiles from `from` to `to` - 1 add up to at least k. It stops as soon as they do, and looks only
+// at tiles that pass the test of the first corner.
 fn reaches_among(
     f: &[u8],
-    tiles: usize,
-    fa: &[u64],
-    fb: &[u64],
-    fc: &[u64],
-    fd: &[u64],
-    o: [[i32; 2]; 2],
-    b: [[i32; 2]; 2],
-    n: Nears,
+    h: Header,
+    far: &[u64],
+    near: [u64; CORNERS],
     from: usize,
     to: usize,
     k: usize,
 ) -> bool
-    requires { ⌜ (directory (now f) ≡ accepted tiles) × ((validBox o ≡ true) × (validBox b ≡ true)) ⌝ }
-    requires { ⌜ FarTables (now f) tiles o (now fa) (now fb) (now fc) (now fd) × NearOf o b n ⌝ }
-    requires { ⌜ (from ≤ to) × (to ≤ tiles) ⌝ }
-    ensures { λ r. ⌜ r ≡ leb k (total (λ e. closer o (boxAt (now (f .entry)) e) b) (countAt (now (f .entry))) (range from (to - from))) ⌝ }
+    requires { ⌜ (directory (now f) ≡ accepted h) × (length (now far) ≡ farSize) ⌝ }
+    requires { ⌜ (from ≤ to) × (to ≤ h .tiles) ⌝ }
+    ensures { λ r. ⌜ r ≡ leb k (sumBelow (now (f .entry)) h (now (far .entry)) near from (to - from)) ⌝ }
 {
     let mut sum: usize = 0;
-    let mut e = corners::next_below(fa, from, to, n.a);
+    let mut e = compare::next_below(far, from, to, near[0]);
     while e < to {
-        sum += weight(f, tiles, fa, fb, fc, fd, e, o, b, n);
+        sum += weight(f, h, far, e, near);
         if k <= sum {
             return true;
         }
-        e = corners::next_below(fa, e + 1, to, n.a);
+        e = compare::next_below(far, e + 1, to, near[0]);
     }
     k <= sum
 }
 
-// Whether the counts of all tiles closer than box b add up to at least k. A few tiles from `middle` on, which lie about O, are
-// tried first: where b is far from O, they mostly do it.
-fn reaches(
-    f: &[u8],
-    tiles: usize,
-    fa: &[u64],
-    fb: &[u64],
-    fc: &[u64],
-    fd: &[u64],
-    middle: usize,
-    o: [[i32; 2]; 2],
-    b: [[i32; 2]; 2],
-    k: usize,
-) -> bool
-    requires { ⌜ (directory (now f) ≡ accepted tiles) × ((validBox o ≡ true) × (validBox b ≡ true)) ⌝ }
-    requires { ⌜ FarTables (now f) tiles o (now fa) (now fb) (now fc) (now fd) × (middle ≤ tiles) ⌝ }
-    ensures { λ r. ⌜ r ≡ leb k (total (λ e. closer o (boxAt (now (f .entry)) e) b) (countAt (now (f .entry))) (range 0 tiles)) ⌝ }
+// Where the few tiles from t on end.
+fn few_after(t: usize, tiles: usize) -> usize
+    requires { ⌜ t ≤ tiles ⌝ }
+    ensures { λ r. ⌜ r ≡ min tiles (t + few) ⌝ }
 {
-    let n = corners::near_from(o, b);
-    let to = corners::few_after(middle, tiles);
-    if reaches_among(f, tiles, fa, fb, fc, fd, o, b, n, middle, to, k) {
-        return true;
-    }
-    reaches_among(f, tiles, fa, fb, fc, fd, o, b, n, 0, tiles, k)
+    if tiles - t < FEW { tiles } else { t + FEW }
 }
 
-// 1 where tile t is pruned, else 0.
-fn prune_tile(
-    f: &[u8],
-    tiles: usize,
-    fa: &[u64],
-    fb: &[u64],
-    fc: &[u64],
-    fd: &[u64],
-    middle: usize,
-    o: [[i32; 2]; 2],
-    k: usize,
-    t: usize,
-) -> u8
-    requires { ⌜ (directory (now f) ≡ accepted tiles) × ((t < tiles) × (validBox o ≡ true)) ⌝ }
-    requires { ⌜ FarTables (now f) tiles o (now fa) (now fb) (now fc) (now fd) × (middle ≤ tiles) ⌝ }
-    ensures { λ r. ⌜ r ≡ bit (pruned (planOf (now (f .entry)) tiles o k) t) ⌝ }
+// Whether those of all tiles add up to at least k. A few tiles from `middle` on, which lie about O, are tried first:
+// against a tile far from O they mostly do it.
+fn reaches(f: &[u8], h: Header, far: &[u64], middle: usize, near: [u64; CORNERS], k: usize) -> bool
+    requires { ⌜ (directory (now f) ≡ accepted h) × (length (now far) ≡ farSize) × (middle ≤ h .tiles) ⌝ }
+    ensures { λ r. ⌜ r ≡ leb k (sumBelow (now (f .entry)) h (now (far .entry)) near 0 (h .tiles)) ⌝ }
 {
-    let b = directory::box_at(f, tiles, t);
-    if reaches(f, tiles, fa, fb, fc, fd, middle, o, b, k) {
-        return 1;
+    let to = few_after(middle, h.tiles);
+    if reaches_among(f, h, far, near, middle, to, k) {
+        return true;
+    }
+    reaches_among(f, h, far, near, 0, h.tiles, k)
+}
+
+// The mark of tile t: 1 where it is pruned, else 0.
+fn prune_tile(f: &[u8], h: Header, far: &[u64], middle: usize, o: Region, k: usize, t: usize) -> u8
+    requires { ⌜ TileOf (now f) h t × ValidRegion o × (middle ≤ h .tiles) ⌝ }
+    requires { ⌜ FarTable (now f) h o cornerCount (now far) ⌝ }
+    ensures { λ r. ⌜ r ≡ bit (pruned (entries (now (f .entry)) h) o k t) ⌝ }
+{
+    if reaches(f, h, far, middle, tables::near_from(f, h, o, t), k) {
+        return search::PRUNED;
     }
     0
 }
 
-// The marks of all tiles, and the number pruned.
-fn prune_all(
-    f: &[u8],
-    tiles: usize,
-    fa: &[u64],
-    fb: &[u64],
-    fc: &[u64],
-    fd: &[u64],
-    o: [[i32; 2]; 2],
-    k: usize,
-    marks: &mut [u8],
-) -> usize
-    requires { ⌜ (directory (now f) ≡ accepted tiles) × ((tiles ≤ length (now marks)) × (validBox o ≡ true)) ⌝ }
-    requires { ⌜ FarTables (now f) tiles o (now fa) (now fb) (now fc) (now fd) ⌝ }
-    ensures { λ r. ⌜ (r ≡ prunedCount (planOf (now (f .entry)) tiles o k)) × (r ≤ tiles) ⌝ }
-    ensures { λ r. ⌜ now (marks .exit) ≡ over (now (marks .entry)) 0 (pruneMarks (now (f .entry)) tiles o k) ⌝ }
+// A tile that lies about O: of the first `tiles` the one with the least far from two opposite corners. It is only where
+// the sums start: nothing rests on it.
+fn middle_tile(far: &[u64], tiles: usize) -> usize
+    requires { ⌜ (tiles ≤ maxTiles) × (length (now far) ≡ farSize) ⌝ }
+    ensures { λ r. ⌜ r ≤ tiles ⌝ }
 {
-    let middle = corners::middle_tile(fa, fd, tiles);
-    let mut count: usize = 0;
+    let opposite = (CORNERS - 1) * MAX_TILES;
+    let mut middle: usize = 0;
+    let mut least: u64 = 18_446_744_073_709_551_615;
     let mut t: usize = 0;
     while t < tiles {
-        let x = prune_tile(f, tiles, fa, fb, fc, fd, middle, o, k, t);
+        let both = far[t] / 2 + far[opposite + t] / 2;
+        if both < least {
+            middle = t;
+            least = both;
+        }
+        t += 1;
+    }
+    middle
+}
+
+// The marks of all tiles, and the number pruned.
+fn prune_all(f: &[u8], h: Header, far: &[u64], o: Region, k: usize, marks: &mut [u8]) -> usize
+    requires { ⌜ (directory (now f) ≡ accepted h) × (h .tiles ≤ length (now marks)) × ValidRegion o ⌝ }
+    requires { ⌜ FarTable (now f) h o cornerCount (now far) ⌝ }
+    ensures { λ r. ⌜ (r ≡ prunedCount (entries (now (f .entry)) h) o k) × (r ≤ h .tiles) ⌝ }
+    ensures { λ r. ⌜ now (marks .exit) ≡ over (now (marks .entry)) 0 (pruneMarks (now (f .entry)) h o k) ⌝ }
+{
+    let middle = middle_tile(far, h.tiles);
+    let mut count: usize = 0;
+    let mut t: usize = 0;
+    while t < h.tiles {
+        let x = prune_tile(f, h, far, middle, o, k, t);
         marks[t] = x;
         count += x as usize;
         t += 1;
@@ -153,23 +138,13 @@ fn prune_all(
     count
 }
 
-// The same, with the tables made first.
-pub fn mark_pruned(f: &[u8], tiles: usize, o: [[i32; 2]; 2], k: usize, marks: &mut [u8]) -> usize
-    requires { ⌜ (directory (now f) ≡ accepted tiles) × ((tiles ≤ length (now marks)) × (validBox o ≡ true)) ⌝ }
-    ensures { λ r. ⌜ (r ≡ prunedCount (planOf (now (f .entry)) tiles o k)) × (r ≤ tiles) ⌝ }
-    ensures { λ r. ⌜ now (marks .exit) ≡ over (now (marks .entry)) 0 (pruneMarks (now (f .entry)) tiles o k) ⌝ }
+// The same, with the table made first.
+pub fn mark_pruned(f: &[u8], h: Header, o: Region, k: usize, marks: &mut [u8]) -> usize
+    requires { ⌜ (directory (now f) ≡ accepted h) × (h .tiles ≤ length (now marks)) × ValidRegion o ⌝ }
+    ensures { λ r. ⌜ (r ≡ prunedCount (entries (now (f .entry)) h) o k) × (r ≤ h .tiles) ⌝ }
+    ensures { λ r. ⌜ now (marks .exit) ≡ over (now (marks .entry)) 0 (pruneMarks (now (f .entry)) h o k) ⌝ }
 {
-    let low_x = o[0][0];
-    let high_x = o[0][1];
-    let low_y = o[1][0];
-    let high_y = o[1][1];
-    let mut fa = [0u64; 960];
-    let mut fb = [0u64; 960];
-    let mut fc = [0u64; 960];
-    let mut fd = [0u64; 960];
-    corners::fill_far(f, tiles, [low_x, low_y], &mut fa);
-    corners::fill_far(f, tiles, [low_x, high_y], &mut fb);
-    corners::fill_far(f, tiles, [high_x, low_y], &mut fc);
-    corners::fill_far(f, tiles, [high_x, high_y], &mut fd);
-    prune_all(f, tiles, &fa, &fb, &fc, &fd, o, k, marks)
+    let mut far = [0u64; CORNERS * MAX_TILES];
+    tables::fill_corners(f, h, o, &mut far);
+    prune_all(f, h, &far, o, k, marks)
 }

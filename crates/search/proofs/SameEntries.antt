@@ -20,7 +20,7 @@ use Rattle.search.proofs.Walk.{by-outcome}
 
 -- ---- words for lists, of functions that agree on the elements
 
-total-same : {A : Type 0} (p q : A → Bool) (w v : A → ℕ) (l : List A) → All (λ a. (p a ≡ q a) × (w a ≡ v a)) l
+pub total-same : {A : Type 0} (p q : A → Bool) (w v : A → ℕ) (l : List A) → All (λ a. (p a ≡ q a) × (w a ≡ v a)) l
     → total p w l ≡ total q v l
 unfolding total
 total-same p q w v [] h = refl

@@ -1,56 +1,71 @@
-use Prim.Native.Nat.{_≤_, _+_, _-_}
+use Prim.Native.Nat.{ℕ, _+_, _-_, _<_, _≤_}
+use mathlib.Core.Bool.{Bool}
 use mathlib.Core.List.{map}
 use mathlib.Core.Path.{_≡_, refl, _∙_}
 use native.Mathlib.Omega.{arith}
 use lib.ListN.{length, length-set}
 use borrow.Author.Needs.{needs}
+use Rattle.blocks.specs.Layout.{maxTiles}
 use Rattle.codec.specs.Over.{over}
-use Rattle.plan.specs.FilePlan.{planOf}
+use Rattle.plan.specs.FilePlan.{entries}
+use Rattle.search.specs.Lists.{bit, range}
 use Rattle.search.specs.Lists as lists
-use Rattle.search.specs.Lists.{bit, count, range}
 use Rattle.search.specs.Pruning.{pruned, prunedCount}
-use Rattle.blocks.proofs.DirectoryLaws.{directory-good}
+use Rattle.plan.proofs.Tables.{fill-turn, fill-done, bit-small}
 use Rattle.prune.specs.Prune.{pruneMarks}
-use Rattle.prune.proofs.Filling.{fill-turn, fill-done}
-use Rattle.prune.proofs.Summing.{bit-small, count-turn, count-done}
+use Rattle.prune.proofs.Corners.{tiles-most}
+use Rattle.prune.proofs.Summing.{count-turn, count-done}
 use Rattle.prune.proofs.marking.prune_all.Statement.{statement}
 use Rattle.prune.proofs.marking.prune_all.Tie as tie
 
 abbrev Inv-loop : tie.InvT-loop
-Inv-loop f tiles fa fb fc fd o k marks₀ middle count₀ t₀ marks count t = (t ≤ tiles) × ((count ≤ t) × ((length marks ≡ length marks₀) × ((count + lists.count (pruned (planOf f tiles o k)) (range t (tiles - t)) ≡ prunedCount (planOf f tiles o k)) × (over marks t (map (λ i. bit (pruned (planOf f tiles o k) i)) (range t (tiles - t))) ≡ over marks₀ 0 (pruneMarks f tiles o k)))))
+Inv-loop f h far o k marks₀ middle count₀ t₀ marks count t =
+    (t ≤ h .tiles) × (count ≤ t) × (length marks ≡ length marks₀)
+    × (count + lists.count (pruned (entries f h) o k) (range t (h .tiles - t)) ≡ prunedCount (entries f h) o k)
+    × (over marks t (map (λ i. bit (pruned (entries f h) o k i)) (range t (h .tiles - t)))
+    ≡ over marks₀ 0 (pruneMarks f h o k))
 
 abbrev μ-loop : tie.MeasureT-loop
-μ-loop f tiles fa fb fc fd o k marks₀ middle count₀ t₀ marks count t = tiles - t
+μ-loop f h far o k marks₀ middle count₀ t₀ marks count t = h .tiles - t
+
+most : (s : tie.Start Inv-loop μ-loop) → s .args .h .tiles ≤ maxTiles
+most s = tiles-most (s .args .f .now) (s .args .h) (s .pre .0 .0)
+
+abbrev test : tie.Start Inv-loop μ-loop → ℕ → Bool
+test s = pruned (entries (s .args .f .now) (s .args .h)) (s .args .o) (s .args .k)
 
 middle-tile-requires : tie.Need-middle-tile-requires Inv-loop μ-loop
-middle-tile-requires c κs = let s = c .before .before .before .before .before .before in (s .pre .1 .a .long, s .pre .1 .d .long)
+middle-tile-requires c κs =
+    let s : tie.Start Inv-loop μ-loop = search in
+    (most s, s .pre .1 .long)
 
 loop-holds : tie.Need-loop-holds Inv-loop μ-loop
 unfolding prunedCount pruneMarks
 loop-holds c =
-    let d : c .before .before .before .before .before .before .before .args .tiles - 0 ≡ c .before .before .before .before .before .before .before .args .tiles = omega arith in
-    (omega arith, (omega arith, (refl, rw d (omega arith, refl))))
+    let s : tie.Start Inv-loop μ-loop = search in
+    let d : s .args .h .tiles - 0 ≡ s .args .h .tiles = omega arith in
+    (omega arith, omega arith, refl, rw d (omega arith), rw d)
 
 prune-tile-requires : tie.Need-prune-tile-requires Inv-loop μ-loop
 prune-tile-requires c κs =
-    let s = c .before .before .before .before .before .before .before .before .before in
-    ((s .pre .0 .0, (c .loop-test .taken, s .pre .0 .1 .1)), (s .pre .1, c .before .before .middle-tile .ensures))
+    let s : tie.Start Inv-loop μ-loop = search in
+    let m : tie.After-middle-tile Inv-loop μ-loop = search in
+    ((record { dir = s .pre .0 .0; below = search needs }, s .pre .0 .2, m .middle-tile .ensures), s .pre .1)
 
 slice-write-marks : tie.Need-slice-write-marks Inv-loop μ-loop
-slice-write-marks c =
-    let s = c .before .before .before .before .before .before .before .before .before .before in
-    omega (arith, s .pre .0 .1 .0)
+slice-write-marks c = let s : tie.Start Inv-loop μ-loop = search in omega (arith, s .pre .0 .1)
 
 cast-count : tie.Need-cast-count Inv-loop μ-loop
 cast-count c =
-    let s = c .before .before .before .before .before .before .before .before .before .before in
-    omega (arith, c .prune-tile .ensures, bit-small (pruned (planOf (s .args .f .now) (s .args .tiles) (s .args .o) (s .args .k)) (c .before .before .loop .t)))
+    let s : tie.Start Inv-loop μ-loop = search in
+    let l : tie.At-loop Inv-loop μ-loop = search in
+    omega (arith, c .prune-tile .ensures, bit-small (test s (l .loop .t)))
 
 add-count : tie.Need-add-count Inv-loop μ-loop
 add-count c =
-    let s = c .before .before .before .before .before .before .before .before .before .before in
-    let g = directory-good (s .args .f .now) (s .pre .0 .0) .tiles .most in
-    omega (arith, c .prune-tile .ensures, bit-small (pruned (planOf (s .args .f .now) (s .args .tiles) (s .args .o) (s .args .k)) (c .before .before .loop .t)))
+    let s : tie.Start Inv-loop μ-loop = search in
+    let l : tie.At-loop Inv-loop μ-loop = search in
+    omega (arith, most s, c .prune-tile .ensures, bit-small (test s (l .loop .t)))
 
 add-t : tie.Need-add-t Inv-loop μ-loop
 add-t c = search needs
@@ -59,25 +74,33 @@ loop-less : tie.Need-loop-less Inv-loop μ-loop
 loop-less c = search needs
 
 loop-again : tie.Need-loop-again Inv-loop μ-loop
-unfolding pruneMarks
 loop-again c =
-    let s = c .before .before .before .before .before .before .before .before .before .before in
-    let l = c .before .before .loop in
-    let h = c .before .loop-test .taken in
-    let n = length-set (l .marks) (l .t) (c .prune-tile .result) in
-    let b = bit-small (pruned (planOf (s .args .f .now) (s .args .tiles) (s .args .o) (s .args .k)) (l .t)) in
-    let q = count-turn (pruned (planOf (s .args .f .now) (s .args .tiles) (s .args .o) (s .args .k))) (l .t) (s .args .tiles) h in
-    (omega arith, (omega (arith, c .prune-tile .ensures), (n ∙ l .inv .1 .1 .0, (omega (arith, c .prune-tile .ensures, l .inv .1 .1 .1 .0), rw (c .prune-tile .ensures) (fill-turn (λ i. bit (pruned (planOf (s .args .f .now) (s .args .tiles) (s .args .o) (s .args .k)) i)) (l .marks) (l .t) (s .args .tiles) h ∙ l .inv .1 .1 .1 .1)))))
+    let s : tie.Start Inv-loop μ-loop = search in
+    let l : tie.At-loop Inv-loop μ-loop = search in
+    let i = l .loop .inv in
+    let x = c .prune-tile .ensures in
+    let t = l .loop .t in
+    let in-loop : t < s .args .h .tiles = search needs in
+    let q = count-turn (test s) t (s .args .h .tiles) in-loop in (
+      omega arith,
+      omega (arith, x, bit-small (test s t)),
+      length-set (l .loop .marks) t (c .prune-tile .result) ∙ i .2,
+      omega (arith, x, q, i .3),
+      rw x (fill-turn (λ i. bit (test s i)) (l .loop .marks) t (s .args .h .tiles) in-loop ∙ i .4),
+    )
 
 same-length : tie.Need-same-length Inv-loop μ-loop
-same-length c = c .before .loop .inv .1 .1 .0
+same-length c = let l : tie.At-loop Inv-loop μ-loop = search in l .loop .inv .2
 
 returns : tie.Need-returns Inv-loop μ-loop
 returns c =
-    let s = c .before .before .before .before .before .before .before .before .before in
-    let l = c .before .loop in
-    let q = count-done (pruned (planOf (s .args .f .now) (s .args .tiles) (s .args .o) (s .args .k))) (l .t) (s .args .tiles) (c .loop-test .left) in
-    ((omega (arith, l .inv .1 .1 .1 .0), omega arith), fill-done (λ i. bit (pruned (planOf (s .args .f .now) (s .args .tiles) (s .args .o) (s .args .k)) i)) (l .marks) (l .t) (s .args .tiles) (c .loop-test .left) ∙ l .inv .1 .1 .1 .1)
+    let s : tie.Start Inv-loop μ-loop = search in
+    let l : tie.At-loop Inv-loop μ-loop = search in
+    let past : s .args .h .tiles ≤ l .loop .t = search needs in
+    let q = count-done (test s) (l .loop .t) (s .args .h .tiles) past in (
+      (omega (arith, q, l .loop .inv .3), omega arith),
+      fill-done (λ i. bit (test s i)) (l .loop .marks) (l .loop .t) (s .args .h .tiles) past ∙ l .loop .inv .4,
+    )
 
 pub prune-all-spec : {M : Type 1} → statement M
 prune-all-spec =

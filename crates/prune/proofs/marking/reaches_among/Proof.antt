@@ -1,93 +1,120 @@
-use Prim.Native.Nat.{ℕ, _≤_, _<_, _+_, _-_, _*_}
-use mathlib.Core.Bool.{false}
+use Prim.Native.Nat.{ℕ, _+_, _-_, _*_, _<_, _≤_}
+use mathlib.Core.Bool.{Bool, cond}
 use mathlib.Core.Path.{_≡_, ap, sym}
 use native.Mathlib.Omega.{arith}
 use lib.Dec.{leb}
+use lib.ListN.{getD}
 use borrow.Author.Needs.{needs}
 use borrow.Author.Tests.{le-leb}
-use Rattle.blocks.specs.Directory.{boxAt, countAt}
-use Rattle.geometry.specs.Margin.{closer}
-use Rattle.search.specs.Lists.{range, total}
-use Rattle.blocks.proofs.DirectoryLaws.{directory-good}
-use Rattle.prune.specs.Corners.{NotBelow}
-use Rattle.prune.proofs.Closer.{not-closer}
+use Rattle.blocks.specs.Layout.{maxSites, maxTiles}
+use Rattle.plan.specs.FilePlan.{entries}
+use Rattle.search.specs.Plan.{ranked}
+use Rattle.prune.specs.Inner.Tables.{belowAll, sumBelow, FirstBelow}
+use Rattle.prune.proofs.Corners.{tiles-most, not-below}
 use Rattle.prune.proofs.Summing.{sum-turn, sum-skip, sum-done}
 use Rattle.prune.proofs.marking.reaches_among.Statement.{statement}
 use Rattle.prune.proofs.marking.reaches_among.Tie as tie
 
 abbrev Inv-loop : tie.InvT-loop
-Inv-loop f tiles fa fb fc fd o b n from to k sum₀ e₀ sum e =
-    (from ≤ e) × (e ≤ to) × (sum ≤ 40 * e) × (sum + total (λ i. closer o (boxAt f i) b) (countAt f) (range e (to - e)) ≡ total (λ i. closer o (boxAt f i) b) (countAt f) (range from (to - from)))
+Inv-loop f h far from to k near sum₀ e₀ sum e =
+    (from ≤ e) × (e ≤ to) × (sum ≤ maxSites * e)
+    × (sum + sumBelow f h far near e (to - e) ≡ sumBelow f h far near from (to - from))
 
 abbrev μ-loop : tie.MeasureT-loop
-μ-loop f tiles fa fb fc fd o b n from to k sum₀ e₀ sum e = to - e
+μ-loop f h far from to k near sum₀ e₀ sum e = to - e
 
--- the tiles passed over are not closer
-passed : (s : tie.Start Inv-loop μ-loop) (a r : ℕ) → r ≤ s .args .to → NotBelow (s .args .fa .now) (s .args .n .a) a r →
-    (i : ℕ) → a ≤ i → i < r → closer (s .args .o) (boxAt (s .args .f .now) i) (s .args .b) ≡ false
-passed s a r h below i l u =
-    not-closer (s .args .f .now) (s .args .tiles) (s .args .o) (s .args .b) (s .args .fa .now) (s .args .fb .now) (s .args .fc .now) (s .args .fd .now) (s .args .n) i
-    (s .pre .0 .0) (omega (arith, s .pre .1 .1 .1)) (s .pre .0 .1 .0) (s .pre .0 .1 .1) (search needs) (search needs) (s .pre .1 .0 .0) (s .pre .1 .0 .1) (below i l u)
+-- what is left to sum from a tile on
+abbrev rest : tie.Start Inv-loop μ-loop → ℕ → ℕ
+rest s e = sumBelow (s .args .f .now) (s .args .h) (s .args .far .now) (s .args .t4) e (s .args .to - e)
+
+-- which tiles add, and what
+abbrev adds : tie.Start Inv-loop μ-loop → ℕ → Bool
+adds s = belowAll (s .args .far .now) (s .args .t4)
+
+abbrev sites : tie.Start Inv-loop μ-loop → ℕ → ℕ
+sites s = ranked (entries (s .args .f .now) (s .args .h))
+
+most : (s : tie.Start Inv-loop μ-loop) → s .args .h .tiles ≤ maxTiles
+most s = tiles-most (s .args .f .now) (s .args .h) (s .pre .0 .0)
+
+-- the tiles passed over add nothing
+passed : (s : tie.Start Inv-loop μ-loop) {a r : ℕ}
+    → FirstBelow (s .args .far .now) (getD (s .args .t4) 0 0) a (s .args .to) r → rest s r ≡ rest s a
+passed s {a} {r} first =
+    sum-skip (adds s) (sites s) a r (s .args .to) (first .after) (first .within)
+    (λ i l u. not-below (s .args .far .now) (s .args .t4) i (first .none i l u))
+
+-- a tile's turn
+turn : (s : tie.Start Inv-loop μ-loop) (e w : ℕ) → e < s .args .to
+    → w ≡ cond (adds s e) (sites s e) 0 → w + rest s (e + 1) ≡ rest s e
+turn s e w l q = rw q (sum-turn (adds s) (sites s) e (s .args .to) l)
+
+array-read-next-below : tie.Need-array-read-next-below Inv-loop μ-loop
+array-read-next-below c = search needs
 
 next-below-requires : tie.Need-next-below-requires Inv-loop μ-loop
 next-below-requires c κs =
-    let s = c .before .before .before .before .before in
-    let long = s .pre .1 .0 .0 .a .long in
-    (s .pre .1 .1 .0, omega (arith, s .pre .1 .1 .1))
+    let s : tie.Start Inv-loop μ-loop = search in
+    (s .pre .1 .0, omega (arith, most s, s .pre .0 .1, s .pre .1 .1))
 
 loop-holds : tie.Need-loop-holds Inv-loop μ-loop
 loop-holds c =
-    let s = c .before .before .before .before .before .before in
+    let s : tie.Start Inv-loop μ-loop = search in
     let q = c .next-below .ensures in
-    let t = sum-skip (λ i. closer (s .args .o) (boxAt (s .args .f .now) i) (s .args .b)) (countAt (s .args .f .now)) (s .args .from) (c .next-below .result) (s .args .to) (q .0) (q .1) (passed s (s .args .from) (c .next-below .result) (q .1) (q .2)) in
-    (q .0, q .1, omega arith, omega (arith, t))
+    (q .after, q .within, omega arith, omega (arith, passed s q))
 
 weight-requires : tie.Need-weight-requires Inv-loop μ-loop
 weight-requires c κs =
-    let s = c .before .before .before .before .before .before .before .before in
-    ((s .pre .0 .0, (omega (arith, s .pre .1 .1 .1, c .loop-test .taken), s .pre .0 .1)), s .pre .1 .0)
+    let s : tie.Start Inv-loop μ-loop = search in
+    (record { dir = s .pre .0 .0; below = omega (arith, s .pre .1 .1) }, s .pre .0 .1)
 
 add-sum : tie.Need-add-sum Inv-loop μ-loop
 add-sum c =
-    let s = c .before .before .before .before .before .before .before .before .before in
-    let g = directory-good (s .args .f .now) (s .pre .0 .0) .tiles .most in
-    omega (arith, c .before .before .loop .inv .2, c .weight .ensures .1, s .pre .1 .1 .1, c .before .loop-test .taken)
+    let s : tie.Start Inv-loop μ-loop = search in
+    let l : tie.At-loop Inv-loop μ-loop = search in
+    omega (arith, most s, s .pre .1 .1, l .loop .inv .2, c .weight .ensures .1)
 
 returns : tie.Need-returns Inv-loop μ-loop
 returns c =
-    let s = c .before .before .before .before .before .before .before .before .before .before in
-    let l = c .before .before .before .loop in
-    let t = sum-turn (λ i. closer (s .args .o) (boxAt (s .args .f .now) i) (s .args .b)) (countAt (s .args .f .now)) (l .e) (s .args .to) (c .before .before .loop-test .taken) in
-    sym (le-leb (s .args .k) (total (λ i. closer (s .args .o) (boxAt (s .args .f .now) i) (s .args .b)) (countAt (s .args .f .now)) (range (s .args .from) (s .args .to - s .args .from))) (omega (arith, l .inv .3, c .before .weight .ensures .0, t, c .if1 .taken)))
+    let s : tie.Start Inv-loop μ-loop = search in
+    let l : tie.At-loop Inv-loop μ-loop = search in
+    let w : tie.After-weight Inv-loop μ-loop = search in
+    let t = turn s (l .loop .e) (w .weight .result) (search needs) (w .weight .ensures .0) in
+    sym (le-leb (s .args .k) (rest s (s .args .from)) (omega (arith, l .loop .inv .3, t, c .if1 .taken)))
 
 add-next-below : tie.Need-add-next-below Inv-loop μ-loop
 add-next-below c = search needs
 
+array-read-next-below-2 : tie.Need-array-read-next-below-2 Inv-loop μ-loop
+array-read-next-below-2 c = search needs
+
 next-below-requires-2 : tie.Need-next-below-requires-2 Inv-loop μ-loop
 next-below-requires-2 c κs =
-    let s = c .before .before .before .before .before .before .before .before .before .before in
-    let long = s .pre .1 .0 .0 .a .long in
-    (omega (arith, c .before .before .loop-test .taken), omega (arith, s .pre .1 .1 .1))
+    let s : tie.Start Inv-loop μ-loop = search in
+    (search needs, omega (arith, most s, s .pre .0 .1, s .pre .1 .1))
 
 loop-less : tie.Need-loop-less Inv-loop μ-loop
-loop-less c = omega (arith, c .before .before .before .loop-test .taken, c .next-below2 .ensures .0)
+loop-less c = let q = c .next-below2 .ensures .after in search needs
 
 loop-again : tie.Need-loop-again Inv-loop μ-loop
 loop-again c =
-    let s = c .before .before .before .before .before .before .before .before .before .before .before in
-    let l = c .before .before .before .before .loop in
-    let w = c .before .before .weight .ensures in
+    let s : tie.Start Inv-loop μ-loop = search in
+    let l : tie.At-loop Inv-loop μ-loop = search in
+    let w : tie.After-weight Inv-loop μ-loop = search in
     let q = c .next-below2 .ensures in
-    let t = sum-turn (λ i. closer (s .args .o) (boxAt (s .args .f .now) i) (s .args .b)) (countAt (s .args .f .now)) (l .e) (s .args .to) (c .before .before .before .loop-test .taken) in
-    let u = sum-skip (λ i. closer (s .args .o) (boxAt (s .args .f .now) i) (s .args .b)) (countAt (s .args .f .now)) (l .e + 1) (c .next-below2 .result) (s .args .to) (q .0) (q .1) (passed s (l .e + 1) (c .next-below2 .result) (q .1) (q .2)) in
-    (omega (arith, l .inv .0, q .0), q .1, omega (arith, l .inv .2, w .1, q .0), omega (arith, l .inv .3, w .0, t, u))
+    let t = turn s (l .loop .e) (w .weight .result) (search needs) (w .weight .ensures .0) in (
+      omega (arith, l .loop .inv .0, q .after),
+      q .within,
+      omega (arith, l .loop .inv .2, w .weight .ensures .1, q .after),
+      omega (arith, l .loop .inv .3, t, passed s q),
+    )
 
 returns-2 : tie.Need-returns-2 Inv-loop μ-loop
 returns-2 c =
-    let s = c .before .before .before .before .before .before .before .before in
-    let l = c .before .loop in
-    let t = sum-done (λ i. closer (s .args .o) (boxAt (s .args .f .now) i) (s .args .b)) (countAt (s .args .f .now)) (l .e) (s .args .to) (c .loop-test .left) in
-    ap (leb (s .args .k)) (omega (arith, l .inv .3, t))
+    let s : tie.Start Inv-loop μ-loop = search in
+    let l : tie.At-loop Inv-loop μ-loop = search in
+    let t = sum-done (adds s) (sites s) (l .loop .e) (s .args .to) (search needs) in
+    ap (leb (s .args .k)) (omega (arith, l .loop .inv .3, t))
 
 pub reaches-among-spec : {M : Type 1} → statement M
 reaches-among-spec =
@@ -95,12 +122,14 @@ reaches-among-spec =
     (tie.spec
     Inv-loop
     μ-loop
+    array-read-next-below
     next-below-requires
     loop-holds
     weight-requires
     add-sum
     returns
     add-next-below
+    array-read-next-below-2
     next-below-requires-2
     loop-less
     loop-again

@@ -1,0 +1,82 @@
+use Prim.Native.Nat.{_+_, _-_, _*_, _≤_}
+use mathlib.Core.Path.{_≡_, refl, _∙_}
+use native.Mathlib.Numerals.{add-one}
+use lib.Dec.{ltb}
+use lib.ListN.{getD}
+use borrow.Author.Needs.{needs}
+use Rattle.base.specs.Every.{every}
+use Rattle.blocks.specs.Layout.{maxTiles}
+use Rattle.plan.specs.Inner.Seam.{cornerCount}
+use Rattle.prune.specs.Inner.Tables.{belowAll}
+use Rattle.prune.proofs.compare.below.Statement.{statement}
+use Rattle.prune.proofs.compare.below.Tie as tie
+
+abbrev Inv-loop : tie.InvT-loop
+Inv-loop far e near all₀ c₀ all c =
+    (c ≤ cornerCount) × (all ≡ every (λ i. ltb (getD far (i * maxTiles + e) 0) (getD near i 0)) c)
+
+abbrev μ-loop : tie.MeasureT-loop
+μ-loop far e near all₀ c₀ all c = cornerCount - c
+
+loop-holds : tie.Need-loop-holds Inv-loop μ-loop
+unfolding every
+loop-holds c = (search needs, refl)
+
+mul-both : tie.Need-mul-both Inv-loop μ-loop
+mul-both c = search needs
+
+add-both : tie.Need-add-both Inv-loop μ-loop
+add-both c = search needs
+
+mul-both-2 : tie.Need-mul-both-2 Inv-loop μ-loop
+mul-both-2 c = search needs
+
+shared-slice-read-both : tie.Need-shared-slice-read-both Inv-loop μ-loop
+shared-slice-read-both c = search needs
+
+mul-both-3 : tie.Need-mul-both-3 Inv-loop μ-loop
+mul-both-3 c = search needs
+
+array-read-both : tie.Need-array-read-both Inv-loop μ-loop
+array-read-both c = search needs
+
+both-requires : tie.Need-both-requires Inv-loop μ-loop
+both-requires c κs = search needs
+
+add-c : tie.Need-add-c Inv-loop μ-loop
+add-c c = search needs
+
+loop-less : tie.Need-loop-less Inv-loop μ-loop
+loop-less c = search needs
+
+loop-again : tie.Need-loop-again Inv-loop μ-loop
+unfolding every
+loop-again c =
+    let l : tie.At-loop Inv-loop μ-loop = search in
+    (search needs, rw (add-one (l .loop .c)) (c .both .ensures ∙ rw (l .loop .inv .1)))
+
+returns : tie.Need-returns Inv-loop μ-loop
+unfolding belowAll
+returns c =
+    let l : tie.At-loop Inv-loop μ-loop = search in
+    let n : l .loop .c ≡ cornerCount = search needs in
+    rw n at (l .loop .inv .1)
+
+pub below-spec : {M : Type 1} → statement M
+below-spec =
+    tie.close
+    (tie.spec
+    Inv-loop
+    μ-loop
+    loop-holds
+    mul-both
+    add-both
+    mul-both-2
+    shared-slice-read-both
+    mul-both-3
+    array-read-both
+    both-requires
+    add-c
+    loop-less
+    loop-again
+    returns)
