@@ -13,6 +13,28 @@ use Rattle.geometry.proofs.Theorems.{distance-bounded}
 use Rattle.geometry.proofs.distance.squared_dist.Statement.{statement}
 use Rattle.geometry.proofs.distance.squared_dist.Tie as tie
 
+start : tie.After-square2 → tie.Start
+start c = search
+
+first : tie.After-square2 → tie.After-square
+first c = search
+
+-- one square an axis
+sums : (c : tie.After-square2) → first c .square .result + c .square2 .result ≡ D (start c .args .t1) (start c .args .t2)
+unfolding sum start first
+sums c =
+    let p = start c .args .t1 in
+    let q = start c .args .t2 in
+    let px : SFits w32 (coordinate p 0) = sfits-of (first c .before .before .square-arg .given) in
+    let qx : SFits w32 (coordinate q 0) = sfits-of (first c .before .square-arg2 .given) in
+    let py : SFits w32 (coordinate p 1) = sfits-of (c .before .before .square-arg3 .given) in
+    let qy : SFits w32 (coordinate q 1) = sfits-of (c .before .square-arg4 .given) in
+    let x : first c .square .result ≡ square (coordinate p 0) (coordinate q 0) =
+    simp (toZ-ofZ px, toZ-ofZ qx) at (first c .square .ensures) in
+    let y : c .square2 .result ≡ square (coordinate p 1) (coordinate q 1) =
+    simp (toZ-ofZ py, toZ-ofZ qy) at (c .square2 .ensures) in
+    omega (arith, dist-sum p q 2 (search needs) (search needs))
+
 array-copy-out-square : tie.Need-array-copy-out-square
 array-copy-out-square c = search needs
 
@@ -40,28 +62,6 @@ square-requires-2 c κs =
     let q : SFits w32 (coordinate (s .args .t2) 1) = sfits-of (c .square-arg4 .given) in
     rw (toZ-ofZ p, toZ-ofZ q)
     (within-at (s .args .t1) (s .pre .0) 1 (search needs), within-at (s .args .t2) (s .pre .1) 1 (search needs))
-
-start : tie.After-square2 → tie.Start
-start c = search
-
-first : tie.After-square2 → tie.After-square
-first c = search
-
--- one square an axis
-sums : (c : tie.After-square2) → first c .square .result + c .square2 .result ≡ D (start c .args .t1) (start c .args .t2)
-unfolding sum start first
-sums c =
-    let p = start c .args .t1 in
-    let q = start c .args .t2 in
-    let px : SFits w32 (coordinate p 0) = sfits-of (first c .before .before .square-arg .given) in
-    let qx : SFits w32 (coordinate q 0) = sfits-of (first c .before .square-arg2 .given) in
-    let py : SFits w32 (coordinate p 1) = sfits-of (c .before .before .square-arg3 .given) in
-    let qy : SFits w32 (coordinate q 1) = sfits-of (c .before .square-arg4 .given) in
-    let x : first c .square .result ≡ square (coordinate p 0) (coordinate q 0) =
-    simp (toZ-ofZ px, toZ-ofZ qx) at (first c .square .ensures) in
-    let y : c .square2 .result ≡ square (coordinate p 1) (coordinate q 1) =
-    simp (toZ-ofZ py, toZ-ofZ qy) at (c .square2 .ensures) in
-    omega (arith, dist-sum p q 2 (search needs) (search needs))
 
 add-result : tie.Need-add-result
 unfolding start first

@@ -33,10 +33,10 @@ high s = rw (toZ-ofZ (limited-fits (over s .high))) (valid-on (s .pre .0) (high-
 
 -- the squares from the low end
 max-square-requires : tie.Need-max-square-requires
-max-square-requires c κs = let s : tie.Start = search in (s .pre .1 .0, low s)
+max-square-requires c κs = let s : tie.Start = search in (s .pre .1 .0, search (low s, high s))
 
 min-square-requires : tie.Need-min-square-requires
-min-square-requires c κs = let s : tie.Start = search in (s .pre .1 .1, low s)
+min-square-requires c κs = let s : tie.Start = search in (s .pre .1 .1, search (low s, high s))
 
 module _ (c : tie.After-min-square) where
   start-low : tie.Start
@@ -59,10 +59,10 @@ difference-requires c κs =
 
 -- the squares from the high end
 max-square-requires-2 : tie.Need-max-square-requires-2
-max-square-requires-2 c κs = let s : tie.Start = search in (s .pre .1 .0, high s)
+max-square-requires-2 c κs = let s : tie.Start = search in (s .pre .1 .0, search (low s, high s))
 
 min-square-requires-2 : tie.Need-min-square-requires-2
-min-square-requires-2 c κs = let s : tie.Start = search in (s .pre .1 .1, high s)
+min-square-requires-2 c κs = let s : tie.Start = search in (s .pre .1 .1, search (low s, high s))
 
 module _ (c : tie.After-min-square2) where
   start-high : tie.Start
