@@ -6,12 +6,12 @@ ghost use lib.Dec.{leb};
 ghost use lib.ListN.{length};
 ghost use Rattle.base.specs.Refusal.{accepted};
 ghost use Rattle.blocks.specs.Directory.{directory};
-ghost use Rattle.blocks.specs.Layout.{maxSites, maxTiles};
+ghost use Rattle.blocks.specs.Layout.{maxTiles};
 ghost use Rattle.codec.specs.Over.{over};
 ghost use Rattle.plan.specs.FilePlan.{entries};
 ghost use Rattle.plan.specs.Inner.Seam.{TileOf, ValidRegion, cornerCount};
 ghost use Rattle.search.specs.Lists.{bit};
-ghost use Rattle.search.specs.Plan.{ranked};
+ghost use Rattle.search.specs.Plan.{slots, ranked};
 ghost use Rattle.search.specs.Pruning.{pruned, prunedCount};
 ghost use Rattle.prune.specs.Inner.Tables.{farSize, FarTable, belowAll, sumBelow, few};
 ghost use Rattle.prune.specs.Prune.{pruneMarks};
@@ -30,7 +30,7 @@ const FEW: usize = 32;
 fn weight(f: &[u8], h: Header, far: &[u64], e: usize, near: [u64; CORNERS]) -> usize
     requires { ⌜ TileOf (now f) h e × (length (now far) ≡ farSize) ⌝ }
     ensures { λ r. ⌜ (r ≡ cond (belowAll (now (far .entry)) near e) (ranked (entries (now (f .entry)) h) e) 0)
-        × (r ≤ maxSites) ⌝ }
+        × (r ≤ slots) ⌝ }
 {
     if compare::below(far, e, near) {
         return sites::ranked(f, h, e);

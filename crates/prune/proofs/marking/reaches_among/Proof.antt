@@ -6,9 +6,9 @@ use lib.Dec.{leb}
 use lib.ListN.{getD}
 use borrow.Author.Needs.{needs}
 use borrow.Author.Tests.{le-leb}
-use Rattle.blocks.specs.Layout.{maxSites, maxTiles}
+use Rattle.blocks.specs.Layout.{maxTiles}
 use Rattle.plan.specs.FilePlan.{entries}
-use Rattle.search.specs.Plan.{ranked}
+use Rattle.search.specs.Plan.{slots, ranked}
 use Rattle.prune.specs.Inner.Tables.{belowAll, sumBelow, FirstBelow}
 use Rattle.prune.proofs.Corners.{tiles-most, not-below}
 use Rattle.prune.proofs.Summing.{sum-turn, sum-skip, sum-done}
@@ -17,7 +17,7 @@ use Rattle.prune.proofs.marking.reaches_among.Tie as tie
 
 abbrev Inv-loop : tie.InvT-loop
 Inv-loop f h far from to k near sum₀ e₀ sum e =
-    (from ≤ e) × (e ≤ to) × (sum ≤ maxSites * e)
+    (from ≤ e) × (e ≤ to) × (sum ≤ slots * e)
     × (sum + sumBelow f h far near e (to - e) ≡ sumBelow f h far near from (to - from))
 
 abbrev μ-loop : tie.MeasureT-loop
