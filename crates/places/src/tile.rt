@@ -1,5 +1,4 @@
 // The sites of an opened tile put into the list of a stop.
-ghost use mathlib.Core.Path.{_≡_};
 ghost use Prim.Native.Nat.{_+_, _<_, _≤_, _^_};
 ghost use lib.ListN.{length};
 ghost use Rattle.codec.specs.Tabulate.{tabulate};

@@ -17,7 +17,7 @@ use Rattle.blocks.proofs.DirectoryLaws.{directory-good}
 use Rattle.blocks.proofs.Theorems.{entry-of-accepted}
 use Rattle.geometry.proofs.Theorems.{closer-corners, min-at-most-max, max-dist-bounded}
 use Rattle.plan.specs.FilePlan.{entries}
-use Rattle.plan.specs.Inner.Seam.{ValidStop, ValidRegion, far, cornerOf, cornerCount}
+use Rattle.plan.specs.Inner.Seam.{TileOf, ValidStop, ValidRegion, far, cornerOf, cornerCount}
 use Rattle.plan.proofs.Lawful.{box-axes}
 
 module _ (f : List ℕ) (h : Header) (dir : directory f ≡ accepted h) where
@@ -40,3 +40,6 @@ module _ (f : List ℕ) (h : Header) (dir : directory f ≡ accepted h) where
 
   pub tiles-few : h .tiles ≤ maxTiles
   tiles-few = directory-good f dir .tiles .most
+
+pub tile-few : {f : List ℕ} {h : Header} {t : ℕ} → TileOf f h t → t < maxTiles
+tile-few {f} {h} tile = let few = tiles-few f h (tile .dir) in omega (arith, tile .below)

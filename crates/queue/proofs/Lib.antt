@@ -1,2 +1,4 @@
 pub mod Gathering
+pub mod Filling
 pub mod Scanning
+pub mod Waiting

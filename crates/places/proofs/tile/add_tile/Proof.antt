@@ -1,25 +1,17 @@
-use Prim.Native.Nat.{_<_}
 use native.Mathlib.Omega.{arith}
 use borrow.Author.Needs.{needs}
-use Rattle.blocks.specs.Layout.{maxTiles}
-use Rattle.plan.proofs.Measures.{tiles-few}
+use Rattle.plan.proofs.Measures.{tile-few}
 use Rattle.places.proofs.tile.add_tile.Statement.{statement}
 use Rattle.places.proofs.tile.add_tile.Tie as tie
-
--- a tile's number is small
-tile-small : (s : tie.Start) → s .args .t < maxTiles
-tile-small s =
-    let few = tiles-few (s .args .f .now) (s .args .h) (s .pre .0 .dir) in
-    omega (arith, s .pre .0 .below)
 
 count-requires : tie.Need-count-requires
 count-requires c κs = search needs
 
 cast-first : tie.Need-cast-first
-cast-first c = let s : tie.Start = search in omega (arith, tile-small s)
+cast-first c = let s : tie.Start = search in omega (arith, tile-few (s .pre .0))
 
 mul-first : tie.Need-mul-first
-mul-first c = let s : tie.Start = search in omega (arith, tile-small s)
+mul-first c = let s : tie.Start = search in omega (arith, tile-few (s .pre .0))
 
 block-of-requires : tie.Need-block-of-requires
 block-of-requires c κs = search needs
@@ -30,7 +22,7 @@ add-sites-requires c κs =
     let n : tie.After-count = search in
     let s : tie.Start = search in (
       rw (n .count .ensures .0) (b .block-of .ensures .sited),
-      omega (arith, tile-small s, n .count .ensures .1),
+      omega (arith, tile-few (s .pre .0), n .count .ensures .1),
       s .pre .2,
       s .pre .3,
     )

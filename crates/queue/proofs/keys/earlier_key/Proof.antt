@@ -2,13 +2,13 @@ use Prim.Native.Nat.{_+_, _-_, _≤_}
 use mathlib.Core.Path.{_≡_}
 use native.Mathlib.Omega.{arith}
 use borrow.Author.Needs.{needs}
-use Rattle.queue.specs.Queue.{LeastFrom}
-use Rattle.queue.proofs.Scanning.{earlier-new, earlier-same, least-all}
+use Rattle.queue.specs.Inner.Keys.{least}
+use Rattle.queue.proofs.Scanning.{earlier-new, earlier-same}
 use Rattle.queue.proofs.keys.earlier_key.Statement.{statement}
 use Rattle.queue.proofs.keys.earlier_key.Tie as tie
 
 abbrev Inv-loop : tie.InvT-loop
-Inv-loop keys m from at₀ key₀ j₀ at key j = (j ≤ from) × LeastFrom keys j m (record { at = at; key = key })
+Inv-loop keys m from at₀ key₀ j₀ at key j = (j ≤ from) × (record { at = at; key = key } ≡ least keys j (m - j))
 
 abbrev μ-loop : tie.MeasureT-loop
 μ-loop keys m from at₀ key₀ j₀ at key j = j
@@ -36,28 +36,35 @@ loop-less c = search needs
 
 loop-again : tie.Need-loop-again Inv-loop μ-loop
 loop-again c =
-    let k = c .before .before .before .before .before .args .keys .now in
-    let l = c .before .before .before .before .loop in
-    let i : l .j ≡ l .j - 1 + 1 = omega arith in
-    let q = rw i at (l .inv .1) in
-    (omega arith, earlier-new k (c .before .before .before .before .before .args .m) (l .j - 1) _ q (omega (arith, c .before .before .before .before .before .pre .1)) (c .before .if1 .taken))
+    let t : tie.Then1 Inv-loop μ-loop = search in
+    let l : tie.At-loop Inv-loop μ-loop = search in
+    let s : tie.Start Inv-loop μ-loop = search in
+    let j = l .loop .j in
+    let i : j ≡ j - 1 + 1 = omega arith in
+    let inside = s .pre .1 in
+    let e = rw i at (l .loop .inv .1) in
+    (omega arith, earlier-new (s .args .keys .now) (s .args .m) (j - 1) _ (omega arith) e (t .if1 .taken))
 
 loop-less-2 : tie.Need-loop-less-2 Inv-loop μ-loop
 loop-less-2 c = search needs
 
 loop-again-2 : tie.Need-loop-again-2 Inv-loop μ-loop
 loop-again-2 c =
-    let k = c .before .before .before .before .args .keys .now in
-    let l = c .before .before .before .loop in
-    let i : l .j ≡ l .j - 1 + 1 = omega arith in
-    let q = rw i at (l .inv .1) in
-    (omega arith, earlier-same k (c .before .before .before .before .args .m) (l .j - 1) _ q (c .if1 .left))
+    let l : tie.At-loop Inv-loop μ-loop = search in
+    let s : tie.Start Inv-loop μ-loop = search in
+    let j = l .loop .j in
+    let i : j ≡ j - 1 + 1 = omega arith in
+    let inside = s .pre .1 in
+    let e = rw i at (l .loop .inv .1) in
+    (omega arith, earlier-same (s .args .keys .now) (s .args .m) (j - 1) _ (omega arith) e (c .if1 .left))
 
 returns : tie.Need-returns Inv-loop μ-loop
 returns c =
-    let l = c .before .loop in
-    let none : l .j ≡ 0 = omega arith in
-    least-all (c .before .before .args .keys .now) (c .before .before .args .m) _ (rw none at (l .inv .1))
+    let l : tie.At-loop Inv-loop μ-loop = search in
+    let s : tie.Start Inv-loop μ-loop = search in
+    let first : l .loop .j ≡ 0 = omega arith in
+    let all : s .args .m - 0 ≡ s .args .m = omega arith in
+    rw all at (rw first at (l .loop .inv .1))
 
 pub earlier-key-spec : {M : Type 1} → statement M
 earlier-key-spec =
