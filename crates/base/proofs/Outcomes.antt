@@ -29,6 +29,7 @@ andThen-same (accepted a) f g h = h a refl
 andThen-same (refused n p) f g h = refl
 
 -- a refusal of what is only counted afterwards is its own
-pub andThen-refused : {A B : Type 0} (o : Outcome A) (b : B) {n p : ℕ} → andThen o (λ _. accepted b) ≡ refused n p → o ≡ refused n p
-andThen-refused (accepted a) b e = accepted-refused refl e
-andThen-refused (refused n p) b e = cc
+pub andThen-refused : {A B : Type 0} (o : Outcome A) (g : A → B) {n p : ℕ} → andThen o (λ a. accepted (g a)) ≡ refused n p
+    → o ≡ refused n p
+andThen-refused (accepted a) g e = accepted-refused refl e
+andThen-refused (refused n p) g e = cc

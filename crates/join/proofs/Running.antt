@@ -20,7 +20,7 @@ use Rattle.list.specs.Lists.{Slices, lay, cleared}
 use Rattle.plan.specs.FilePlan.{plane, entries, openingOf}
 use Rattle.plan.specs.Inner.Seam.{axisCount, ValidRegion}
 use Rattle.prune.specs.Prune.{pruneMarks}
-use Rattle.queue.specs.Inner.Keys.{waits, waiting}
+use Rattle.queue.specs.Inner.Keys.{waits}
 use Rattle.search.specs.Lists.{range, bit, count, member, filter}
 use Rattle.search.specs.Limits.{maxK, maxPlaces}
 use Rattle.search.specs.Plan.{Lawful, ranked}
@@ -28,7 +28,7 @@ use Rattle.search.specs.Pruning.{pruned, prunedCount}
 use Rattle.search.specs.Run.{noPlace, candidate, candidates, queue, join, slices, placesUsed, mark, marks, openedMark, prunedMark}
 use Rattle.search.specs.declared.Place.{Place}
 use Rattle.serve.specs.Inner.Marks.{markAll}
-use Rattle.serve.specs.Inner.Serving.{lastLength, walksOf, StopsReady, StopsServed}
+use Rattle.serve.specs.Inner.Serving.{lastLength, waiting, walksOf, StopsReady, StopsServed}
 use Rattle.stops.specs.Stops.{stopCount, stopsOf, validStop}
 use Rattle.base.proofs.Outcomes.{andThen-accepted, accepted-injective, accepted-refused}
 use Rattle.codec.proofs.Over.{over-under, over-eq, length-over}
@@ -75,7 +75,7 @@ unfolding waits candidate pruneMarks
 waiting-is f h o k m l =
     let tiles = h .tiles in
     let ms = over m 0 (map (λ t. bit (pruned (entries f h) o k t)) (range 0 tiles)) in
-    filter-same (waits f h ms) (candidate (entries f h) o k) (range 0 tiles)
+    filter-same (waits (entries f h) ms) (candidate (entries f h) o k) (range 0 tiles)
     (all-map (range 0 tiles)
     (λ t i. ap (λ b. not b && ltb 0 (ranked (entries f h) t))
     (ap (λ (n : ℕ). eqb n prunedMark) (filled-at (λ t. bit (pruned (entries f h) o k t)) m tiles t l i)

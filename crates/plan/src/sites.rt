@@ -34,7 +34,7 @@ pub fn count(f: &[u8], h: Header, t: usize) -> usize
 }
 
 // Opens tile t: the number of its sites, or the first refusal.
-pub fn open(f: &[u8], h: Header, t: usize) -> Opening
+pub fn open_tile(f: &[u8], h: Header, t: usize) -> Opening
     requires { ⌜ TileOf (now f) h t ⌝ }
     ensures { λ r. ⌜ openingOutcome r ≡ andThen (openingOf (now (f .entry)) h t) (λ l. accepted (length l)) ⌝ }
 {

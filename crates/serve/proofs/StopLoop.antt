@@ -57,8 +57,11 @@ module _ (f : List ℕ) (h : Header) (order : List ℕ) (cols : List (List ℤ))
     pub asked : markAll (o₀ .marks) (whole .asked) ≡ markAll (o .marks) (rest i .asked)
     pub under : cleared 0 allPlaces (h .tiles) o ≡ cleared 0 allPlaces (h .tiles) o₀
 
-  pub turn-starts : Clear (o₀ .lists) 0 allPlaces → OpenedOpen f h (o₀ .marks) → StopTurn o₀ 0 0 0
+  all-stops : rest 0 ≡ whole
   unfolding points
+  all-stops = let e : stopCount cols - 0 ≡ stopCount cols = omega arith in rw e
+
+  pub turn-starts : Clear (o₀ .lists) 0 allPlaces → OpenedOpen f h (o₀ .marks) → StopTurn o₀ 0 0 0
   turn-starts clear opens = record {
     bound = omega arith;
     place = omega arith;
@@ -68,9 +71,9 @@ module _ (f : List ℕ) (h : Header) (order : List ℕ) (cols : List (List ℤ))
     m = refl;
     clear = clear;
     opens = opens;
-    fine = λ ls e. record { all = ls; out = e; laid = refl; last = refl };
-    bad = λ a b e. e;
-    asked = refl;
+    fine = λ ls e. record { all = ls; out = ap (λ w. w .out) (sym all-stops) ∙ e; laid = refl; last = refl };
+    bad = λ a b e. ap (λ w. w .out) (sym all-stops) ∙ e;
+    asked = ap (λ w. markAll (o₀ .marks) (w .asked)) (sym all-stops);
     under = refl;
   }
 

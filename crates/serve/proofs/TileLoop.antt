@@ -16,10 +16,11 @@ use Rattle.list.specs.Inner.Keeping.{places, Adds, Ready}
 use Rattle.list.specs.Lists.{Slices, lay, cleared}
 use Rattle.places.specs.declared.tile.Target.{Target}
 use Rattle.plan.specs.FilePlan.{plane, entries, openingOf}
-use Rattle.queue.specs.Inner.Keys.{none, Keyed, IsLeast, living}
+use Rattle.queue.specs.Inner.Keys.{none, least}
 use Rattle.queue.specs.declared.keys.Least.{Least}
 use Rattle.search.specs.Inner.Cut.{lastAhead}
 use Rattle.search.specs.Inner.Walk.{Trace, cutWalk}
+use Rattle.search.specs.Order.{sort}
 use Rattle.search.specs.Plan.{near}
 use Rattle.search.specs.Run.{noPlace, inOrder, tilePlaces, openedMark}
 use Rattle.search.specs.declared.Place.{Place}
@@ -30,7 +31,8 @@ use Rattle.codec.proofs.Over.{over-set}
 use Rattle.list.proofs.Added.{added-list, added-ready, added-laid}
 use Rattle.list.proofs.Laying.{places-length, lay-self, lay-under}
 use Rattle.plan.proofs.Theorems.{opens-own-town}
-use Rattle.queue.proofs.Waiting.{living-start, living-none, living-next, keyed-next, living-fewer}
+use Rattle.queue.proofs.Scanning.{least-here}
+use Rattle.queue.proofs.Waiting.{Keyed, living, living-none, living-next, keyed-next, living-fewer}
 use Rattle.search.proofs.Cut.{cut-full, cut-refused, cut-opens, cut-end}
 use Rattle.serve.specs.Inner.Marks.{markAll, OpenedOpen}
 use Rattle.serve.specs.Inner.Serving.{walkOf, withSites, afterTile, StopReady, StopServed}
@@ -51,7 +53,7 @@ module _ (f : List ℕ) (h : Header) (order : List ℕ) (g : Target) (o₀ : Sli
   pub record TileTurn (keys : List ℕ) (o : Slices) (used : ℕ) : Type 0 where
     pub ready : Ready (o .lists) (g .at) used (g .k)
     pub laid : o .lists ≡ lay (o₀ .lists) (g .at) (found o used)
-    pub keyed : Keyed order (near (entries f h) (g .stop)) keys
+    pub keyed : Keyed (entries f h) (g .stop) order keys
     pub opens : OpenedOpen f h (o .marks)
     pub long : length (o .marks) ≡ length (o₀ .marks)
     pub out : whole .out ≡ rest keys (found o used) .out
@@ -91,10 +93,11 @@ module _ (f : List ℕ) (h : Header) (order : List ℕ) (g : Target) (o₀ : Sli
         }
 
     -- the next key
-    module _ (r : Least) (s : IsLeast keys (length order) r) where
+    module _ (r : Least) (s : r ≡ least keys 0 (length order)) where
       -- no tile waits
       pub turn-none : none ≤ r .key → StopServed f h whole (g .k) (g .at) o₀ (accepted used) o
-      turn-none e = turn-ends (rw (living-none (entries f h) (g .stop) order keys r s e)
+      unfolding sort
+      turn-none e = turn-ends (rw (living-none order keys (rw s at e))
           (cut-end (entries f h) (g .k) (openingOf f h) (g .stop) (found o used)))
 
       module _ (below : r .key < none) where
@@ -105,10 +108,12 @@ module _ (f : List ℕ) (h : Header) (order : List ℕ) (g : Target) (o₀ : Sli
         others = inOrder (entries f h) (living order (set keys (r .at) none)) (g .stop)
 
         key-is : r .key ≡ near (entries f h) (g .stop) tile
-        key-is = let a = s .here below in sym (a .1) ∙ turn .keyed .key (r .at) (a .0) (rw (a .1) below)
+        key-is =
+            let a = rw (← s) at (least-here keys 0 (length order) (rw s at below)) in
+            sym (a .2) ∙ turn .keyed .own (r .at) (omega (arith, a .1)) (omega (arith, a .2))
 
         waits : inOrder (entries f h) (living order keys) (g .stop) ≡ tile ∷ others
-        waits = living-next (entries f h) (g .stop) order keys (turn .keyed) r s below
+        waits = living-next (turn .keyed) r s below
 
         -- the list is full ahead of the next key
         pub turn-full : lastAhead (g .k) (found o used) (r .key) tile ≡ true
@@ -166,7 +171,7 @@ module _ (f : List ℕ) (h : Header) (order : List ℕ) (g : Target) (o₀ : Sli
                 record {
                   ready = added-ready (turn .ready) added;
                   laid = added-laid (turn .ready) added (o₀ .lists) (turn .laid);
-                  keyed = keyed-next order (near (entries f h) (g .stop)) keys (turn .keyed) r s below;
+                  keyed = keyed-next (turn .keyed) r s below;
                   opens = opens-next;
                   long = length-set (o .marks) tile openedMark ∙ turn .long;
                   out = turn .out ∙ ap (λ w. w .out) walk-is;
@@ -176,10 +181,10 @@ module _ (f : List ℕ) (h : Header) (order : List ℕ) (g : Target) (o₀ : Sli
                 }
 
             pub turn-fewer : length (living order (set keys (r .at) none)) < length (living order keys)
-            turn-fewer = living-fewer order (near (entries f h) (g .stop)) keys (turn .keyed) r s below
+            turn-fewer = living-fewer (turn .keyed) r s below
 
   -- at the start: all tiles wait, with their keys
-  pub turn-starts : {keys : List ℕ} → Ready (o₀ .lists) (g .at) 0 (g .k) → Keyed order (near (entries f h) (g .stop)) keys
+  pub turn-starts : {keys : List ℕ} → Ready (o₀ .lists) (g .at) 0 (g .k) → Keyed (entries f h) (g .stop) order keys
       → living order keys ≡ order → OpenedOpen f h (o₀ .marks) → TileTurn keys o₀ 0
   unfolding places tabulate
   turn-starts {keys} ready keyed all opens =

@@ -24,7 +24,7 @@ pub fn open_once(f: &[u8], h: Header, t: usize, marks: &mut [u8]) -> Opening
     if marks[t] == OPENED {
         return Opening::Opened(sites::count(f, h, t));
     }
-    let answer = sites::open(f, h, t);
+    let answer = sites::open_tile(f, h, t);
     let Opening::Opened(_) = answer else {
         return answer;
     };

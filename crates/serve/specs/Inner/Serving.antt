@@ -8,6 +8,7 @@ use Prim.Native.Nat.{ℕ, _*_, _<_, _≤_}
 use mathlib.Core.Bool.{true}
 use mathlib.Core.List.{List, [], _∷_}
 use mathlib.Core.Path.{_≡_}
+use lib.Dec.{ltb}
 use lib.IntN.{ℤ}
 use lib.ListN.{length, getD, set}
 use Rattle.base.specs.Lists.{All}
@@ -19,10 +20,12 @@ use Rattle.list.specs.Lists.{Lists, Slices, placeAt, lay, cleared}
 use Rattle.places.specs.declared.tile.Target.{Target}
 use Rattle.plan.specs.FilePlan.{plane, entries, openingOf}
 use Rattle.plan.specs.Inner.Seam.{TileOf, ValidStop}
-use Rattle.queue.specs.Inner.Keys.{Rising}
+use Rattle.queue.specs.Inner.Keys.{waits}
 use Rattle.search.specs.Inner.Cut.{inserts}
 use Rattle.search.specs.Inner.Walk.{Trace, cutWalk, cutWalks}
 use Rattle.search.specs.Limits.{maxPlaces}
+use Rattle.search.specs.Lists.{range, filter}
+use Rattle.search.specs.Order.{Strict}
 use Rattle.search.specs.Run.{noPlace, rank, tilePlaces, inOrder, slices, openedMark}
 use Rattle.search.specs.declared.Place.{Place}
 use Rattle.stops.specs.Stops.{stopCount, stopsOf, validStop}
@@ -65,10 +68,11 @@ walkOf f h order p k = cutWalk (entries f h) k (openingOf f h) p (inOrder (entri
 
 pub record StopReady (f : List ℕ) (h : Header) (order : List ℕ) (g : Target) (keys : List ℕ) (o : Slices) : Type 0 where
   pub dir : directory f ≡ accepted h
-  pub rising : Rising (h .tiles) order
+  pub tiles : All (λ t. t < h .tiles) order
+  pub rise : Strict ltb order
   pub stop : ValidStop (g .stop)
   pub list : Ready (o .lists) (g .at) 0 (g .k)
-  pub keys : length order ≤ length keys
+  pub room : length order ≤ length keys
   pub marks : h .tiles ≤ length (o .marks)
   pub opens : OpenedOpen f h (o .marks)
 
@@ -94,7 +98,11 @@ pub record StopsReady (f : List ℕ) (h : Header) (cols : List (List ℤ)) (k : 
   pub marks : h .tiles ≤ length (o .marks)
   pub opens : OpenedOpen f h (o .marks)
 
--- the walks of all stops over the waiting tiles
+-- the tiles that wait, by the marks
+abbrev pub waiting : List ℕ → Header → List ℕ → List ℕ
+waiting f h marks = filter (waits (entries f h) marks) (range 0 (h .tiles))
+
+-- the walks of all stops over them
 abbrev pub walksOf : List ℕ → Header → List ℕ → List (List ℤ) → ℕ → Trace (List (List Place))
 walksOf f h order cols k = cutWalks (entries f h) k (openingOf f h) (inOrder (entries f h) order) (stopsOf cols)
 
