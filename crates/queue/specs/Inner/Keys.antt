@@ -45,7 +45,7 @@ unfoldable pub least : List ℕ → ℕ → ℕ → Least
 least keys a zero = record { at = a; key = none }
 least keys a (suc n) = lower (record { at = a; key = getD keys a 0 }) (least keys (suc a) n)
 
--- once a tile with the key `bound` was taken just before index `from`: none of m keys is below it, those before are above
+-- once a tile with the key `bound` was taken just before index `from`: no key is below it, and those before are above
 pub record Passed (keys : List ℕ) (m from bound : ℕ) : Type 0 where
   pub inside : from ≤ m
   pub real : bound < none
