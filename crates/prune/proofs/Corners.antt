@@ -17,8 +17,8 @@ use Rattle.blocks.specs.declared.header.Header.{Header}
 use Rattle.codec.specs.Over.{over}
 use Rattle.plan.specs.FilePlan.{plane, entries}
 use Rattle.plan.specs.Inner.Seam.{ValidRegion, cornerOf, cornerCount, far}
-use Rattle.search.specs.Lists.{range, total}
-use Rattle.search.specs.Plan.{near, ranked}
+use Rattle.search.specs.Lists.{range}
+use Rattle.search.specs.Plan.{near}
 use Rattle.search.specs.Pruning.{pruned}
 use Rattle.base.proofs.Every.{every-fails, every-same}
 use Rattle.base.proofs.Tests.{by-test}

@@ -23,16 +23,17 @@ pub fn next_below(far: &[u64], from: usize, to: usize, near: u64) -> usize
     e
 }
 
-// Whether tile e is far below near, from each corner.
+// Whether tile e is far below near, from each corner. The last corner, opposite to the first, comes first: a tile that
+// passed the test of one mostly fails that of the other.
 pub fn below(far: &[u64], e: usize, near: [u64; CORNERS]) -> bool
     requires { ⌜ (e < maxTiles) × (length (now far) ≡ farSize) ⌝ }
     ensures { λ r. ⌜ r ≡ belowAll (now (far .entry)) near e ⌝ }
 {
     let mut all = true;
-    let mut c: usize = 0;
-    while c < CORNERS {
+    let mut c = CORNERS;
+    while 0 < c {
+        c -= 1;
         all = both(all, far[c * MAX_TILES + e] < near[c]);
-        c += 1;
     }
     all
 }

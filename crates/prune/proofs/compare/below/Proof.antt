@@ -1,6 +1,6 @@
-use Prim.Native.Nat.{_+_, _-_, _*_, _≤_}
-use mathlib.Core.Path.{_≡_, refl, _∙_}
-use native.Mathlib.Numerals.{add-one}
+use Prim.Native.Nat.{suc, _+_, _-_, _*_, _≤_}
+use mathlib.Core.Bool.{Bool, true, _&&_, and-assoc, and-comm}
+use mathlib.Core.Path.{_≡_, refl, ap, _∙_}
 use lib.Dec.{ltb}
 use lib.ListN.{getD}
 use borrow.Author.Needs.{needs}
@@ -11,16 +11,24 @@ use Rattle.prune.specs.Inner.Tables.{belowAll}
 use Rattle.prune.proofs.compare.below.Statement.{statement}
 use Rattle.prune.proofs.compare.below.Tie as tie
 
+-- a test taken out of those that are left
+one-more : (all test rest : Bool) → all && test && rest ≡ all && (rest && test)
+one-more all test rest = and-assoc all test rest ∙ ap (λ z. all && z) (and-comm test rest)
+
 abbrev Inv-loop : tie.InvT-loop
 Inv-loop far e near all₀ c₀ all c =
-    (c ≤ cornerCount) × (all ≡ every (λ i. ltb (getD far (i * maxTiles + e) 0) (getD near i 0)) c)
+    (c ≤ cornerCount)
+    × (all && every (λ i. ltb (getD far (i * maxTiles + e) 0) (getD near i 0)) c ≡ belowAll far near e)
 
 abbrev μ-loop : tie.MeasureT-loop
-μ-loop far e near all₀ c₀ all c = cornerCount - c
+μ-loop far e near all₀ c₀ all c = c
 
 loop-holds : tie.Need-loop-holds Inv-loop μ-loop
-unfolding every
+unfolding belowAll
 loop-holds c = (search needs, refl)
+
+sub-c : tie.Need-sub-c Inv-loop μ-loop
+sub-c c = search needs
 
 mul-both : tie.Need-mul-both Inv-loop μ-loop
 mul-both c = search needs
@@ -43,9 +51,6 @@ array-read-both c = search needs
 both-requires : tie.Need-both-requires Inv-loop μ-loop
 both-requires c κs = search needs
 
-add-c : tie.Need-add-c Inv-loop μ-loop
-add-c c = search needs
-
 loop-less : tie.Need-loop-less Inv-loop μ-loop
 loop-less c = search needs
 
@@ -53,14 +58,16 @@ loop-again : tie.Need-loop-again Inv-loop μ-loop
 unfolding every
 loop-again c =
     let l : tie.At-loop Inv-loop μ-loop = search in
-    (search needs, rw (add-one (l .loop .c)) (c .both .ensures ∙ rw (l .loop .inv .1)))
+    let i = l .loop .c - 1 in
+    let next : l .loop .c ≡ suc i = search needs in
+    (search needs, rw (c .both .ensures) (one-more (l .loop .all) _ _ ∙ rw next at (l .loop .inv .1)))
 
 returns : tie.Need-returns Inv-loop μ-loop
-unfolding belowAll
+unfolding every
 returns c =
     let l : tie.At-loop Inv-loop μ-loop = search in
-    let n : l .loop .c ≡ cornerCount = search needs in
-    rw n at (l .loop .inv .1)
+    let none : l .loop .c ≡ 0 = search needs in
+    and-comm true (l .loop .all) ∙ rw none at (l .loop .inv .1)
 
 pub below-spec : {M : Type 1} → statement M
 below-spec =
@@ -69,6 +76,7 @@ below-spec =
     Inv-loop
     μ-loop
     loop-holds
+    sub-c
     mul-both
     add-both
     mul-both-2
@@ -76,7 +84,6 @@ below-spec =
     mul-both-3
     array-read-both
     both-requires
-    add-c
     loop-less
     loop-again
     returns)
