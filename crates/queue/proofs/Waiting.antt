@@ -243,10 +243,11 @@ module _ {G : Geometry} {E : Directory G} {p : G .Stop} {order keys : List ℕ} 
       omega (arith, sort-length (byKey E p) (living order keys), sort-length (byKey E p) (living order keys′))
 
   -- that tile is one of the order
+  pub index-at : r .at < length order
+  index-at = let here = rw (← e) at (least-here keys 0 (length order) (rw e at h)) in omega (arith, here .1)
+
   pub tile-at : (P : ℕ → Type 0) → All P order → P (getD order (r .at) 0)
-  tile-at P a =
-      let here = rw (← e) at (least-here keys 0 (length order) (rw e at h)) in
-      all-at P order a (r .at) (omega (arith, here .1))
+  tile-at P a = all-at P order a (r .at) index-at
 
 -- keys just filled
 module _ (f : List ℕ) (h : Header) (dir : directory f ≡ accepted h) {p : List ℤ} (v : ValidStop p) (order : List ℕ)

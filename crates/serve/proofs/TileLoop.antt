@@ -32,7 +32,7 @@ use Rattle.list.proofs.Added.{added-list, added-ready, added-laid}
 use Rattle.list.proofs.Laying.{places-length, lay-self, lay-under}
 use Rattle.plan.proofs.Theorems.{opens-own-town}
 use Rattle.queue.proofs.Scanning.{least-here}
-use Rattle.queue.proofs.Waiting.{Keyed, living, living-none, living-next, keyed-next, living-fewer}
+use Rattle.queue.proofs.Waiting.{Keyed, living, living-none, living-next, keyed-next}
 use Rattle.search.proofs.Cut.{cut-full, cut-refused, cut-opens, cut-end}
 use Rattle.serve.specs.Inner.Marks.{markAll, OpenedOpen}
 use Rattle.serve.specs.Inner.Serving.{walkOf, withSites, afterTile, StopReady, StopServed}
@@ -179,9 +179,6 @@ module _ (f : List ℕ) (h : Header) (order : List ℕ) (g : Target) (o₀ : Sli
                   under = over-set (o .marks) tile 0 openedMark (replicate (h .tiles) 0) (omega arith) (omega arith)
                       ∙ turn .under;
                 }
-
-            pub turn-fewer : length (living order (set keys (r .at) none)) < length (living order keys)
-            turn-fewer = living-fewer (turn .keyed) r s below
 
   -- at the start: all tiles wait, with their keys
   pub turn-starts : {keys : List ℕ} → Ready (o₀ .lists) (g .at) 0 (g .k) → Keyed (entries f h) (g .stop) order keys
