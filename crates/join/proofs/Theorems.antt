@@ -145,9 +145,14 @@ module _ (f : List ℕ) (cols : List (List ℤ)) (k : ℕ) (out : Slices) where
   answer-fits r e =
       let a = answered r e in
       let g = a .args in
-      let u : r .used ≤ k = rw (a .result) (omega arith) in
-      (omega (arith, g .few-k), (u, rw (a .slices-are) (lay-long (out .lists) 0 (slices k (a .ls)) (stopCount cols * k)
-      (g .dist, (g .site, g .cue)))))
+      let u : r .used ≤ k = rw (a .result) (omega arith) in (
+        omega (arith, g .few-k),
+        (
+          u,
+          rw (a .slices-are) (lay-long (out .lists) 0 (slices k (a .ls)) (stopCount cols * k)
+              (g .dist, (g .site, g .cue))),
+        ),
+      )
 
   -- ---- demand 3
 

@@ -12,8 +12,8 @@ use base::Refusal;
 use blocks::directory::DirectoryAnswer;
 use blocks::directory::read_directory;
 use blocks::header::Header;
-use list::clear::clear8;
 use list::clear::clear_places;
+use list::clear::clear8;
 use prune::marking::mark_pruned;
 use serve::marks::count_opened;
 use serve::serving::Serving;
@@ -112,8 +112,10 @@ fn run(
     marks: &mut [u8],
 ) -> JoinAnswer
     requires { ⌜ RunReady (now f) h (now xs ∷ now ys ∷ []) k (lent (now dist) (now site) (now cue) (now marks)) ⌝ }
-    ensures { λ r. ⌜ record { outcome = joinOutcome r;
-        slices = lent (now (dist .exit)) (now (site .exit)) (now (cue .exit)) (now (marks .exit)) }
+    ensures { λ r. ⌜ record {
+      outcome = joinOutcome r;
+      slices = lent (now (dist .exit)) (now (site .exit)) (now (cue .exit)) (now (marks .exit));
+    }
         ≡ runEnd (now (f .entry)) h (now (xs .entry) ∷ now (ys .entry) ∷ []) k
         (lent (now (dist .entry)) (now (site .entry)) (now (cue .entry)) (now (marks .entry))) ⌝ }
 {
@@ -145,8 +147,10 @@ pub fn join(
     cue: &mut [u32],
     marks: &mut [u8],
 ) -> JoinAnswer
-    ensures { λ r. ⌜ record { outcome = joinOutcome r;
-        slices = lent (now (dist .exit)) (now (site .exit)) (now (cue .exit)) (now (marks .exit)) }
+    ensures { λ r. ⌜ record {
+      outcome = joinOutcome r;
+      slices = lent (now (dist .exit)) (now (site .exit)) (now (cue .exit)) (now (marks .exit));
+    }
         ≡ joinEnd (now (f .entry)) (now (xs .entry) ∷ now (ys .entry) ∷ []) k
         (lent (now (dist .entry)) (now (site .entry)) (now (cue .entry)) (now (marks .entry))) ⌝ }
 {

@@ -10,7 +10,9 @@ use lib.ListN.{length, replicate, length-replicate}
 use Rattle.base.specs.Refusal.{Outcome, accepted, refused, andThen}
 use Rattle.blocks.specs.declared.header.Header.{Header}
 use Rattle.codec.specs.Over.{over}
+use Rattle.codec.specs.Tabulate.{tabulate}
 use Rattle.geometry.specs.Around.{rows, points}
+use Rattle.list.specs.Inner.Keeping.{places, Long, Ready}
 use Rattle.list.specs.Lists.{Slices, lay, cleared}
 use Rattle.plan.specs.FilePlan.{entries, openingOf}
 use Rattle.search.specs.Inner.Walk.{Trace, cutWalks}
@@ -114,102 +116,116 @@ module _ (f : List ℕ) (h : Header) (order : List ℕ) (cols : List (List ℤ))
         marks = turn .asked ∙ ap (λ w. markAll (o .marks) (w .asked)) none
 
     -- the stop at i
-    module _ (l : i < stopCount cols) {r : Outcome ℕ} {o′ : Slices}
-        (x : StopServed f h (walkOf f h order (stopAt cols i) k) k at o r o′) where
-      abbrev stop : Trace (List Place)
-      stop = walkOf f h order (stopAt cols i) k
-
+    module _ (l : i < stopCount cols) where
       fits : at + k ≤ allPlaces
       fits =
           let a = suc-mul i k in
           let c = mul-le-mul-right {m = suc i} {n = stopCount cols} k l in
           omega (arith, turn .place)
 
-      stops-are : rows cols i (stopCount cols - i) ≡ stopAt cols i ∷ rows cols (i + 1) (stopCount cols - (i + 1))
-      unfolding rows
-      stops-are = let e : stopCount cols - i ≡ suc (stopCount cols - (i + 1)) = omega arith in rw (e, add-one i)
-
-      -- it is refused
-      pub turn-refused : (a b : ℕ) → r ≡ refused a b → StopsServed h whole k allPlaces o₀ (refused a b) o′
-      turn-refused a b e =
-          let q : stop .out ≡ refused a b = lengths (stop .out) (sym (x .outcome) ∙ e) in
-          let w : whole .out ≡ refused a b = turn .bad a b (rw stops-are
-          (cuts-refused (entries f h) k (openingOf f h) (inOrder (entries f h) order) (stopAt cols i) _ a b q)) in
+      pub turn-ready : 0 < k → Long (o₀ .lists) allPlaces → Ready (o .lists) at 0 k
+      unfolding places tabulate
+      turn-ready some long =
+          let w = fits in
           record {
-            outcome = rw w;
-            answered = λ ls z. accepted-refused z w;
-            under = covered o o′ at fits (x .under) ∙ turn .under;
+            some = some;
+            few = omega arith;
+            long = (
+              omega (arith, turn .d, long .0),
+              (omega (arith, turn .s, long .1 .0), omega (arith, turn .c, long .1 .1)),
+            );
+            sorted = tt;
           }
-        where
-          lengths : (z : Outcome (List Place)) → andThen z (λ l. accepted (length l)) ≡ refused a b → z ≡ refused a b
-          lengths (accepted l) w = accepted-refused refl w
-          lengths (refused n p) w = cc
 
-      -- it is served
-      module _ (n : ℕ) (e : r ≡ accepted n) where
-        found : (l : List Place) × (stop .out ≡ accepted l) × (_≡_ {A = Outcome ℕ} (accepted (length l)) (accepted n))
-        found = andThen-accepted (stop .out) (λ l. accepted (length l)) (sym (x .outcome) ∙ e)
+      module _ {r : Outcome ℕ} {o′ : Slices} (x : StopServed f h (walkOf f h order (stopAt cols i) k) k at o r o′) where
+        abbrev stop : Trace (List Place)
+        stop = walkOf f h order (stopAt cols i) k
 
-        list : List Place
-        list = found .0
+        stops-are : rows cols i (stopCount cols - i) ≡ stopAt cols i ∷ rows cols (i + 1) (stopCount cols - (i + 1))
+        unfolding rows
+        stops-are = let e : stopCount cols - i ≡ suc (stopCount cols - (i + 1)) = omega arith in rw (e, add-one i)
 
-        came : stop .out ≡ accepted list
-        unfolding list
-        came = found .1
-
-        few : length list ≤ k
-        few = x .few list came
-
-        number : length list ≡ n
-        unfolding list
-        number = accepted-injective (found .2)
-
-        lists-are : o′ .lists ≡ lay (o .lists) at list
-        lists-are = ap (λ z. z .lists) (x .answered list came)
-
-        marks-are : o′ .marks ≡ markAll (o .marks) (stop .asked)
-        marks-are = ap (λ z. z .marks) (x .answered list came)
-
-        rest-is : rest i ≡ record {
-          asked = stop .asked ++ rest (i + 1) .asked;
-          out = andThen (rest (i + 1) .out) (λ ls. accepted (list ∷ ls));
-        }
-        rest-is = rw stops-are
-            (cuts-next (entries f h) k (openingOf f h) (inOrder (entries f h) order) (stopAt cols i) _ list came)
-
-        fine : (ls : List (List Place)) → rest (i + 1) .out ≡ accepted ls → Ends o′ (at + k) n ls
-        fine ls z =
-            let p = turn .fine (list ∷ ls) (ap (λ w. w .out) rest-is ∙ rw z) in
-            let w = fits in
+        -- it is refused
+        pub turn-refused : (a b : ℕ) → r ≡ refused a b → StopsServed h whole k allPlaces o₀ (refused a b) o′
+        turn-refused a b e =
+            let q : stop .out ≡ refused a b = lengths (stop .out) (sym (x .outcome) ∙ e) in
+            let w : whole .out ≡ refused a b = turn .bad a b (rw stops-are
+            (cuts-refused (entries f h) k (openingOf f h) (inOrder (entries f h) order) (stopAt cols i) _ a b q)) in
             record {
-              all = p .all;
-              out = p .out;
-              laid = ap (λ y. lay y (at + k) (slices k ls)) lists-are
-                  ∙ stop-laid k (o .lists) at list (λ j a b. turn .clear j a (omega arith)) few ls ∙ p .laid;
-              last = ap (λ (y : ℕ). lastLength y ls) (sym number) ∙ p .last;
-            }
-
-        pub turn-next : StopTurn o′ (i + 1) (at + k) n
-        turn-next =
-            let q = lay-lengths (o .lists) at list in
-            let u = suc-mul i k in
-            let v : (i + 1) * k ≡ suc i * k = ap (λ (j : ℕ). j * k) (add-one i) in
-            let w = fits in
-            let s = few in
-            record {
-              bound = omega arith;
-              place = omega (arith, turn .place);
-              d = ap (λ z. length (z .dist)) lists-are ∙ q .0 ∙ turn .d;
-              s = ap (λ z. length (z .site)) lists-are ∙ q .1 .0 ∙ turn .s;
-              c = ap (λ z. length (z .cue)) lists-are ∙ q .1 .1 ∙ turn .c;
-              m = ap length marks-are ∙ length-mark-all (o .marks) (stop .asked) ∙ turn .m;
-              clear = rw lists-are
-                  (clear-kept (o .lists) at list at (at + k) allPlaces (omega arith) (omega arith) (turn .clear));
-              opens = x .opens list came;
-              fine = fine;
-              bad = λ a b z. turn .bad a b (ap (λ w. w .out) rest-is ∙ rw z);
-              asked = turn .asked ∙ ap (λ w. markAll (o .marks) (w .asked)) rest-is
-                  ∙ mark-all-append (o .marks) (stop .asked) (rest (i + 1) .asked)
-                  ∙ ap (λ z. markAll z (rest (i + 1) .asked)) (sym marks-are);
+              outcome = rw w;
+              answered = λ ls z. accepted-refused z w;
               under = covered o o′ at fits (x .under) ∙ turn .under;
             }
+          where
+            lengths : (z : Outcome (List Place)) → andThen z (λ l. accepted (length l)) ≡ refused a b → z ≡ refused a b
+            lengths (accepted l) w = accepted-refused refl w
+            lengths (refused n p) w = cc
+
+        -- it is served
+        module _ (n : ℕ) (e : r ≡ accepted n) where
+          found : (l : List Place) × (stop .out ≡ accepted l) × (_≡_ {A = Outcome ℕ} (accepted (length l)) (accepted n))
+          found = andThen-accepted (stop .out) (λ l. accepted (length l)) (sym (x .outcome) ∙ e)
+
+          list : List Place
+          list = found .0
+
+          came : stop .out ≡ accepted list
+          unfolding list
+          came = found .1
+
+          few : length list ≤ k
+          few = x .few list came
+
+          number : length list ≡ n
+          unfolding list
+          number = accepted-injective (found .2)
+
+          lists-are : o′ .lists ≡ lay (o .lists) at list
+          lists-are = ap (λ z. z .lists) (x .answered list came)
+
+          marks-are : o′ .marks ≡ markAll (o .marks) (stop .asked)
+          marks-are = ap (λ z. z .marks) (x .answered list came)
+
+          rest-is : rest i ≡ record {
+            asked = stop .asked ++ rest (i + 1) .asked;
+            out = andThen (rest (i + 1) .out) (λ ls. accepted (list ∷ ls));
+          }
+          rest-is = rw stops-are
+              (cuts-next (entries f h) k (openingOf f h) (inOrder (entries f h) order) (stopAt cols i) _ list came)
+
+          fine : (ls : List (List Place)) → rest (i + 1) .out ≡ accepted ls → Ends o′ (at + k) n ls
+          fine ls z =
+              let p = turn .fine (list ∷ ls) (ap (λ w. w .out) rest-is ∙ rw z) in
+              let w = fits in
+              record {
+                all = p .all;
+                out = p .out;
+                laid = ap (λ y. lay y (at + k) (slices k ls)) lists-are
+                    ∙ stop-laid k (o .lists) at list (λ j a b. turn .clear j a (omega arith)) few ls ∙ p .laid;
+                last = ap (λ (y : ℕ). lastLength y ls) (sym number) ∙ p .last;
+              }
+
+          pub turn-next : StopTurn o′ (i + 1) (at + k) n
+          turn-next =
+              let q = lay-lengths (o .lists) at list in
+              let u = suc-mul i k in
+              let v : (i + 1) * k ≡ suc i * k = ap (λ (j : ℕ). j * k) (add-one i) in
+              let w = fits in
+              let s = few in
+              record {
+                bound = omega arith;
+                place = omega (arith, turn .place);
+                d = ap (λ z. length (z .dist)) lists-are ∙ q .0 ∙ turn .d;
+                s = ap (λ z. length (z .site)) lists-are ∙ q .1 .0 ∙ turn .s;
+                c = ap (λ z. length (z .cue)) lists-are ∙ q .1 .1 ∙ turn .c;
+                m = ap length marks-are ∙ length-mark-all (o .marks) (stop .asked) ∙ turn .m;
+                clear = rw lists-are
+                    (clear-kept (o .lists) at list at (at + k) allPlaces (omega arith) (omega arith) (turn .clear));
+                opens = x .opens list came;
+                fine = fine;
+                bad = λ a b z. turn .bad a b (ap (λ w. w .out) rest-is ∙ rw z);
+                asked = turn .asked ∙ ap (λ w. markAll (o .marks) (w .asked)) rest-is
+                    ∙ mark-all-append (o .marks) (stop .asked) (rest (i + 1) .asked)
+                    ∙ ap (λ z. markAll z (rest (i + 1) .asked)) (sym marks-are);
+                under = covered o o′ at fits (x .under) ∙ turn .under;
+              }

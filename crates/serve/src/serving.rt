@@ -140,7 +140,11 @@ pub fn serve_all(
     let mut at: usize = 0;
     let mut used: usize = 0;
     while i < xs.len() {
-        let target = Target { stop: stop_at(xs, ys, i), at, k };
+        let target = Target {
+            stop: stop_at(xs, ys, i),
+            at,
+            k,
+        };
         let answer = serve_stop(f, h, &order[..m], target, &mut keys, dist, site, cue, marks);
         let Serving::Served(n) = answer else {
             return answer;

@@ -1,116 +1,230 @@
-use borrow.Author.Needs.{needs}
+use Prim.Native.Nat.{ℕ, _-_, _<_, _≤_}
+use mathlib.Core.Bool.{true}
+use mathlib.Core.List.{List, [], _∷_}
+use mathlib.Core.Path.{_≡_, refl, ap, sym, _∙_}
 use native.Mathlib.Omega.{arith}
+use lib.IntN.{ℤ}
+use lib.ListN.{length, take, length-take}
+use borrow.Author.Needs.{needs}
+use Rattle.blocks.specs.Layout.{maxTiles}
+use Rattle.geometry.specs.Around.{row}
+use Rattle.list.specs.Lists.{lent}
+use Rattle.plan.specs.FilePlan.{entries}
+use Rattle.plan.specs.Inner.Seam.{ValidStop}
+use Rattle.plan.proofs.Measures.{tiles-few}
+use Rattle.queue.specs.Inner.Keys.{waits}
+use Rattle.queue.proofs.Gathering.{gathered, waiting-tiles, waiting-rise}
+use Rattle.stops.specs.Stops.{stopAt, validStop}
+use Rattle.blocks.proofs.OutcomeLaws.{told}
+use Rattle.serve.specs.Inner.Serving.{servingOutcome, waiting, walkOf, StopServed}
+use Rattle.serve.proofs.StopLoop.{StopTurn, turn-starts, turn-ends, turn-refused, turn-next, turn-ready}
 use Rattle.serve.proofs.serving.serve_all.Statement.{statement}
 use Rattle.serve.proofs.serving.serve_all.Tie as tie
-use Rattle.serve.proofs.serving.serve_all.Reads as reads
-use Rattle.serve.proofs.serving.serve_all.Lts as lts
-use Rattle.queue.proofs.gather.gather.Reads as gather-reads
-use Rattle.serve.proofs.serving.serve_stop.Reads as serve-stop-reads
-use Rattle.stops.proofs.stop.stop_at.Reads as stop-at-reads
+
+stop-valid : (xs ys : List ℤ) (i : ℕ) → validStop (xs ∷ ys ∷ []) i ≡ true → ValidStop (stopAt (xs ∷ ys ∷ []) i)
+unfolding validStop row
+stop-valid xs ys i e = record { valid = e; axes = refl }
 
 abbrev Inv-loop : tie.InvT-loop
 Inv-loop f h xs ys k dist₀ site₀ cue₀ marks₀ order keys₀ m i₀ at₀ used₀ dist site cue marks keys i at used =
-    ?
+    (length keys ≡ length keys₀)
+    × StopTurn f h (waiting f h marks₀) (xs ∷ ys ∷ []) k (lent dist₀ site₀ cue₀ marks₀) (lent dist site cue marks) i at used
 
 abbrev μ-loop : tie.MeasureT-loop
 μ-loop f h xs ys k dist₀ site₀ cue₀ marks₀ order keys₀ m i₀ at₀ used₀ dist site cue marks keys i at used =
-    ?
+    length xs - i
 
--- src/serving.rt:138:33
 slice-aggregate-gather : tie.Need-slice-aggregate-gather Inv-loop μ-loop
 slice-aggregate-gather c = search needs
 
--- src/serving.rt:138:9
 gather-requires : tie.Need-gather-requires Inv-loop μ-loop
-gather-requires c κs = search needs
+gather-requires c κs =
+    let s : tie.Start Inv-loop μ-loop = search in
+    (s .pre .dir, s .pre .marks, tiles-few (s .args .f .now) (s .args .h) (s .pre .dir))
 
--- src/serving.rt:142:5
 loop-holds : tie.Need-loop-holds Inv-loop μ-loop
-loop-holds c = search needs
+loop-holds c =
+    let s : tie.Start Inv-loop μ-loop = search in
+    let a = s .args in
+    let o = lent (a .dist .now) (a .site .now) (a .cue .now) (a .marks .now) in
+    let tiles = waiting (a .f .now) (a .h) (a .marks .now) in
+    (refl, turn-starts (a .f .now) (a .h) tiles (a .xs .now ∷ a .ys .now ∷ []) (a .k) o (s .pre .clear) (s .pre .opens))
 
--- src/serving.rt:143:37
+-- what was gathered: the waiting tiles, in their order
+abbrev start : tie.After-gather Inv-loop μ-loop → tie.Start Inv-loop μ-loop
+start g = search
+
+waiting-gathered : (g : tie.After-gather Inv-loop μ-loop) →
+    let a = start g .args in
+    (g .gather .result ≤ a .h .tiles)
+    × (take (g .gather .result) (g .gather .last .1 .1 .1 .0) ≡ waiting (a .f .now) (a .h) (a .marks .now))
+waiting-gathered g =
+    let s = start g in
+    gathered (g .gather .ensures) (tiles-few (s .args .f .now) (s .args .h) (s .pre .dir))
+
+abbrev gathering : tie.At-loop Inv-loop μ-loop → tie.After-gather Inv-loop μ-loop
+gathering l = search
+
+few-gathered : (g : tie.After-gather Inv-loop μ-loop) → g .gather .result ≤ maxTiles
+few-gathered g =
+    let s = start g in
+    omega (arith, waiting-gathered g .0, tiles-few (s .args .f .now) (s .args .h) (s .pre .dir))
+
 stop-at-requires : tie.Need-stop-at-requires Inv-loop μ-loop
 stop-at-requires c κs = search needs
 
--- src/serving.rt:144:39
 array-share-prefix-order : tie.Need-array-share-prefix-order Inv-loop μ-loop
-array-share-prefix-order c = search needs
+array-share-prefix-order c =
+    let l : tie.At-loop Inv-loop μ-loop = search in
+    omega (arith, few-gathered (gathering l))
 
--- src/serving.rt:144:39
 slice-aggregate-serve-stop : tie.Need-slice-aggregate-serve-stop Inv-loop μ-loop
-slice-aggregate-serve-stop c = search needs
+slice-aggregate-serve-stop c =
+    let l : tie.At-loop Inv-loop μ-loop = search in
+    let g = gathering l in
+    omega (arith, few-gathered g, g .gather .kept .1 .1 .1 .0, length-take (g .gather .result) (g .gather .last .1 .1 .1 .0))
 
--- src/serving.rt:144:60
 slice-aggregate-serve-stop-2 : tie.Need-slice-aggregate-serve-stop-2 Inv-loop μ-loop
 slice-aggregate-serve-stop-2 c = search needs
 
--- src/serving.rt:144:13
 serve-stop-requires : tie.Need-serve-stop-requires Inv-loop μ-loop
-serve-stop-requires c κs = search needs
+serve-stop-requires c κs =
+    let b : tie.In-loop Inv-loop μ-loop = search in
+    let p : tie.After-stop-at Inv-loop μ-loop = search in
+    let l : tie.At-loop Inv-loop μ-loop = search in
+    let g = gathering l in
+    let s = start g in
+    let w = waiting-gathered g in
+    let waits′ = waits (entries (s .args .f .now) (s .args .h)) (s .args .marks .now) in
+    let t = l .loop .inv .1 in
+    let a = s .args in
+    let o = lent (a .dist .now) (a .site .now) (a .cue .now) (a .marks .now) in
+    let tiles = waiting (a .f .now) (a .h) (a .marks .now) in
+    record {
+      dir = s .pre .dir;
+      tiles = rw (w .1) (waiting-tiles waits′ (s .args .h .tiles));
+      rise = rw (w .1) (waiting-rise waits′ (s .args .h .tiles));
+      stop = rw (p .stop-at .ensures) (stop-valid (a .xs .now) (a .ys .now) (l .loop .i) (s .pre .valid (l .loop .i) (b .loop-test .taken)));
+      list = turn-ready (s .args .f .now) (s .args .h) tiles (s .args .xs .now ∷ s .args .ys .now ∷ []) (s .args .k) o t
+          (b .loop-test .taken) (s .pre .some) (s .pre .long);
+      room = omega (arith, few-gathered g, l .loop .inv .0, length-take (g .gather .result) (g .gather .last .1 .1 .1 .0));
+      marks = omega (arith, s .pre .marks, t .m);
+      opens = t .opens;
+    }
 
--- src/serving.rt:145:29
 enum-known-answer : tie.Need-enum-known-answer Inv-loop μ-loop
 enum-known-answer c = search needs
 
--- src/serving.rt:146:13
 enum-told : tie.Need-enum-told Inv-loop μ-loop
 enum-told c = search needs
 
--- src/serving.rt:146:13
 same-length : tie.Need-same-length Inv-loop μ-loop
 same-length c = search needs
 
--- src/serving.rt:146:13
 same-length-2 : tie.Need-same-length-2 Inv-loop μ-loop
 same-length-2 c = search needs
 
--- src/serving.rt:146:13
 same-length-3 : tie.Need-same-length-3 Inv-loop μ-loop
 same-length-3 c = search needs
 
--- src/serving.rt:146:13
 same-length-4 : tie.Need-same-length-4 Inv-loop μ-loop
 same-length-4 c = search needs
 
--- src/serving.rt:146:13
+-- what the stop made of the slices, and what it answered
+abbrev turned : tie.After-serve-stop Inv-loop μ-loop → tie.In-loop Inv-loop μ-loop
+turned x = search
+
+abbrev head : tie.In-loop Inv-loop μ-loop → tie.At-loop Inv-loop μ-loop
+head b = search
+
+served : (x : tie.After-serve-stop Inv-loop μ-loop) →
+    let l = head (turned x) in
+    let a = start (gathering l) .args in
+    let tiles = waiting (a .f .now) (a .h) (a .marks .now) in
+    StopServed (a .f .now) (a .h)
+    (walkOf (a .f .now) (a .h) tiles (stopAt (a .xs .now ∷ a .ys .now ∷ []) (l .loop .i)) (a .k)) (a .k) (l .loop .at)
+    (lent (l .loop .dist) (l .loop .site) (l .loop .cue) (l .loop .marks)) (servingOutcome (x .serve-stop .result))
+    (lent (x .serve-stop .last .1 .1 .1 .1 .1 .0) (x .serve-stop .last .1 .1 .1 .1 .1 .1 .0)
+    (x .serve-stop .last .1 .1 .1 .1 .1 .1 .1 .0) (x .serve-stop .last .1 .1 .1 .1 .1 .1 .1 .1 .0))
+served x =
+    let p : tie.After-stop-at Inv-loop μ-loop = search in
+    let g = gathering (head (turned x)) in
+    let a = start g .args in
+    let tiles = waiting (a .f .now) (a .h) (a .marks .now) in
+    let same = ap (λ order. walkOf (a .f .now) (a .h) order (p .stop-at .result) (a .k)) (waiting-gathered g .1)
+    ∙ ap (λ stop. walkOf (a .f .now) (a .h) tiles stop (a .k)) (p .stop-at .ensures) in
+    rw same at (x .serve-stop .ensures)
+
 returns : tie.Need-returns Inv-loop μ-loop
-returns c = search needs
+returns c =
+    let x : tie.After-serve-stop Inv-loop μ-loop = search in
+    let b = turned x in
+    let l = head b in
+    let a = start (gathering l) .args in
+    let o = lent (a .dist .now) (a .site .now) (a .cue .now) (a .marks .now) in
+    let tiles = waiting (a .f .now) (a .h) (a .marks .now) in
+    let e = c .enum-told .given .1 in
+    rw (ap servingOutcome e)
+    (turn-refused (a .f .now) (a .h) tiles (a .xs .now ∷ a .ys .now ∷ []) (a .k) o (l .loop .inv .1) (b .loop-test .taken)
+    (served x) _ _ (ap servingOutcome e))
 
--- src/serving.rt:149:9
 add-i : tie.Need-add-i Inv-loop μ-loop
-add-i c = search needs
+add-i c =
+    let x : tie.After-serve-stop Inv-loop μ-loop = search in
+    let b = turned x in
+    let a = start (gathering (head b)) in
+    omega (arith, b .loop-test .taken, a .good .1 .1 .0 .0)
 
--- src/serving.rt:150:9
 add-at : tie.Need-add-at Inv-loop μ-loop
-add-at c = search needs
+add-at c =
+    let x : tie.After-serve-stop Inv-loop μ-loop = search in
+    let b = turned x in
+    let s = start (gathering (head b)) in
+    let a = s .args in
+    let o = lent (a .dist .now) (a .site .now) (a .cue .now) (a .marks .now) in
+    let tiles = waiting (a .f .now) (a .h) (a .marks .now) in
+    let ready = turn-ready (a .f .now) (a .h) tiles (a .xs .now ∷ a .ys .now ∷ []) (a .k) o (head b .loop .inv .1)
+    (b .loop-test .taken) (s .pre .some) (s .pre .long) in
+    omega (arith, ready .long .0, s .good .1 .1 .1 .1 .1 .0 .0)
 
--- src/serving.rt:142:5
 loop-less : tie.Need-loop-less Inv-loop μ-loop
 loop-less c = search needs
 
--- src/serving.rt:142:5
 loop-again : tie.Need-loop-again Inv-loop μ-loop
-loop-again c = search needs
+loop-again c =
+    let n : tie.After-answer Inv-loop μ-loop = search in
+    let x : tie.After-serve-stop Inv-loop μ-loop = search in
+    let b = turned x in
+    let l = head b in
+    let a = start (gathering l) .args in
+    let o = lent (a .dist .now) (a .site .now) (a .cue .now) (a .marks .now) in
+    let tiles = waiting (a .f .now) (a .h) (a .marks .now) in (
+      x .serve-stop .kept .1 .1 .1 .1 .0 ∙ l .loop .inv .0,
+      turn-next (a .f .now) (a .h) tiles (a .xs .now ∷ a .ys .now ∷ []) (a .k) o (l .loop .inv .1) (b .loop-test .taken)
+          (served x) _ (ap servingOutcome (n .answer .given .1)),
+    )
 
--- src/serving.rt:119:1
 same-length-5 : tie.Need-same-length-5 Inv-loop μ-loop
 same-length-5 c = search needs
 
--- src/serving.rt:119:1
 same-length-6 : tie.Need-same-length-6 Inv-loop μ-loop
 same-length-6 c = search needs
 
--- src/serving.rt:119:1
 same-length-7 : tie.Need-same-length-7 Inv-loop μ-loop
 same-length-7 c = search needs
 
--- src/serving.rt:119:1
 same-length-8 : tie.Need-same-length-8 Inv-loop μ-loop
 same-length-8 c = search needs
 
--- src/serving.rt:119:1
 returns-2 : tie.Need-returns-2 Inv-loop μ-loop
-returns-2 c = search needs
+returns-2 c =
+    let l : tie.At-loop Inv-loop μ-loop = search in
+    let g = gathering l in
+    let s = start g in
+    let a = s .args in
+    let o = lent (a .dist .now) (a .site .now) (a .cue .now) (a .marks .now) in
+    let tiles = waiting (a .f .now) (a .h) (a .marks .now) in
+    turn-ends (a .f .now) (a .h) tiles (a .xs .now ∷ a .ys .now ∷ []) (a .k) o (l .loop .inv .1) (omega (arith, c .loop-test .left))
 
 pub serve-all-spec : {M : Type 1} → statement M
 serve-all-spec =
