@@ -1,66 +1,70 @@
-use mathlib.Core.Path.{_∙_}
+use native.Mathlib.Omega.{arith}
 use borrow.Author.Needs.{needs}
-use Rattle.blocks.proofs.OutcomeLaws.{told-accepted, told-refused, number-accepted, number-refused}
-use Rattle.join.proofs.CallLaws.{directory-refuses, argument-refuses, tests-pass, run-ready}
 use Rattle.join.proofs.call.join.Statement.{statement}
 use Rattle.join.proofs.call.join.Tie as tie
+use Rattle.join.proofs.call.join.Reads as reads
+use Rattle.join.proofs.call.join.Lts as lts
+use Rattle.blocks.proofs.directory.read_directory.Reads as read-directory-reads
+use Rattle.join.proofs.call.directory_refused.Reads as directory-refused-reads
+use Rattle.join.proofs.call.refused.Reads as refused-reads
+use Rattle.join.proofs.call.run.Reads as run-reads
+use Rattle.stops.proofs.arguments.failed_argument.Reads as failed-argument-reads
 
+-- src/call.rt:157:9
 read-directory-requires : tie.Need-read-directory-requires
 read-directory-requires c κs = search needs
 
+-- src/call.rt:158:35
 enum-known-answer : tie.Need-enum-known-answer
 enum-known-answer c = search needs
 
+-- src/call.rt:159:9
 enum-told : tie.Need-enum-told
 enum-told c = search needs
 
-passed-on-requires : tie.Need-passed-on-requires
-passed-on-requires c κs = search needs
+-- src/call.rt:159:9
+directory-refused-requires : tie.Need-directory-refused-requires
+directory-refused-requires c κs = search needs
 
+-- src/call.rt:159:9
 returns : tie.Need-returns
-returns c =
-    let s = c .before .before .before .before .before .before .before .before .before in
-    let told = c .before .enum-told .given .1 in
-    let d = told-refused (c .before .before .before .read-directory .ensures) told in
-    directory-refuses (s .args .f .now) (s .args .xs .now) (s .args .ys .now) (s .args .k) (s .args .dist .now) (s .args .site .now) (s .args .cue .now) (s .args .marks .now) d (rw told at (c .passed-on .ensures))
+returns c = search needs
 
+-- src/call.rt:167:9
 failed-argument-requires : tie.Need-failed-argument-requires
 failed-argument-requires c κs = search needs
 
+-- src/call.rt:169:9
 refused-requires : tie.Need-refused-requires
 refused-requires c κs = search needs
 
+-- src/call.rt:169:9
 returns-2 : tie.Need-returns-2
-returns-2 c =
-    let s = c .before .before .before .before .before .before .before .before .before .before .before .before in
-    let d = told-accepted (c .before .before .before .before .before .before .read-directory .ensures) (c .before .before .before .before .answer .given .1) in
-    argument-refuses (s .args .f .now) (s .args .xs .now) (s .args .ys .now) (s .args .k) (s .args .dist .now) (s .args .site .now) (s .args .cue .now) (s .args .marks .now) d (number-refused (c .before .before .failed-argument .result) 0 (c .before .before .failed-argument .ensures) (c .before .if1 .taken)) (c .refused .ensures)
+returns-2 c = search needs
 
+-- src/call.rt:171:5
 run-requires : tie.Need-run-requires
-run-requires c κs =
-    let s = c .before .before .before .before .before .before .before .before .before .before .before .before .before .before .before in
-    let d = told-accepted (c .before .before .before .before .before .before .before .before .before .read-directory .ensures) (c .before .before .before .before .before .before .before .answer .given .1) in
-    let a = number-accepted (c .before .before .before .before .before .failed-argument .result) 0 (c .before .before .before .before .before .failed-argument .ensures) (c .before .before .before .before .if1 .left) in
-    run-ready (s .args .f .now) (s .args .xs .now) (s .args .ys .now) (s .args .k) (s .args .dist .now) (s .args .site .now) (s .args .cue .now) (s .args .marks .now) d a
+run-requires c κs = search needs
 
+-- src/call.rt:140:1
 same-length : tie.Need-same-length
 same-length c = search needs
 
+-- src/call.rt:140:1
 same-length-2 : tie.Need-same-length-2
 same-length-2 c = search needs
 
+-- src/call.rt:140:1
 same-length-3 : tie.Need-same-length-3
 same-length-3 c = search needs
 
+-- src/call.rt:140:1
 same-length-4 : tie.Need-same-length-4
 same-length-4 c = search needs
 
+-- src/call.rt:140:1
 returns-3 : tie.Need-returns-3
-returns-3 c =
-    let s = c .before .before .before .before .before .before .before .before .before .before .before .before .before .before .before .before .before .before .before .before .before .before .before .before in
-    let d = told-accepted (c .before .before .before .before .before .before .before .before .before .before .before .before .before .before .before .before .before .before .read-directory .ensures) (c .before .before .before .before .before .before .before .before .before .before .before .before .before .before .before .before .answer .given .1) in
-    let a = number-accepted (c .before .before .before .before .before .before .before .before .before .before .before .before .before .before .failed-argument .result) 0 (c .before .before .before .before .before .before .before .before .before .before .before .before .before .before .failed-argument .ensures) (c .before .before .before .before .before .before .before .before .before .before .before .before .before .if1 .left) in
-    c .before .before .before .before .before .before .before .before .run .ensures ∙ tests-pass (s .args .f .now) (s .args .xs .now) (s .args .ys .now) (s .args .k) (s .args .dist .now) (s .args .site .now) (s .args .cue .now) (s .args .marks .now) d a
+returns-3 c = search needs
 
 pub join-spec : {M : Type 1} → statement M
 join-spec =
@@ -69,7 +73,7 @@ join-spec =
     read-directory-requires
     enum-known-answer
     enum-told
-    passed-on-requires
+    directory-refused-requires
     returns
     failed-argument-requires
     refused-requires

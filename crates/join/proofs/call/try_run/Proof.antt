@@ -1,61 +1,53 @@
-use mathlib.Core.Path.{sym}
 use native.Mathlib.Omega.{arith}
 use borrow.Author.Needs.{needs}
-use Rattle.join.proofs.RunLaws.{few-enough, smallest, stops-ready, attempted}
 use Rattle.join.proofs.call.try_run.Statement.{statement}
 use Rattle.join.proofs.call.try_run.Tie as tie
+use Rattle.join.proofs.call.try_run.Reads as reads
+use Rattle.join.proofs.call.try_run.Lts as lts
+use Rattle.list.proofs.clear.clear_places.Reads as clear-places-reads
+use Rattle.prune.proofs.marking.mark_pruned.Reads as mark-pruned-reads
+use Rattle.serve.proofs.serving.serve_all.Reads as serve-all-reads
+use Rattle.stops.proofs.around.around.Reads as around-reads
 
+-- src/call.rt:96:35
 mul-clear-places : tie.Need-mul-clear-places
-mul-clear-places c =
-    let s = c .before .before .before .before .before .before .before .before in
-    let r = s .pre in
-    omega (arith, few-enough r)
+mul-clear-places c = search needs
 
+-- src/call.rt:96:5
 clear-places-requires : tie.Need-clear-places-requires
-clear-places-requires c κs =
-    let s = c .before .before .before .before .before .before .before .before in
-    let r = s .pre in
-    (r .d, (r .s, r .c))
+clear-places-requires c κs = search needs
 
+-- src/call.rt:97:36
 around-requires : tie.Need-around-requires
-around-requires c κs =
-    let s = c .before .before .before .before .before .before .before .before .before .before .before .before .before .before .before in
-    let r = s .pre in
-    (r .some, omega (arith, r .some, r .same))
+around-requires c κs = search needs
 
+-- src/call.rt:97:9
 mark-pruned-requires : tie.Need-mark-pruned-requires
-mark-pruned-requires c κs =
-    let s = c .before .before .before .before .before .before .before .before .before .before .before .before .before .before .before .before .before in
-    let r = s .pre in
-    (r .dir, (r .marks, rw (c .before .around .ensures) (smallest r .valid)))
+mark-pruned-requires c κs = search needs
 
+-- src/call.rt:98:9
 serve-all-requires : tie.Need-serve-all-requires
-serve-all-requires c κs =
-    let s = c .before .before .before .before .before .before .before .before .before .before .before .before .before .before .before .before .before .before .before .before .before .before .before .before in
-    let r = s .pre in
-    let e = c .before .before .before .before .before .before .before .before .before .before .before .before .before .before .before .clear-places .ensures in
-    stops-ready r (e .0) (e .1 .0) (e .1 .1) (rw (sym (c .before .before .before .before .before .before .before .before .around .ensures)) (c .before .before .before .before .before .before .mark-pruned .ensures .1))
+serve-all-requires c κs = search needs
 
+-- src/call.rt:79:1
 same-length : tie.Need-same-length
 same-length c = search needs
 
+-- src/call.rt:79:1
 same-length-2 : tie.Need-same-length-2
 same-length-2 c = search needs
 
+-- src/call.rt:79:1
 same-length-3 : tie.Need-same-length-3
 same-length-3 c = search needs
 
+-- src/call.rt:79:1
 same-length-4 : tie.Need-same-length-4
 same-length-4 c = search needs
 
+-- src/call.rt:79:1
 returns : tie.Need-returns
-returns c =
-    let s = c .before .before .before .before .before .before .before .before .before .before .before .before .before .before .before .before .before .before .before .before .before .before .before .before .before .before .before .before .before .before .before .before .before in
-    let r = s .pre in
-    let e = c .before .before .before .before .before .before .before .before .before .before .before .before .before .before .before .before .before .before .before .before .before .before .before .before .clear-places .ensures in
-    let m = c .before .before .before .before .before .before .before .before .before .before .before .before .before .before .before .mark-pruned .ensures in
-    let a = c .before .before .before .before .before .before .before .before .before .before .before .before .before .before .before .before .before .around .ensures in
-    attempted r (e .0) (e .1 .0) (e .1 .1) (rw (sym a) (m .1)) (rw (sym a) (m .0 .0)) (m .0 .1) (c .before .before .before .before .before .before .before .before .serve-all .ensures)
+returns c = search needs
 
 pub try-run-spec : {M : Type 1} → statement M
 try-run-spec =
