@@ -8,9 +8,10 @@ use lib.IntN.{ℤ}
 use lib.ListN.{length}
 use Rattle.base.proofs.Tests.{and-both, both-and, clash}
 use Rattle.geometry.specs.Box.{lo, withinLimits, validAxis, validBox, validPoint, onAxis, inside}
+use Rattle.geometry.specs.Claims.{axisBound}
 use Rattle.geometry.specs.Distance.{D, closestPoint, farthestPoint, minDist, maxDist}
 use Rattle.geometry.proofs.OneAxis.{Axis, axis, On, on, on-test, low-on, valid-on, limited-on, closest-on, closest-least, farthest-on, farthest-most}
-use Rattle.geometry.proofs.Shift.{Limited, limited, square-bound, axisBound}
+use Rattle.geometry.proofs.Shift.{Limited, limited, square-bound}
 
 -- a point of a box, axis by axis
 pub data In : List (List ℤ) → List ℤ → Type 0 where

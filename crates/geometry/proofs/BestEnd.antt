@@ -10,10 +10,11 @@ use lib.Signed.{ltZ}
 use borrow.Author.Tests.{ltb-true, ltb-false}
 use Rattle.base.proofs.Tests.{cond-ind, cond-ap}
 use Rattle.geometry.specs.Box.{lo, hi, validAxis}
+use Rattle.geometry.specs.Claims.{axisBound}
 use Rattle.geometry.specs.Distance.{square, closest, farthest}
 use Rattle.geometry.proofs.OneAxis.{Axis, axis, On, low-on, high-on, limited-on}
 use Rattle.geometry.proofs.OneAxis.{closest-least, farthest-most, closest-bound, farthest-bound}
-use Rattle.geometry.proofs.Shift.{shift, Limited, at-most-shift, square-shift, axisBound, less-sub}
+use Rattle.geometry.proofs.Shift.{shift, Limited, at-most-shift, square-shift, less-sub}
 use Rattle.geometry.specs.Margin.{gain, bestEnd}
 use Rattle.geometry.proofs.Line.{order, rises}
 

@@ -11,8 +11,9 @@ use lib.Signed.{leZ, ltZ}
 use borrow.Author.Tests.{ltb-true, ltb-false, lt-ltb}
 use Rattle.base.proofs.Tests.{and-both, both-and, iff-eq, cond-ind}
 use Rattle.geometry.specs.Box.{lowest, highest, lo, hi, withinLimits, validAxis, onAxis}
+use Rattle.geometry.specs.Claims.{axisBound}
 use Rattle.geometry.specs.Distance.{gap, square, closest, farthest}
-use Rattle.geometry.proofs.Shift.{shift, Limited, limited, limited-between, less-shift, at-most-shift, same-shift, at-most-refl, not-less, at-most-trans, sub-shift, gap-shift, square-bound, axisBound, less-sub}
+use Rattle.geometry.proofs.Shift.{shift, Limited, limited, limited-between, less-shift, at-most-shift, same-shift, at-most-refl, not-less, at-most-trans, sub-shift, gap-shift, square-bound, less-sub}
 
 -- what the test of an axis shows
 pub record Axis (s : List ℤ) : Type 0 where

@@ -10,6 +10,7 @@ use lib.Signed.{mag, leZ, ltZ}
 use borrow.Author.Tests.{le-ltb, lt-ltb, ltb-true, ltb-false, leb-true, le-leb}
 use Rattle.base.proofs.Tests.{and-both, cond-ind, iff-eq, clash}
 use Rattle.geometry.specs.Box.{withinLimits}
+use Rattle.geometry.specs.Claims.{axisBound}
 use Rattle.geometry.specs.Distance.{gap, square}
 
 -- how far two numbers from 0 are apart
@@ -149,10 +150,6 @@ limited-between a z b h k s t =
     let x = at-most-shift a z (h .small) m s in
     let y = at-most-shift z b m (k .small) t in
     record { from = omega arith; to = omega arith; small = m }
-
--- (2 × 1,000,000)²: the largest square on one axis
-abbrev pub axisBound : ℕ
-axisBound = 4000000000000
 
 -- the difference of two coordinates, either way
 pub gap-bound : (a b : ℤ) → Limited a → Limited b → gap a b ≤ 2000000

@@ -17,7 +17,7 @@ use Rattle.base.specs.Lists.{All}
 use Rattle.geometry.specs.Around.{row, points, around, SmallestAround}
 use Rattle.geometry.specs.Box.{validBox, validPoint, inside}
 use Rattle.geometry.specs.Cases.{table, AllSay}
-use Rattle.geometry.specs.Claims.{Least, Largest, LargestDifference}
+use Rattle.geometry.specs.Claims.{axisBound, Least, Largest, LargestDifference}
 use Rattle.geometry.specs.Corners.{corner, corners}
 use Rattle.geometry.specs.Distance.{gap, square, D, closest, farthest, closestPoint, farthestPoint}
 use Rattle.geometry.specs.Distance.{minDist, maxDist}
@@ -29,7 +29,7 @@ use Rattle.geometry.proofs.AllAxes.{closest-in, min-least, farthest-in,
 use Rattle.geometry.proofs.Around.{rows-at, all-rows, around-axes, around-valid, around-holds, around-least}
 use Rattle.geometry.proofs.BestPoint.{Three, three, best-in, best-over-e, best-over-b, best-most, over-in}
 use Rattle.geometry.proofs.Corners.{corner-in, best-corner}
-use Rattle.geometry.proofs.Shift.{axisBound, less-sub, at-most-sub, abs-difference}
+use Rattle.geometry.proofs.Shift.{less-sub, at-most-sub, abs-difference}
 -- the distances and the margin as sums over the axes
 pub use Rattle.geometry.proofs.ByAxis.{dist-sum, min-dist-sum, max-dist-sum, margin-sum}
 

@@ -9,6 +9,10 @@ use Rattle.geometry.specs.Box.{inside}
 use Rattle.geometry.specs.Distance.{D}
 use Rattle.geometry.specs.Margin.{difference, Reached}
 
+-- (2 × 1,000,000)²: the largest square on one axis within the limits
+abbrev pub axisBound : ℕ
+axisBound = 4000000000000
+
 -- n is "the least D(p,q) over the whole-number points q of the box"
 pub record Least (b : List (List ℤ)) (p : List ℤ) (n : ℕ) : Type 0 where
   pub point : List ℤ

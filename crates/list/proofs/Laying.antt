@@ -23,8 +23,8 @@ use Rattle.codec.proofs.Over.{length-over, over-nil, over-cons, getD-before, ge
 use Rattle.codec.proofs.Over.{over-last, set-over}
 use Rattle.codec.proofs.Tabulate.{length-tabulate, getD-tabulate, tabulate-last, tabulate-same, tabulate-take}
 use Rattle.search.proofs.Cut.{sorted-take}
-use Rattle.list.specs.Inner.Keeping.{places, put, Long}
-use Rattle.list.specs.Lists.{Lists, lists, placeAt, dists, sites, cues, lay}
+use Rattle.list.specs.Inner.Keeping.{places, put}
+use Rattle.list.specs.Lists.{Lists, lists, Long, placeAt, dists, sites, cues, lay}
 
 -- ---- one slice, which holds what `show` gives of each place
 module _ (show : Place → ℕ) where

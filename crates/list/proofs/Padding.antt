@@ -10,8 +10,8 @@ use Rattle.search.specs.Run.{noPlace, padded, slices}
 use Rattle.search.specs.declared.Place.{Place}
 use Rattle.codec.proofs.Tabulate.{tabulate-const}
 use Rattle.search.proofs.Marks.{padded-length}
-use Rattle.list.specs.Inner.Keeping.{places, Long}
-use Rattle.list.specs.Lists.{Lists, lists, placeAt, lay}
+use Rattle.list.specs.Inner.Keeping.{places}
+use Rattle.list.specs.Lists.{Lists, lists, Long, placeAt, lay}
 use Rattle.list.proofs.Laying.{lay-self, lay-place, lay-after, lay-next, lay-nil}
 
 map-replicate : (show : Place → ℕ) (n : ℕ) → map show (replicate n noPlace) ≡ replicate n (show noPlace)

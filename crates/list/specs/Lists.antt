@@ -1,14 +1,15 @@
 -- The output slices of the join: "Three output slices hold D, the site as tile × 40 + slot, and cue" (document 01, "The join").
 --
 --   Lists, lists         the three slices as one value
+--   Long                 how long they are at least
 --   placeAt              the place at an index
 --   dists, sites, cues   what each slice holds of a list of places
 --   lay                  the slices with a list of places written from an index on
 --   Slices, lent         these three and the marks
 --   cleared              the four slices with places and marks zero
-use Prim.Native.Nat.{ℕ}
+use Prim.Native.Nat.{ℕ, _≤_}
 use mathlib.Core.List.{List, map}
-use lib.ListN.{getD, replicate}
+use lib.ListN.{getD, length, replicate}
 use Rattle.codec.specs.Over.{over}
 use Rattle.search.specs.Run.{noPlace, noMark}
 use Rattle.search.specs.declared.Place.{Place}
@@ -20,6 +21,10 @@ pub record Lists : Type 0 where
 
 abbrev pub lists : List ℕ → List ℕ → List ℕ → Lists
 lists d s c = record { dist = d; site = s; cue = c }
+
+-- slices of at least m elements
+abbrev pub Long : Lists → ℕ → Type 0
+Long o m = (m ≤ length (o .dist)) × ((m ≤ length (o .site)) × (m ≤ length (o .cue)))
 
 abbrev pub placeAt : Lists → ℕ → Place
 placeAt o i = record { dist = getD (o .dist) i 0; site = getD (o .site) i 0; cue = getD (o .cue) i 0 }

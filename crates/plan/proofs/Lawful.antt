@@ -20,8 +20,7 @@ use Rattle.geometry.proofs.AllAxes.{Over, in-box, in-test, in-length, closest-i
 use Rattle.geometry.proofs.Two.{two, at-x, at-y}
 use Rattle.geometry.proofs.BestPoint.{three, over-in}
 use Rattle.geometry.proofs.Theorems.{closer-exact, closer-irreflexive, closer-transitive}
-use Rattle.plan.specs.FilePlan.{entries}
-use Rattle.plan.specs.Inner.Seam.{axisCount}
+use Rattle.plan.specs.FilePlan.{axisCount, entries}
 
 pub box-axes : (f : List ℕ) (t : ℕ) → length (boxAt f t) ≡ axisCount
 unfolding boxAt entryBox tabulate

@@ -25,8 +25,7 @@ use Rattle.search.proofs.Lists.{all-both}
 use Rattle.search.proofs.SameEntries.{same-pruned, same-pruned-count, same-marks, same-used, same-join}
 use Rattle.search.proofs.Theorems.{only-tiles, same-run}
 use Rattle.tiles.proofs.Theorems.{sites-depend, opening-depends}
-use Rattle.plan.specs.FilePlan.{entries, openingOf, townOf}
-use Rattle.plan.specs.Inner.Seam.{axisCount}
+use Rattle.plan.specs.FilePlan.{axisCount, entries, openingOf, townOf}
 use Rattle.plan.proofs.Lawful.{lawful}
 use Rattle.plan.proofs.Openings.{opening-town, openings-checked, all-open, own-town}
 

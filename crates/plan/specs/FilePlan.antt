@@ -1,5 +1,6 @@
 -- A file whose directory is accepted, as the search sees it.
 --
+--   axisCount    the axes of a town
 --   plane        document 01's geometry
 --   entries      the directory's boxes and counts
 --   openingOf    what opening a tile gives
@@ -11,6 +12,7 @@ use mathlib.Core.Path.{_≡_}
 use lib.IntN.{ℤ}
 use Rattle.base.specs.Refusal.{Outcome, accepted, andThen}
 use Rattle.blocks.specs.Directory.{boxAt, countAt}
+use Rattle.blocks.specs.Layout as layout
 use Rattle.blocks.specs.declared.header.Header.{Header}
 use Rattle.codec.specs.Number.{limit32}
 use Rattle.geometry.specs.Box.{inside}
@@ -19,6 +21,9 @@ use Rattle.geometry.specs.Margin.{closer}
 use Rattle.search.specs.Plan.{Geometry, Directory}
 use Rattle.tiles.specs.Tile.{sitePoint, openTile, sitesAt}
 use Rattle.tiles.specs.declared.tile.Site.{Site}
+
+abbrev pub axisCount : ℕ
+axisCount = layout.axes
 
 -- points by their coordinates; "a cue (unsigned 32 bits, any number)"
 abbrev pub plane : Geometry

@@ -1,5 +1,6 @@
 -- The theorems for the reader: demands 2 and 3 of the run, sentence by sentence.
--- G is the plan (geometry, directory, k), Within O the stops of the box O, and L what is assumed of them.
+-- The definition of the run is `join` (specs/Run), what is claimed of it `RunAnswers` (specs/Claims). G is the
+-- geometry, E the directory, O the box around the stops, and L what is assumed of them.
 use Prim.Native.Nat.{ℕ, _<_}
 use mathlib.Core.Bool.{true, false}
 use mathlib.Core.List.{List, [], _∷_, map}

@@ -9,6 +9,7 @@ use Rattle.search.specs.Order.{insert}
 use Rattle.search.specs.Run.{rank}
 use Rattle.search.specs.declared.Place.{Place}
 use Rattle.list.specs.Lists.{Lists, placeAt, lay}
+pub use Rattle.list.specs.Lists.{Long}
 
 -- the n places from an index on
 unfoldable pub places : Lists → ℕ → ℕ → List Place
@@ -17,10 +18,6 @@ places o at n = tabulate (placeAt o) at n
 -- one place stored
 abbrev pub put : Lists → ℕ → Place → Lists
 put o i x = record { dist = set (o .dist) i (x .dist); site = set (o .site) i (x .site); cue = set (o .cue) i (x .cue) }
-
--- slices of at least m elements
-abbrev pub Long : Lists → ℕ → Type 0
-Long o m = (m ≤ length (o .dist)) × ((m ≤ length (o .site)) × (m ≤ length (o .cue)))
 
 -- x put in its rank into the n places from index at on
 abbrev pub withPlace : Lists → ℕ → ℕ → Place → Lists

@@ -7,7 +7,6 @@ use lib.IntN.{ℤ}
 use lib.ListN.{length}
 use Rattle.base.specs.Refusal.{accepted}
 use Rattle.blocks.specs.Directory.{directory, boxAt}
-use Rattle.blocks.specs.Layout as layout
 use Rattle.blocks.specs.Layout.{blockSize}
 use Rattle.blocks.specs.declared.header.Header.{Header}
 use Rattle.codec.specs.Tabulate.{tabulate}
@@ -19,10 +18,7 @@ use Rattle.search.specs.declared.Place.{Place}
 use Rattle.tiles.specs.Tile.{sitePoint, siteIn}
 use Rattle.tiles.specs.declared.tile.Site.{Site}
 use Rattle.plan.specs.FilePlan.{openingOf, townOf}
-
--- the axes of a town
-abbrev pub axisCount : ℕ
-axisCount = layout.axes
+pub use Rattle.plan.specs.FilePlan.{axisCount}
 
 -- a tile of a file whose directory is accepted
 pub record TileOf (f : List ℕ) (h : Header) (t : ℕ) : Type 0 where

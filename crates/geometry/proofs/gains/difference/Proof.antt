@@ -6,7 +6,8 @@ use mir.Facts.{toZ-pos, toZ-ofZ}
 use mir.Syntax.{w64}
 use mir.Val.{SFits, toZ}
 use borrow.Author.Needs.{needs}
-use Rattle.geometry.proofs.Shift.{axisBound, mag-difference}
+use Rattle.geometry.specs.Claims.{axisBound}
+use Rattle.geometry.proofs.Shift.{mag-difference}
 use Rattle.geometry.proofs.gains.difference.Statement.{statement}
 use Rattle.geometry.proofs.gains.difference.Tie as tie
 
