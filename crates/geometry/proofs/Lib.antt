@@ -6,7 +6,7 @@ mod Line
 mod BestEnd
 pub mod BestPoint
 mod Corners
-mod Around
+pub mod Around
 pub mod ByAxis
 pub mod Two
 pub mod Theorems

@@ -8,7 +8,7 @@ use Rattle.base.specs.Refusal.{Outcome, accepted, refused}
 use Rattle.blocks.specs.Directory.{directory}
 use Rattle.blocks.specs.declared.header.Header.{Header}
 use Rattle.list.specs.Lists.{Slices}
-use Rattle.plan.specs.Inner.Seam.{axisCount}
+use Rattle.plan.specs.FilePlan.{axisCount}
 use Rattle.stops.specs.Arguments.{arguments}
 use Rattle.stops.proofs.ArgumentLaws.{arguments-good}
 use Rattle.join.specs.Inner.Running.{RunReady}

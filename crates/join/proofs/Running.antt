@@ -7,7 +7,7 @@ use native.Mathlib.Nat.{zero-add}
 use native.Mathlib.Omega.{arith}
 use lib.Dec.{eqb, ltb}
 use lib.IntN.{ℤ}
-use lib.ListN.{length, getD, take, replicate, length-replicate}
+use lib.ListN.{length, take, replicate, length-replicate}
 use lib.Seq.{take-at}
 use Rattle.base.specs.Lists.{All}
 use Rattle.base.specs.Refusal.{Outcome, accepted, refused, andThen}
@@ -17,11 +17,11 @@ use Rattle.codec.specs.Over.{over}
 use Rattle.geometry.specs.Around.{points, around, SmallestAround}
 use Rattle.geometry.specs.Box.{validPoint}
 use Rattle.list.specs.Lists.{Slices, lay, cleared}
-use Rattle.plan.specs.FilePlan.{plane, entries, openingOf}
-use Rattle.plan.specs.Inner.Seam.{axisCount, ValidRegion}
+use Rattle.plan.specs.FilePlan.{entries, openingOf}
+use Rattle.plan.specs.Inner.Seam.{ValidRegion}
 use Rattle.prune.specs.Prune.{pruneMarks}
 use Rattle.queue.specs.Inner.Keys.{waits}
-use Rattle.search.specs.Lists.{range, bit, count, member, filter}
+use Rattle.search.specs.Lists.{range, bit, count, member}
 use Rattle.search.specs.Limits.{maxK, maxPlaces}
 use Rattle.search.specs.Plan.{Lawful, ranked}
 use Rattle.search.specs.Pruning.{pruned, prunedCount}
@@ -47,7 +47,7 @@ use Rattle.serve.proofs.Marking.{marks-end}
 use Rattle.stops.proofs.ArgumentLaws.{few-places}
 use Rattle.stops.proofs.StopLaws.{stops-length}
 use Rattle.join.specs.Inner.Running.{RunReady, walksFor, Attempted}
-use Rattle.join.specs.Join.{Result, runFor, filled, ended, runEnd}
+use Rattle.join.specs.Join.{runFor, filled, ended, runEnd}
 
 -- ---- words for lists
 

@@ -18,10 +18,8 @@ use Rattle.blocks.specs.declared.header.Header.{Header}
 use Rattle.codec.specs.Number.{Bytes}
 use Rattle.geometry.specs.Around.{around}
 use Rattle.geometry.specs.Box.{inside}
-use Rattle.list.specs.Inner.Keeping.{Long}
-use Rattle.list.specs.Lists.{Slices, placeAt}
-use Rattle.plan.specs.FilePlan.{plane, entries, openingOf, townOf}
-use Rattle.plan.specs.Inner.Seam.{axisCount}
+use Rattle.list.specs.Lists.{Long, Slices, placeAt}
+use Rattle.plan.specs.FilePlan.{axisCount, plane, entries, openingOf, townOf}
 use Rattle.search.specs.Claims.{FullSearch, RunAnswers}
 use Rattle.search.specs.FullSearch.{firstOf, fullSearch}
 use Rattle.search.specs.Lists.{range, Distinct}

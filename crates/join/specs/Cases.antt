@@ -1,6 +1,5 @@
 -- Document 01, "Twelve cases", as one table: 1 to 8 are geometry's, 9 to 11 are checks of a block, 12 is "the town above".
-use Prim.Native.Nat.{ℕ, _<_, _^_}
-use mathlib.Core.Bool.{true}
+use Prim.Native.Nat.{ℕ}
 use mathlib.Core.List.{List, [], _∷_, _++_, map}
 use mathlib.Core.Path.{_≡_}
 use lib.IntN.{ℤ, pos, negℤ}
@@ -8,16 +7,12 @@ use lib.ListN.{getD, replicate}
 use Rattle.base.specs.Refusal.{Outcome, accepted, refused}
 use Rattle.blocks.specs.Checksum.{sums}
 use Rattle.blocks.specs.declared.checksum.Sums.{Sums}
-use Rattle.geometry.specs.Box.{inside}
-use Rattle.geometry.specs.Distance.{D, minDist}
 use Rattle.geometry.specs.Cases as geometry
 use Rattle.geometry.specs.Cases.{box}
-use Rattle.geometry.specs.Margin.{closer}
 use Rattle.plan.specs.FilePlan.{plane}
 use Rattle.search.specs.Plan.{Directory}
 use Rattle.search.specs.Run.{Run, join, marks}
 use Rattle.search.specs.declared.Place.{Place}
-use Rattle.tiles.specs.Tile.{sitePoint}
 use Rattle.tiles.specs.declared.tile.Site.{Site}
 
 -- "tiles with y 0..0: tile 0 x 0..10, site (10,0) cue 7; tile 1 x -10..-4, site (-10,0) cue 8; tile 2 x 10..12, site (11,0) cue 9"

@@ -2,12 +2,12 @@
 ghost use mathlib.Core.List.{[], _∷_};
 ghost use mathlib.Core.Path.{_≡_};
 ghost use Rattle.base.specs.Refusal as outcome;
-ghost use Rattle.base.specs.Refusal.{accepted, andThen};
-ghost use Rattle.blocks.specs.Outcome.{directoryOutcome};
+ghost use Rattle.base.specs.Refusal.{accepted};
+ghost use Rattle.blocks.specs.Directory.{directory};
 ghost use Rattle.list.specs.Lists.{lent};
 ghost use Rattle.serve.specs.Inner.Serving.{servingOutcome};
 ghost use Rattle.join.specs.Join.{joinOutcome, joinEnd, runEnd};
-ghost use Rattle.join.specs.Inner.Running.{noResult, RunReady, Attempted};
+ghost use Rattle.join.specs.Inner.Running.{RunReady, Attempted};
 use base::Refusal;
 use blocks::directory::DirectoryAnswer;
 use blocks::directory::read_directory;
@@ -36,37 +36,6 @@ fn refused(number: u32) -> JoinAnswer
     ensures { λ r. ⌜ joinOutcome r ≡ outcome.refused number 0 ⌝ }
 {
     JoinAnswer::Refused(Refusal { number, block: 0 })
-}
-
-// For an answer that is not refused: no caller asks it.
-fn nothing() -> JoinAnswer
-    ensures { λ r. ⌜ joinOutcome r ≡ accepted noResult ⌝ }
-{
-    JoinAnswer::Joined {
-        used: 0,
-        tiles: 0,
-        opened: 0,
-        pruned: 0,
-    }
-}
-
-// What a refused directory makes of the call, and a refused opening.
-fn directory_refused(answer: DirectoryAnswer) -> JoinAnswer
-    ensures { λ r. ⌜ joinOutcome r ≡ andThen (directoryOutcome answer) (λ _. accepted noResult) ⌝ }
-{
-    match answer {
-        DirectoryAnswer::Accepted(_) => nothing(),
-        DirectoryAnswer::Refused(r) => JoinAnswer::Refused(r),
-    }
-}
-
-fn opening_refused(answer: Serving) -> JoinAnswer
-    ensures { λ r. ⌜ joinOutcome r ≡ andThen (servingOutcome answer) (λ _. accepted noResult) ⌝ }
-{
-    match answer {
-        Serving::Served(_) => nothing(),
-        Serving::Refused(r) => JoinAnswer::Refused(r),
-    }
 }
 
 // How serving ended, and the number of tiles pruned before.
@@ -121,20 +90,53 @@ fn run(
 {
     let tried = try_run(f, h, xs, ys, k, dist, site, cue, marks);
     let pruned = tried.pruned;
-    let answer = tried.answer;
     let tiles = h.tiles;
-    let Serving::Served(used) = answer else {
-        clear_places(dist, site, cue, xs.len() * k);
-        clear8(marks, tiles);
-        return opening_refused(answer);
-    };
-    let opened = count_opened(marks, tiles);
-    JoinAnswer::Joined {
-        used: used as u32,
-        tiles: tiles as u32,
-        opened: opened as u32,
-        pruned: pruned as u32,
+    match tried.answer {
+        Serving::Served(used) => JoinAnswer::Joined {
+            used: used as u32,
+            tiles: tiles as u32,
+            opened: count_opened(marks, tiles) as u32,
+            pruned: pruned as u32,
+        },
+        Serving::Refused(r) => {
+            clear_places(dist, site, cue, xs.len() * k);
+            clear8(marks, tiles);
+            JoinAnswer::Refused(r)
+        }
     }
+}
+
+// The call on a file whose directory is accepted.
+fn join_accepted(
+    f: &[u8],
+    h: Header,
+    xs: &[i32],
+    ys: &[i32],
+    k: u32,
+    dist: &mut [u64],
+    site: &mut [u32],
+    cue: &mut [u32],
+    marks: &mut [u8],
+) -> JoinAnswer
+    requires { ⌜ directory (now f) ≡ accepted h ⌝ }
+    ensures { λ r. ⌜ record {
+      outcome = joinOutcome r;
+      slices = lent (now (dist .exit)) (now (site .exit)) (now (cue .exit)) (now (marks .exit));
+    }
+        ≡ joinEnd (now (f .entry)) (now (xs .entry) ∷ now (ys .entry) ∷ []) k
+        (lent (now (dist .entry)) (now (site .entry)) (now (cue .entry)) (now (marks .entry))) ⌝ }
+{
+    let lengths = Lengths {
+        dist: dist.len(),
+        site: site.len(),
+        cue: cue.len(),
+        marks: marks.len(),
+    };
+    let number = failed_argument(h.tiles, xs, ys, k, lengths);
+    if number != 0 {
+        return refused(number);
+    }
+    run(f, h, xs, ys, k as usize, dist, site, cue, marks)
 }
 
 pub fn join(
@@ -154,19 +156,8 @@ pub fn join(
         ≡ joinEnd (now (f .entry)) (now (xs .entry) ∷ now (ys .entry) ∷ []) k
         (lent (now (dist .entry)) (now (site .entry)) (now (cue .entry)) (now (marks .entry))) ⌝ }
 {
-    let answer = read_directory(f);
-    let DirectoryAnswer::Accepted(h) = answer else {
-        return directory_refused(answer);
-    };
-    let lengths = Lengths {
-        dist: dist.len(),
-        site: site.len(),
-        cue: cue.len(),
-        marks: marks.len(),
-    };
-    let number = failed_argument(h.tiles, xs, ys, k, lengths);
-    if number != 0 {
-        return refused(number);
+    match read_directory(f) {
+        DirectoryAnswer::Accepted(h) => join_accepted(f, h, xs, ys, k, dist, site, cue, marks),
+        DirectoryAnswer::Refused(r) => JoinAnswer::Refused(r),
     }
-    run(f, h, xs, ys, k as usize, dist, site, cue, marks)
 }

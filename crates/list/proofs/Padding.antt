@@ -1,6 +1,6 @@
 -- The stops' lists one after another: over places that are zero, a list of at most k places is its k places.
 use Prim.Native.Nat.{ℕ, zero, suc, _+_, _-_, _<_, _≤_}
-use mathlib.Core.List.{List, [], _∷_, _++_, map}
+use mathlib.Core.List.{List, _∷_, _++_, map}
 use mathlib.Core.Path.{_≡_, refl, sym, ap, _∙_}
 use native.Mathlib.Omega.{arith}
 use lib.ListN.{length, take, replicate, length-replicate, getD-replicate}
@@ -12,7 +12,7 @@ use Rattle.codec.proofs.Tabulate.{tabulate-const}
 use Rattle.search.proofs.Marks.{padded-length}
 use Rattle.list.specs.Inner.Keeping.{places}
 use Rattle.list.specs.Lists.{Lists, lists, Long, placeAt, lay}
-use Rattle.list.proofs.Laying.{lay-self, lay-place, lay-after, lay-next, lay-nil}
+use Rattle.list.proofs.Laying.{lay-self, lay-place, lay-after, lay-next}
 
 map-replicate : (show : Place → ℕ) (n : ℕ) → map show (replicate n noPlace) ≡ replicate n (show noPlace)
 map-replicate show zero = refl

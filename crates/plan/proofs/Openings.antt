@@ -1,20 +1,15 @@
 -- What opens agrees with the directory, and is the file's own town there. Assumes nothing.
-use Prim.Native.Nat.{ℕ, zero, suc, _+_, _*_, _<_, _^_}
+use Prim.Native.Nat.{ℕ, zero, suc, _+_, _<_, _^_}
 use mathlib.Core.List.{List}
 use mathlib.Core.Path.{_≡_, refl, sym, ap, _∙_}
 use native.Mathlib.Nat.{add-zero, zero-add}
 use native.Mathlib.Omega.{arith}
-use lib.Dec.{ltb}
-use lib.IntN.{ℤ}
-use lib.ListN.{length, take, drop, length-take, List·getD-eq-default}
-use lib.Seq.{getD-take, getD-drop}
-use borrow.Author.Tests.{ltb-true, ltb-false}
+use lib.ListN.{length}
 use Rattle.base.specs.Refusal.{accepted, andThen}
 use Rattle.blocks.specs.Block.{blockAt}
 use Rattle.blocks.specs.Directory.{directoryBlocks, boxAt, countAt}
-use Rattle.blocks.specs.Layout.{blockSize}
 use Rattle.blocks.specs.declared.header.Header.{Header}
-use Rattle.codec.specs.Number.{Bytes, u16At, u32At}
+use Rattle.codec.specs.Number.{Bytes}
 use Rattle.codec.specs.Tabulate.{tabulate}
 use Rattle.search.specs.Lists.{All}
 use Rattle.search.specs.Plan.{Fills, Agrees}
@@ -23,9 +18,9 @@ use Rattle.tiles.specs.Accepted.{GoodFile}
 use Rattle.tiles.specs.Tile.{siteIn, tilePosition, openTile, siteAt, sitesAt}
 use Rattle.tiles.specs.declared.tile.Site.{Site}
 use Rattle.base.proofs.Outcomes.{accepted-injective, andThen-accepted}
-use Rattle.base.proofs.Tests.{by-test}
-use Rattle.blocks.proofs.BlockLaws.{length-block}
+use Rattle.blocks.proofs.BlockLaws.{length-block, block-bytes}
 use Rattle.blocks.proofs.DirectoryLaws.{directory-good, block-fits, box-valid, count-small}
+use Rattle.codec.proofs.Bytes.{u32-small}
 use Rattle.geometry.proofs.AllAxes.{in-box, in-valid}
 use Rattle.search.proofs.Walk.{by-outcome}
 use Rattle.tiles.proofs.Theorems.{opening-exactly, opened-count, opened-inside, sites-length}
@@ -34,29 +29,9 @@ use Rattle.plan.specs.Inner.Seam.{TileOf, Opens, BlockOf}
 
 -- ---- cues
 
-u32-small : (s : List ℕ) → Bytes s → (at : ℕ) → u32At s at < 2 ^ 32
-unfolding u32At u16At
-u32-small s h at =
-    let a = h at in
-    let b = h (at + 1) in
-    let c = h (at + 2) in
-    let d = h (at + 2 + 1) in
-    omega arith
-
-block-bytes : (f : List ℕ) → Bytes f → (p : ℕ) → Bytes (blockAt f p)
-unfolding blockAt
-block-bytes f h p i =
-    let rest = drop (blockSize * p) f in
-    by-test (ltb i blockSize)
-    (λ e. rw (getD-take blockSize rest i 0 (ltb-true i blockSize e), getD-drop (blockSize * p) f i 0) (h (blockSize * p + i)))
-    (λ e.
-    let n = length-take blockSize rest in
-    let l = ltb-false i blockSize e in
-    rw (List·getD-eq-default (take blockSize rest) 0 {n = i} (omega arith)) (omega arith))
-
 cue-small : (f : List ℕ) → Bytes f → (h : Header) (t slot : ℕ) → siteAt f h t slot .cue < 2 ^ 32
 unfolding siteAt siteIn
-cue-small f b h t slot = u32-small _ (block-bytes f b _) _
+cue-small f b h t slot = u32-small _ _ (block-bytes f _ b)
 
 -- ---- openings
 

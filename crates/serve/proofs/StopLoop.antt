@@ -9,11 +9,10 @@ use lib.IntN.{ℤ}
 use lib.ListN.{length, replicate, length-replicate}
 use Rattle.base.specs.Refusal.{Outcome, accepted, refused, andThen}
 use Rattle.blocks.specs.declared.header.Header.{Header}
-use Rattle.codec.specs.Over.{over}
 use Rattle.codec.specs.Tabulate.{tabulate}
 use Rattle.geometry.specs.Around.{rows, points}
-use Rattle.list.specs.Inner.Keeping.{places, Long, Ready}
-use Rattle.list.specs.Lists.{Slices, lay, cleared}
+use Rattle.list.specs.Inner.Keeping.{places, Ready}
+use Rattle.list.specs.Lists.{Long, Slices, lay, cleared}
 use Rattle.plan.specs.FilePlan.{entries, openingOf}
 use Rattle.search.specs.Inner.Walk.{Trace, cutWalks}
 use Rattle.search.specs.Run.{noPlace, inOrder, slices}

@@ -1,5 +1,5 @@
 -- The loop over the tiles of one stop: what holds at each turn, and how it starts, goes on and ends.
-use Prim.Native.Nat.{ℕ, _+_, _<_, _≤_}
+use Prim.Native.Nat.{ℕ, _<_, _≤_}
 use mathlib.Core.Bool.{true, false}
 use mathlib.Core.List.{List, [], _∷_}
 use mathlib.Core.Path.{_≡_, refl, sym, ap, _∙_}
@@ -8,7 +8,7 @@ use lib.Dec.{eqb}
 use lib.ListN.{length, getD, set, replicate, length-set, length-replicate}
 use lib.Seq.{getD-set-other}
 use borrow.Author.Tests.{eqb-true, eqb-false}
-use Rattle.base.specs.Refusal.{Outcome, accepted, refused}
+use Rattle.base.specs.Refusal.{accepted, refused}
 use Rattle.blocks.specs.declared.header.Header.{Header}
 use Rattle.codec.specs.Over.{over}
 use Rattle.codec.specs.Tabulate.{tabulate}
@@ -35,7 +35,7 @@ use Rattle.queue.proofs.Scanning.{least-here}
 use Rattle.queue.proofs.Waiting.{Keyed, living, living-none, living-next, keyed-next}
 use Rattle.search.proofs.Cut.{cut-full, cut-refused, cut-opens, cut-end}
 use Rattle.serve.specs.Inner.Marks.{markAll, OpenedOpen}
-use Rattle.serve.specs.Inner.Serving.{walkOf, withSites, afterTile, StopReady, StopServed}
+use Rattle.serve.specs.Inner.Serving.{walkOf, withSites, afterTile, StopServed}
 
 module _ (f : List ℕ) (h : Header) (order : List ℕ) (g : Target) (o₀ : Slices) where
   -- the whole walk, and what is left of it

@@ -5,10 +5,7 @@ use mathlib.Core.List.{List}
 use mathlib.Core.Path.{_≡_, sym, ap, _∙_}
 use native.Mathlib.Nat.{zero-add}
 use native.Mathlib.Omega.{arith}
-use lib.Dec.{ltb, lit<}
-use lib.ListN.{length, take, drop, length-append, length-take, List·getD-eq-default}
-use lib.Seq.{getD-take, getD-drop}
-use borrow.Author.Tests.{ltb-true, ltb-false}
+use lib.ListN.{length, length-append}
 use Rattle.blocks.specs.Accepted.{GoodDirectoryBlock}
 use Rattle.blocks.specs.Block.{blockAt}
 use Rattle.blocks.specs.Directory.{directoryBlocks, boxAt, countAt}
@@ -19,8 +16,8 @@ use Rattle.encode.specs.Encode.{directoryBytes, tileBytesOf, fileBytes, fileLen
 use Rattle.encode.specs.Supply.{Supply, headerOf, tilesOf, boxOf, countOf, offset, siteOf}
 use Rattle.tiles.specs.Accepted.{GoodTileBlock, GoodFile}
 use Rattle.tiles.specs.Tile.{siteIn, tilePosition, siteAt}
-use Rattle.base.proofs.Tests.{by-test}
 use Rattle.blocks.proofs.BlockLaws as blocks
+use Rattle.blocks.proofs.BlockLaws.{block-bytes}
 use Rattle.blocks.proofs.DirectoryLaws.{entry-block, entry-due, block-fits, count-small}
 use Rattle.codec.proofs.Holds.{Holds, holds-run, holds-part, part-holds, holds-left, holds-right, holds-append}
 use Rattle.codec.proofs.Holds.{holds-each, holds-joined}
@@ -36,17 +33,6 @@ pub record Reads (f : List ℕ) (s : Supply) : Type 0 where
   pub count : (t : ℕ) → t < tilesOf s → countAt f t ≡ countOf (s .counts) t
   pub site : (t slot : ℕ) → t < tilesOf s → slot < countOf (s .counts) t →
       siteAt f (headerOf (s .counts)) t slot ≡ siteOf s t slot
-
--- a block of a file of bytes is one of bytes
-pub block-bytes : (f : List ℕ) (p : ℕ) → Bytes f → Bytes (blockAt f p)
-unfolding blockAt
-block-bytes f p byte i =
-    let s = drop (blockSize * p) f in
-    by-test (ltb i blockSize)
-    (λ e. rw (getD-take blockSize s i 0 (ltb-true i blockSize e), getD-drop (blockSize * p) f i 0)
-    (byte (blockSize * p + i)))
-    (λ e. let l : length (take blockSize s) ≤ i = omega (arith, length-take blockSize s, ltb-false i blockSize e) in
-    rw (List·getD-eq-default (take blockSize s) 0 l) (lit< tt))
 
 -- a tile's entry is entry t % 24 of directory block t / 24
 tile-entry : (t : ℕ) → entriesPerBlock axes * (t / entriesPerBlock axes) + t % entriesPerBlock axes ≡ t

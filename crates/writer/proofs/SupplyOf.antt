@@ -20,6 +20,7 @@ use Rattle.encode.specs.Supply.{Supply, headerOf, tilesOf, numbersPerBox, boxOf
 use Rattle.tiles.specs.Accepted.{GoodFile}
 use Rattle.tiles.specs.Tile.{siteIn, siteAt}
 use Rattle.tiles.specs.declared.tile.Site.{Site}
+use Rattle.blocks.proofs.BlockLaws.{block-bytes}
 use Rattle.blocks.proofs.DirectoryLaws.{box-valid, count-small}
 use Rattle.codec.proofs.Bytes.{u16-small, u32-small}
 use Rattle.codec.proofs.Joined.{length-joined, getD-joined, length-joined-next, joined-all, joined-same, joined-parts}
@@ -28,7 +29,7 @@ use Rattle.codec.proofs.Tabulate.{length-tabulate, getD-tabulate, tabulate-same
 use Rattle.encode.proofs.SupplyLaws.{offset-next, offset-within}
 use Rattle.writer.specs.Accepted.{GoodSupply}
 use Rattle.writer.specs.Made.{Signed, Typed, boxNumbers, column, supplyOf}
-use Rattle.writer.proofs.FileLaws.{Reads, block-bytes}
+use Rattle.writer.proofs.FileLaws.{Reads}
 
 module _ (f : List ℕ) (h : Header) where
   counts : List ℕ

@@ -3,8 +3,7 @@ use Prim.Native.Nat.{ℕ, _+_, _*_, _≤_}
 use mathlib.Core.List.{List}
 use Rattle.base.specs.Refusal.{Outcome, accepted, refused}
 use Rattle.join.specs.Join.{Result}
-use Rattle.list.specs.Inner.Keeping.{Long}
-use Rattle.list.specs.Lists.{Lists}
+use Rattle.list.specs.Lists.{Lists, Long}
 use Rattle.search.specs.Limits.{maxK}
 use Rattle.console.specs.Limits.{requestStops}
 

@@ -9,8 +9,7 @@ use Rattle.blocks.specs.declared.header.Header.{Header}
 use Rattle.codec.specs.Over.{over}
 use Rattle.geometry.specs.Around.{around}
 use Rattle.list.specs.Lists.{Slices, lay, cleared}
-use Rattle.plan.specs.FilePlan.{entries, openingOf}
-use Rattle.plan.specs.Inner.Seam.{axisCount}
+use Rattle.plan.specs.FilePlan.{axisCount, entries, openingOf}
 use Rattle.prune.specs.Prune.{pruneMarks}
 use Rattle.search.specs.Inner.Walk.{Trace, cutWalks}
 use Rattle.search.specs.Pruning.{prunedCount}
@@ -20,12 +19,8 @@ use Rattle.serve.specs.Inner.Marks.{markAll}
 use Rattle.serve.specs.Inner.Serving.{lastLength}
 use Rattle.stops.specs.Inner.Good.{GoodArguments}
 use Rattle.stops.specs.Stops.{stopCount, stopsOf}
-use Rattle.join.specs.Join.{Result, lengthsOf}
+use Rattle.join.specs.Join.{lengthsOf}
 use lib.ListN.{length}
-
--- a result for an answer that carries none
-abbrev pub noResult : Result
-noResult = record { used = 0; tiles = 0; opened = 0; pruned = 0 }
 
 -- tests 1 to 14 passed
 pub record RunReady (f : List ℕ) (h : Header) (cols : List (List ℤ)) (k : ℕ) (out : Slices) : Type 0 where

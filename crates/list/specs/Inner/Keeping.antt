@@ -8,8 +8,7 @@ use Rattle.search.specs.Inner.Cut.{Sorted, inserts}
 use Rattle.search.specs.Order.{insert}
 use Rattle.search.specs.Run.{rank}
 use Rattle.search.specs.declared.Place.{Place}
-use Rattle.list.specs.Lists.{Lists, placeAt, lay}
-pub use Rattle.list.specs.Lists.{Long}
+use Rattle.list.specs.Lists.{Lists, Long, placeAt, lay}
 
 -- the n places from an index on
 unfoldable pub places : Lists → ℕ → ℕ → List Place

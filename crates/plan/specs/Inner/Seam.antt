@@ -18,7 +18,7 @@ use Rattle.search.specs.declared.Place.{Place}
 use Rattle.tiles.specs.Tile.{sitePoint, siteIn}
 use Rattle.tiles.specs.declared.tile.Site.{Site}
 use Rattle.plan.specs.FilePlan.{openingOf, townOf}
-pub use Rattle.plan.specs.FilePlan.{axisCount}
+use Rattle.plan.specs.FilePlan.{axisCount}
 
 -- a tile of a file whose directory is accepted
 pub record TileOf (f : List ℕ) (h : Header) (t : ℕ) : Type 0 where

@@ -10,13 +10,13 @@ use mathlib.Core.List.{List, [], _∷_}
 use mathlib.Core.Path.{_≡_}
 use lib.Dec.{ltb}
 use lib.IntN.{ℤ}
-use lib.ListN.{length, getD, set}
+use lib.ListN.{length, set}
 use Rattle.base.specs.Lists.{All}
 use Rattle.base.specs.Refusal.{Outcome, accepted, refused, andThen}
 use Rattle.blocks.specs.Directory.{directory}
 use Rattle.blocks.specs.declared.header.Header.{Header}
-use Rattle.list.specs.Inner.Keeping.{places, Long, Ready}
-use Rattle.list.specs.Lists.{Lists, Slices, placeAt, lay, cleared}
+use Rattle.list.specs.Inner.Keeping.{places, Ready}
+use Rattle.list.specs.Lists.{Long, Lists, Slices, placeAt, lay, cleared}
 use Rattle.places.specs.declared.tile.Target.{Target}
 use Rattle.plan.specs.FilePlan.{plane, entries, openingOf}
 use Rattle.plan.specs.Inner.Seam.{TileOf, ValidStop}

@@ -9,43 +9,43 @@ use Rattle.prune.proofs.marking.mark_pruned.Reads as mark-pruned-reads
 use Rattle.serve.proofs.serving.serve_all.Reads as serve-all-reads
 use Rattle.stops.proofs.around.around.Reads as around-reads
 
--- src/call.rt:96:35
+-- src/call.rt:65:35
 mul-clear-places : tie.Need-mul-clear-places
 mul-clear-places c = search needs
 
--- src/call.rt:96:5
+-- src/call.rt:65:5
 clear-places-requires : tie.Need-clear-places-requires
 clear-places-requires c κs = search needs
 
--- src/call.rt:97:36
+-- src/call.rt:66:36
 around-requires : tie.Need-around-requires
 around-requires c κs = search needs
 
--- src/call.rt:97:9
+-- src/call.rt:66:9
 mark-pruned-requires : tie.Need-mark-pruned-requires
 mark-pruned-requires c κs = search needs
 
--- src/call.rt:98:9
+-- src/call.rt:67:9
 serve-all-requires : tie.Need-serve-all-requires
 serve-all-requires c κs = search needs
 
--- src/call.rt:79:1
+-- src/call.rt:48:1
 same-length : tie.Need-same-length
 same-length c = search needs
 
--- src/call.rt:79:1
+-- src/call.rt:48:1
 same-length-2 : tie.Need-same-length-2
 same-length-2 c = search needs
 
--- src/call.rt:79:1
+-- src/call.rt:48:1
 same-length-3 : tie.Need-same-length-3
 same-length-3 c = search needs
 
--- src/call.rt:79:1
+-- src/call.rt:48:1
 same-length-4 : tie.Need-same-length-4
 same-length-4 c = search needs
 
--- src/call.rt:79:1
+-- src/call.rt:48:1
 returns : tie.Need-returns
 returns c = search needs
 

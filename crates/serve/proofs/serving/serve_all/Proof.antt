@@ -1,7 +1,7 @@
-use Prim.Native.Nat.{ℕ, _-_, _<_, _≤_}
+use Prim.Native.Nat.{ℕ, _-_, _≤_}
 use mathlib.Core.Bool.{true}
 use mathlib.Core.List.{List, [], _∷_}
-use mathlib.Core.Path.{_≡_, refl, ap, sym, _∙_}
+use mathlib.Core.Path.{_≡_, refl, ap, _∙_}
 use native.Mathlib.Omega.{arith}
 use lib.IntN.{ℤ}
 use lib.ListN.{length, take, length-take}
@@ -15,7 +15,6 @@ use Rattle.plan.proofs.Measures.{tiles-few}
 use Rattle.queue.specs.Inner.Keys.{waits}
 use Rattle.queue.proofs.Gathering.{gathered, waiting-tiles, waiting-rise}
 use Rattle.stops.specs.Stops.{stopAt, validStop}
-use Rattle.blocks.proofs.OutcomeLaws.{told}
 use Rattle.serve.specs.Inner.Serving.{servingOutcome, waiting, walkOf, StopServed}
 use Rattle.serve.proofs.StopLoop.{StopTurn, turn-starts, turn-ends, turn-refused, turn-next, turn-ready}
 use Rattle.serve.proofs.serving.serve_all.Statement.{statement}

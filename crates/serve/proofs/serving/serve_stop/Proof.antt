@@ -1,24 +1,21 @@
-use Prim.Native.Nat.{ℕ, _<_}
+use Prim.Native.Nat.{_<_}
 use mathlib.Core.Bool.{false}
 use mathlib.Core.Path.{_≡_, refl, ap, sym, _∙_}
 use native.Mathlib.Omega.{arith}
 use lib.ListN.{length, length-set, getD}
 use borrow.Author.Needs.{needs}
-use Rattle.base.specs.Refusal.{accepted}
-use Rattle.blocks.specs.Layout.{maxTiles}
-use Rattle.list.specs.Inner.Keeping.{places, Long}
+use Rattle.list.specs.Inner.Keeping.{places}
 use Rattle.list.specs.Lists.{Lists, lists, lent}
-use Rattle.plan.specs.FilePlan.{entries, openingOf}
-use Rattle.queue.specs.Inner.Keys.{none, least, Passed}
-use Rattle.queue.specs.declared.keys.Least.{Least}
+use Rattle.plan.specs.FilePlan.{openingOf}
+use Rattle.queue.specs.Inner.Keys.{none, Passed}
 use Rattle.search.specs.Inner.Cut.{lastAhead}
 use Rattle.base.proofs.Outcomes.{accepted-injective, andThen-accepted, andThen-refused}
 use Rattle.blocks.proofs.OutcomeLaws.{told}
 use Rattle.list.proofs.Laying.{lay-lengths}
 use Rattle.plan.proofs.Measures.{tiles-few}
 use Rattle.queue.proofs.Scanning.{passed-none, passed-next}
-use Rattle.queue.proofs.Waiting.{Keyed, living, keyed-start, living-start, living-fewer, index-at, tile-at}
-use Rattle.serve.specs.Inner.Serving.{servingOutcome, withSites, afterTile}
+use Rattle.queue.proofs.Waiting.{living, keyed-start, living-start, living-fewer, index-at, tile-at}
+use Rattle.serve.specs.Inner.Serving.{servingOutcome, afterTile}
 use Rattle.serve.proofs.TileLoop.{TileTurn, turn-starts, turn-none, turn-full, turn-refused, turn-next}
 use Rattle.serve.proofs.serving.serve_stop.Statement.{statement}
 use Rattle.serve.proofs.serving.serve_stop.Tie as tie

@@ -1,7 +1,6 @@
-use mathlib.Core.Path.{_≡_, ap, sym, _∙_}
+use mathlib.Core.Path.{ap, _∙_}
 use borrow.Author.Needs.{needs}
 use Rattle.base.specs.Refusal.{accepted}
-use Rattle.list.specs.Lists.{lists, lent}
 use lib.ListN.{length}
 use Rattle.plan.specs.FilePlan.{openingOf}
 use Rattle.plan.specs.Inner.Seam.{Opens}
