@@ -1,5 +1,5 @@
 -- The program's own limits.
-use Prim.Native.Nat.{ℕ, _+_, _*_}
+use Prim.Native.Nat.{ℕ, _*_}
 use Rattle.search.specs.Limits.{maxK}
 
 -- "reads standard input, at most 65,536 bytes"

@@ -16,7 +16,7 @@ use Rattle.codec.specs.Number.{Bytes}
 use Rattle.codec.specs.Over.{over}
 use Rattle.geometry.specs.Around.{points, around, SmallestAround}
 use Rattle.geometry.specs.Box.{validPoint}
-use Rattle.list.specs.Lists.{Slices, lay, cleared}
+use Rattle.list.specs.Lists.{Lists, Slices, lay, cleared}
 use Rattle.plan.specs.FilePlan.{entries, openingOf}
 use Rattle.plan.specs.Inner.Seam.{ValidRegion}
 use Rattle.prune.specs.Prune.{pruneMarks}
@@ -47,7 +47,7 @@ use Rattle.serve.proofs.Marking.{marks-end}
 use Rattle.stops.proofs.ArgumentLaws.{few-places}
 use Rattle.stops.proofs.StopLaws.{stops-length}
 use Rattle.join.specs.Inner.Running.{RunReady, walksFor, Attempted}
-use Rattle.join.specs.Join.{runFor, filled, ended, runEnd}
+use Rattle.join.specs.Join.{End, runFor, filled, ended, runEnd}
 
 -- ---- words for lists
 
@@ -59,6 +59,12 @@ last-of n m (l ∷ k ∷ ls) h a = last-of n (length l) (k ∷ ls) (omega arith)
 refused-from : {A : Type 0} (o : Outcome A) (g : A → ℕ) {x y : ℕ} → refused x y ≡ andThen o (λ a. accepted (g a)) → o ≡ refused x y
 refused-from (accepted a) g e = accepted-refused {o = accepted (g a)} refl (sym e)
 refused-from (refused x y) g e = cc
+
+same-end : {used u tiles opened o p q : ℕ} {out out′ : Slices} → used ≡ u → opened ≡ o → p ≡ q → out ≡ out′
+    → _≡_ {A = End}
+    (record { outcome = accepted (record { used = used; tiles = tiles; opened = opened; pruned = p }); slices = out })
+    (record { outcome = accepted (record { used = u; tiles = tiles; opened = o; pruned = q }); slices = out′ })
+same-end a b c d = rw (a, b, c, d)
 
 -- what was laid at the start, taken
 pub take-over : (n : ℕ) (l vs : List ℕ) → length vs ≡ n → n ≤ length l → take n (over l 0 vs) ≡ vs
@@ -118,9 +124,14 @@ module _ {f : List ℕ} {h : Header} {cols : List (List ℤ)} {k : ℕ} {out : S
     marks = over (out .marks) 0 (pruneMarks f h O k);
   }
 
-  pub stops-ready : StopsReady f h cols k started
+  -- what the code leaves, with o for O
+  pub begun : {l : Lists} {o : List (List ℤ)} {m : List ℕ} → l ≡ lay (out .lists) 0 (replicate n noPlace) → o ≡ O
+      → m ≡ over (out .marks) 0 (pruneMarks f h o k) → record { lists = l; marks = m } ≡ started
+  begun a b c = rw (a, c, b)
+
+  ready : StopsReady f h cols k started
   unfolding pruneMarks
-  stops-ready =
+  ready =
       let a = r .args in
       let lm = length-over (out .marks) 0 (map (λ t. bit (pruned (entries f h) O k t)) (range 0 (h .tiles))) in
       record {
@@ -137,6 +148,9 @@ module _ {f : List ℕ} {h : Header} {cols : List (List ℤ)} {k : ℕ} {out : S
             let q = filled-at (λ i. bit (pruned (entries f h) O k i)) (out .marks) (h .tiles) t (a .marks) l in
             absurd (omega (arith, e));
       }
+
+  pub stops-ready : {o : Slices} → o ≡ started → StopsReady f h cols k o
+  stops-ready e = rw e ready
 
   -- ---- after it
 
@@ -161,14 +175,15 @@ module _ {f : List ℕ} {h : Header} {cols : List (List ℤ)} {k : ℕ} {out : S
       let z = length-replicate n noPlace in
       lay-under (out .lists) 0 0 (replicate n noPlace) (slices k ls) (omega arith) (omega arith)
 
-  pub attempted : {o : Outcome ℕ} {p : ℕ} {out′ : Slices} → p ≡ prunedCount (entries f h) O k → p ≤ h .tiles
-      → StopsServed h (walksOf f h (waiting f h (started .marks)) cols k) k n started o out′
+  pub attempted : {from out′ : Slices} {o : Outcome ℕ} {p : ℕ} → from ≡ started → p ≡ prunedCount (entries f h) O k
+      → p ≤ h .tiles → StopsServed h (walksOf f h (waiting f h (from .marks)) cols k) k n from o out′
       → Attempted f h cols k out o p out′
   unfolding queue
-  attempted {o} {p} {out′} counted few served =
+  attempted {from} {out′} {o} {p} begins counted few served =
       let w : walksOf f h (waiting f h (started .marks)) cols k ≡ walksFor f h cols k =
       ap (λ z. walksOf f h z cols k) (waiting-is f h O k (out .marks) (r .args .marks)) in
-      let v : StopsServed h (walksFor f h cols k) k n started o out′ = rw w at served in
+      let v : StopsServed h (walksFor f h cols k) k n started o out′ =
+      rw w at (rw begins at served) in
       record {
         counted = counted;
         few = few;
@@ -243,12 +258,14 @@ module _ {f : List ℕ} {h : Header} {cols : List (List ℤ)} {k : ℕ} {out : S
           let c : opened ≡ length (runFor f h cols k .openings) =
           o ∙ ap (λ (z : Slices). count (λ m. eqb m openedMark) (take (h .tiles) (z .marks))) s ∙ opened-is in
           let e : runFor f h cols k .outcome ≡ accepted ls = alike b .outcome ∙ a .1 in
-          rw (e, u, c, t .counted, s)
+          same-end u c (t .counted) s ∙ rw e
 
-      pub run-refuses : {x y p : ℕ} → Attempted f h cols k out (refused x y) p out′
-          → record { outcome = refused x y; slices = cleared 0 n (h .tiles) out′ } ≡ runEnd f h cols k out
-      unfolding runEnd ended
-      run-refuses {x} {y} t =
+      -- after the places and marks were cleared
+      pub run-refuses : {x y p : ℕ} {l : Lists} {m : List ℕ} → Attempted f h cols k out (refused x y) p out′
+          → l ≡ lay (out′ .lists) 0 (replicate n noPlace) → m ≡ over (out′ .marks) 0 (replicate (h .tiles) 0)
+          → record { outcome = refused x y; slices = record { lists = l; marks = m } } ≡ runEnd f h cols k out
+      unfolding runEnd ended cleared
+      run-refuses {x} {y} t places marks =
           let w = refused-from (walksFor f h cols k .out) (λ ls. lastLength 0 ls) (t .outcome) in
           let e : runFor f h cols k .outcome ≡ refused x y = alike b .outcome ∙ w in
-          rw (e, t .under)
+          rw (e, places, marks, t .under)

@@ -208,7 +208,7 @@ module _ (f : List ℕ) (cols : List (List ℤ)) (k : ℕ) (out : Slices) where
           h,
           record {
             header = a .dir;
-            tiles = rw (a .result);
+            tiles = ap (λ (z : Result). z .tiles) (a .result);
             smallest = smallest (a .ready axes);
             lists = λ town g i j p q.
                 let n = stops-length cols in
@@ -220,9 +220,9 @@ module _ (f : List ℕ) (cols : List (List ℤ)) (k : ℕ) (out : Slices) where
             marked-pruned = λ t l. rw (mark-left r a t l) (d .marked-pruned t l);
             none-pruned = d .none-pruned;
             once = once-each r a;
-            count-opened = rw (a .result) (sym (rw (marks-left r a) (d .count-opened)));
-            count-pruned = rw (a .result) (sym (rw (marks-left r a) (d .count-pruned)));
-            count-used = rw (a .result);
+            count-opened = ap (λ (z : Result). z .opened) (a .result) ∙ sym (rw (marks-left r a) (d .count-opened));
+            count-pruned = ap (λ (z : Result). z .pruned) (a .result) ∙ sym (rw (marks-left r a) (d .count-pruned));
+            count-used = ap (λ (z : Result). z .used) (a .result);
             other-files = λ g same l. other-files g h (a .dir) same l;
           },
         )

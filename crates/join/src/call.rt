@@ -90,8 +90,9 @@ fn run(
 {
     let tried = try_run(f, h, xs, ys, k, dist, site, cue, marks);
     let pruned = tried.pruned;
+    let answer = tried.answer;
     let tiles = h.tiles;
-    match tried.answer {
+    match answer {
         Serving::Served(used) => JoinAnswer::Joined {
             used: used as u32,
             tiles: tiles as u32,

@@ -1,6 +1,5 @@
 -- Room for the output: what the code that prints an answer needs of it.
 use Prim.Native.Nat.{ℕ, _+_, _*_, _≤_}
-use mathlib.Core.List.{List}
 use Rattle.base.specs.Refusal.{Outcome, accepted, refused}
 use Rattle.join.specs.Join.{Result}
 use Rattle.list.specs.Lists.{Lists, Long}

@@ -24,7 +24,8 @@ same-length-4 c = search needs
 
 returns : tie.Need-returns
 returns c =
-    let end = c .before .before .before .before .before .before .before .before .before .join .ensures in
+    let j : tie.After-join = search in
+    let end = j .join .ensures in
     (c .report-join .ensures ∙ ap (λ e. joinReport (e .outcome)) end, ap (λ e. e .slices) end)
 
 pub nearby-join-spec : {M : Type 1} → statement M

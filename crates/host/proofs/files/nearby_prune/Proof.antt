@@ -19,9 +19,12 @@ same-length c = search needs
 
 returns : tie.Need-returns
 returns c =
-    let a = c .before .before .before .before .before .before .before .before .fits in
-    let o = simp (toZ-ofZ (a .x0), toZ-ofZ (a .x1), toZ-ofZ (a .y0), toZ-ofZ (a .y1)) at (c .before .before .before .before .before .box-of .ensures) in
-    let end = c .before .before .before .prune .ensures in
+    let b : tie.After-box-of = search in
+    let p : tie.After-prune = search in
+    let s : tie.Start = search in
+    let a = s .fits in
+    let o = simp (toZ-ofZ (a .x0), toZ-ofZ (a .x1), toZ-ofZ (a .y0), toZ-ofZ (a .y1)) at (b .box-of .ensures) in
+    let end = p .prune .ensures in
     (c .report-prune .ensures ∙ ap pruneReport (rw o at (end .0)), rw o at (end .1))
 
 pub nearby-prune-spec : {M : Type 1} → statement M

@@ -15,7 +15,8 @@ same-length c = search needs
 
 returns : tie.Need-returns
 returns c =
-    let end = c .before .before .before .write .ensures in
+    let w : tie.After-write = search in
+    let end = w .write .ensures in
     (c .report-write .ensures ∙ ap writeReport (end .0), end .1)
 
 pub nearby-write-spec : {M : Type 1} → statement M

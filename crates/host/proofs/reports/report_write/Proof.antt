@@ -1,6 +1,6 @@
 use mathlib.Core.Path.{sym, ap}
 use borrow.Author.Needs.{needs}
-use Rattle.blocks.specs.Outcome.{answerOutcome}
+use Rattle.writer.specs.Write.{writeOutcome}
 use Rattle.host.specs.Reports.{writeReport}
 use Rattle.host.proofs.reports.report_write.Statement.{statement}
 use Rattle.host.proofs.reports.report_write.Tie as tie
@@ -12,10 +12,10 @@ enum-known-answer-2 : tie.Need-enum-known-answer-2
 enum-known-answer-2 c = search needs
 
 returns : tie.Need-returns
-returns c = ap (λ a. writeReport (answerOutcome a)) (sym (c .before .answer .given .1))
+returns c = ap (λ a. writeReport (writeOutcome a)) (sym (c .before .answer .given .1))
 
 returns-2 : tie.Need-returns-2
-returns-2 c = ap (λ a. writeReport (answerOutcome a)) (sym (c .before .answer2 .given .1))
+returns-2 c = ap (λ a. writeReport (writeOutcome a)) (sym (c .before .answer2 .given .1))
 
 pub report-write-spec : {M : Type 1} → statement M
 report-write-spec = tie.close (tie.spec enum-known-answer enum-known-answer-2 returns returns-2)

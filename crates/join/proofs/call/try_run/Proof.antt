@@ -1,53 +1,76 @@
+use mathlib.Core.Path.{_≡_, ap, _∙_}
 use native.Mathlib.Omega.{arith}
 use borrow.Author.Needs.{needs}
+use Rattle.list.specs.Lists.{lent}
+use Rattle.plan.specs.FilePlan.{entries}
+use Rattle.search.specs.Pruning.{prunedCount}
+use Rattle.join.proofs.Running.{few-enough, region, started, begun, stops-ready, attempted}
 use Rattle.join.proofs.call.try_run.Statement.{statement}
 use Rattle.join.proofs.call.try_run.Tie as tie
-use Rattle.join.proofs.call.try_run.Reads as reads
-use Rattle.join.proofs.call.try_run.Lts as lts
-use Rattle.list.proofs.clear.clear_places.Reads as clear-places-reads
-use Rattle.prune.proofs.marking.mark_pruned.Reads as mark-pruned-reads
-use Rattle.serve.proofs.serving.serve_all.Reads as serve-all-reads
-use Rattle.stops.proofs.around.around.Reads as around-reads
 
--- src/call.rt:65:35
 mul-clear-places : tie.Need-mul-clear-places
-mul-clear-places c = search needs
+mul-clear-places c = let s : tie.Start = search in omega (arith, few-enough (s .pre))
 
--- src/call.rt:65:5
 clear-places-requires : tie.Need-clear-places-requires
-clear-places-requires c κs = search needs
+clear-places-requires c κs =
+    let s : tie.Start = search in
+    let a = s .pre .args in
+    (a .dist, (a .site, a .cue))
 
--- src/call.rt:66:36
 around-requires : tie.Need-around-requires
-around-requires c κs = search needs
+around-requires c κs =
+    let s : tie.Start = search in
+    (s .pre .args .some, omega (arith, s .pre .args .some, s .pre .args .same .1 .0))
 
--- src/call.rt:66:9
 mark-pruned-requires : tie.Need-mark-pruned-requires
-mark-pruned-requires c κs = search needs
+mark-pruned-requires c κs =
+    let a : tie.After-around = search in
+    let s : tie.Start = search in
+    (s .pre .dir, s .pre .args .marks, rw (a .around .ensures) (region (s .pre)))
 
--- src/call.rt:67:9
+-- the slices when the stops are served
+abbrev start : tie.After-mark-pruned → tie.Start
+start m = search
+
+abbrev before : tie.After-mark-pruned → tie.After-around
+before m = search
+
+begins : (m : tie.After-mark-pruned) →
+    let s = start m in
+    let p : tie.After-clear-places = search in
+    lent (p .clear-places .last .0) (p .clear-places .last .1 .0) (p .clear-places .last .1 .1 .0)
+    (m .mark-pruned .last .1 .1 .1 .1 .0) ≡ started (s .pre)
+begins m =
+    let p : tie.After-clear-places = search in
+    begun (start m .pre) (p .clear-places .ensures) (before m .around .ensures) (m .mark-pruned .ensures .1)
+
 serve-all-requires : tie.Need-serve-all-requires
-serve-all-requires c κs = search needs
+serve-all-requires c κs =
+    let m : tie.After-mark-pruned = search in
+    stops-ready (start m .pre) (begins m)
 
--- src/call.rt:48:1
 same-length : tie.Need-same-length
 same-length c = search needs
 
--- src/call.rt:48:1
 same-length-2 : tie.Need-same-length-2
 same-length-2 c = search needs
 
--- src/call.rt:48:1
 same-length-3 : tie.Need-same-length-3
 same-length-3 c = search needs
 
--- src/call.rt:48:1
 same-length-4 : tie.Need-same-length-4
 same-length-4 c = search needs
 
--- src/call.rt:48:1
 returns : tie.Need-returns
-returns c = search needs
+returns c =
+    let v : tie.After-serve-all = search in
+    let m : tie.After-mark-pruned = search in
+    let a = before m in
+    let s = start m in
+    let x = s .args in
+    let counted = m .mark-pruned .ensures .0 .0
+    ∙ ap (λ o. prunedCount (entries (x .f .now) (x .h)) o (x .k)) (a .around .ensures) in
+    attempted (s .pre) (begins m) counted (m .mark-pruned .ensures .0 .1) (v .serve-all .ensures)
 
 pub try-run-spec : {M : Type 1} → statement M
 try-run-spec =

@@ -1,0 +1,64 @@
+use mathlib.Core.List.{[], _∷_}
+use mathlib.Core.Path.{refl}
+use borrow.Author.Needs.{needs}
+use Rattle.blocks.specs.Outcome.{directoryOutcome}
+use Rattle.list.specs.Lists.{lent}
+use Rattle.blocks.proofs.OutcomeLaws.{told}
+use Rattle.join.proofs.Calling.{directory-refuses}
+use Rattle.join.proofs.call.join.Statement.{statement}
+use Rattle.join.proofs.call.join.Tie as tie
+
+read-directory-requires : tie.Need-read-directory-requires
+read-directory-requires c κs = search needs
+
+enum-known-h : tie.Need-enum-known-h
+enum-known-h c = search needs
+
+join-accepted-requires : tie.Need-join-accepted-requires
+join-accepted-requires c κs =
+    let d : tie.After-read-directory = search in
+    let h : tie.After-h = search in
+    told directoryOutcome (d .read-directory .ensures) (h .h .given .1)
+
+enum-known-r : tie.Need-enum-known-r
+enum-known-r c = search needs
+
+same-length : tie.Need-same-length
+same-length c = search needs
+
+same-length-2 : tie.Need-same-length-2
+same-length-2 c = search needs
+
+same-length-3 : tie.Need-same-length-3
+same-length-3 c = search needs
+
+same-length-4 : tie.Need-same-length-4
+same-length-4 c = search needs
+
+returns : tie.Need-returns
+returns c = search needs
+
+returns-2 : tie.Need-returns-2
+returns-2 c =
+    let d : tie.After-read-directory = search in
+    let r : tie.After-r = search in
+    let s : tie.Start = search in
+    let a = s .args in
+    let out = lent (a .dist .now) (a .site .now) (a .cue .now) (a .marks .now) in
+    directory-refuses (a .f .now) (a .xs .now ∷ a .ys .now ∷ []) (a .k) out
+    (told directoryOutcome (d .read-directory .ensures) (r .r .given .1)) refl
+
+pub join-spec : {M : Type 1} → statement M
+join-spec =
+    tie.close
+    (tie.spec
+    read-directory-requires
+    enum-known-h
+    join-accepted-requires
+    enum-known-r
+    same-length
+    same-length-2
+    same-length-3
+    same-length-4
+    returns
+    returns-2)
