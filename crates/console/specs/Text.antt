@@ -1,7 +1,7 @@
 -- Words and numbers as bytes, and what a call that writes text leaves.
 use Prim.Native.Char.{code}
 use Prim.Native.Nat.{ℕ, zero, suc, _+_, _*_, _-_, _/_, _%_}
-use Prim.Native.String.{String}
+use Prim.Native.String.{String, [] as nil, _∷_ as _∙∷_}
 use mathlib.Core.Bool.{cond}
 use mathlib.Core.List.{List, [], _∷_, _++_}
 use mathlib.Core.Path.{_≡_}
