@@ -5,18 +5,16 @@ use mathlib.Core.List.{List, [], _∷_, _++_, map, Permᴰ·symm}
 use mathlib.Core.Path.{_≡_, refl, ap, _∙_}
 use native.Mathlib.Omega.{arith}
 use lib.Dec.{leb}
-use Rattle.base.specs.Refusal.{accepted, refused}
 use Rattle.search.specs.Lists.{range, count, total, All}
 use Rattle.search.specs.Order.{lex, insert, sort}
 use Rattle.search.specs.Plan.{Geometry, Directory, near, ranked}
 use Rattle.search.specs.Pruning.{pruned, prunedCount}
-use Rattle.search.specs.Run.{Reading, Place, Run, aheadOf, placesOf, candidate, candidates, byKey, queue, ahead, enough}
-use Rattle.search.specs.Run.{contents, serve, follow, run, join, placesUsed, mark, marks}
+use Rattle.search.specs.Run.{Reading, Place, aheadOf, placesOf, candidate, candidates, byKey, queue, ahead, enough}
+use Rattle.search.specs.Run.{contents, serve, run, join, placesUsed, mark, marks}
 use Rattle.search.proofs.Lists.{all-map, all-perm, filter-all, filter-same, range-below}
 use Rattle.search.proofs.Marks.{count-same}
 use Rattle.search.proofs.Queue.{queue-tiles}
 use Rattle.search.proofs.Sort.{sort-is-perm}
-use Rattle.search.proofs.Walk.{by-outcome}
 
 -- ---- words for lists, of functions that agree on the elements
 

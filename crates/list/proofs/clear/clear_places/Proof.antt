@@ -1,11 +1,8 @@
-use native.Mathlib.Omega.{arith}
 use borrow.Author.Needs.{needs}
 use Rattle.list.specs.Lists.{lists}
 use Rattle.list.proofs.Padding.{clear-lays}
 use Rattle.list.proofs.clear.clear_places.Statement.{statement}
 use Rattle.list.proofs.clear.clear_places.Tie as tie
-use Rattle.list.proofs.clear.clear32.Reads as clear32-reads
-use Rattle.list.proofs.clear.clear64.Reads as clear64-reads
 
 -- src/clear.rt:48:5
 clear64-requires : tie.Need-clear64-requires

@@ -1,4 +1,3 @@
-use native.Mathlib.Omega.{arith}
 use borrow.Author.Needs.{needs}
 use Rattle.search.specs.Plan.{ranked}
 use Rattle.blocks.proofs.Theorems.{entry-of-accepted}

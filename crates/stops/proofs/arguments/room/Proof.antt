@@ -1,4 +1,3 @@
-use native.Mathlib.Omega.{arith}
 use borrow.Author.Needs.{needs}
 use Rattle.stops.specs.Arguments.{room}
 use Rattle.stops.proofs.arguments.room.Statement.{statement}

@@ -1,4 +1,3 @@
-use native.Mathlib.Omega.{arith}
 use borrow.Author.Needs.{needs}
 use Rattle.geometry.specs.Around.{row}
 use Rattle.stops.proofs.stop.stop_at.Statement.{statement}
