@@ -6,7 +6,8 @@ use native.Mathlib.Omega.{arith}
 use Rattle.base.specs.Refusal.{Outcome, accepted, refused, require, andThen}
 
 -- no outcome is both accepted and refused
-pub accepted-refused {ℓ} : {A : Type 0} {X : Type ℓ} {o : Outcome A} {a : A} {n b : ℕ} → o ≡ accepted a → o ≡ refused n b → X
+pub accepted-refused {ℓ} : {A : Type 0} {X : Type ℓ} {o : Outcome A} {a : A} {n b : ℕ} → o ≡ accepted a
+    → o ≡ refused n b → X
 accepted-refused p q = absurd (let z : _≡_ {A = ℕ} 0 1 = cc in omega arith)
 
 pub accepted-injective : {A : Type 0} {a b : A} → accepted a ≡ accepted b → a ≡ b
@@ -29,7 +30,8 @@ andThen-same (accepted a) f g h = h a refl
 andThen-same (refused n p) f g h = refl
 
 -- a refusal of what is only counted afterwards is its own
-pub andThen-refused : {A B : Type 0} (o : Outcome A) (g : A → B) {n p : ℕ} → andThen o (λ a. accepted (g a)) ≡ refused n p
+pub andThen-refused : {A B : Type 0} (o : Outcome A) (g : A → B) {n p : ℕ}
+    → andThen o (λ a. accepted (g a)) ≡ refused n p
     → o ≡ refused n p
 andThen-refused (accepted a) g e = accepted-refused refl e
 andThen-refused (refused n p) g e = cc

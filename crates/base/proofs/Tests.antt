@@ -31,7 +31,8 @@ iff-eq false true f g = g refl
 iff-eq false false f g = refl
 
 -- by the value of the test of a choice
-pub cond-ind {ℓ} : {A : Type 0} (c : Bool) (x y : A) (P : A → Type ℓ) → (c ≡ true → P x) → (c ≡ false → P y) → P (cond c x y)
+pub cond-ind {ℓ} : {A : Type 0} (c : Bool) (x y : A) (P : A → Type ℓ) → (c ≡ true → P x) → (c ≡ false → P y)
+    → P (cond c x y)
 cond-ind true x y P f g = f refl
 cond-ind false x y P f g = g refl
 

@@ -1,4 +1,5 @@
-// What every layer shares: the refusal with its numbers (document 01, "Numbers given to bad input"), and a test of two tests.
+// What every layer shares: the refusal with its numbers (document 01, "Numbers given to bad input"), and a test of two
+// tests.
 ghost use mathlib.Core.Path.{_≡_};
 ghost use mathlib.Core.Bool.{_&&_};
 

@@ -54,4 +54,5 @@ head-good kind s p e =
 
 pub head-enough : (kind : ℕ) (s : List ℕ) (p : ℕ) → GoodHead kind s p → blockHead kind s p ≡ accepted tt
 unfolding blockHead
-head-enough kind s p g = rw (eq-eqb (getD s 0 0) syncByte (g .sync), g .check, g .due, eq-eqb (positionIn s) p (g .position))
+head-enough kind s p g =
+    rw (eq-eqb (getD s 0 0) syncByte (g .sync), g .check, g .due, eq-eqb (positionIn s) p (g .position))

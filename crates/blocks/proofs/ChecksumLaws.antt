@@ -19,7 +19,8 @@ remainder-c a c w = omega arith
 -- one turn of the loop, which keeps the sums whole, and its end
 module _ (s : List ℕ) (i a c : ℕ) where
   pub sums-turn : (w : ℕ) → i < checkAt → checkAt ≤ length s → w ≡ getD s i 0 →
-      sumsFrom ((a + w) % 255) ((c + (a + w)) % 255) (slice (i + 1) checkAt s) ≡ sumsFrom (a % 255) (c % 255) (slice i checkAt s)
+      sumsFrom ((a + w) % 255) ((c + (a + w)) % 255) (slice (i + 1) checkAt s)
+      ≡ sumsFrom (a % 255) (c % 255) (slice i checkAt s)
   unfolding sumsFrom
   sums-turn w h l e = rw (slice-cons i checkAt s 0 h l, add-one, ← e, remainder-a a w, remainder-c a c w)
 
@@ -32,4 +33,5 @@ pub sums-small : (bytes : List ℕ) (a c : ℕ) → a < 255 → c < 255 →
     × (sumsFrom a c bytes .c < 255)
 unfolding sumsFrom
 sums-small [] a c h g = (h, g)
-sums-small (b ∷ bytes) a c h g = sums-small bytes ((a + b) % 255) ((c + (a + b) % 255) % 255) (omega arith) (omega arith)
+sums-small (b ∷ bytes) a c h g =
+    sums-small bytes ((a + b) % 255) ((c + (a + b) % 255) % 255) (omega arith) (omega arith)

@@ -8,7 +8,8 @@ use lib.Seq.{slice}
 use Rattle.blocks.specs.Layout.{checkAt}
 use Rattle.blocks.specs.declared.checksum.Sums.{Sums}
 
--- "for each of bytes 1 to 509, a becomes (a + byte) mod 255, then c becomes (c + a) mod 255": from a and c on, over the bytes
+-- "for each of bytes 1 to 509, a becomes (a + byte) mod 255, then c becomes (c + a) mod 255": from a and c on, over the
+-- bytes
 unfoldable pub sumsFrom : ℕ → ℕ → List ℕ → Sums
 sumsFrom a c [] = record { a = a; c = c }
 sumsFrom a c (byte ∷ bytes) = sumsFrom ((a + byte) % 255) ((c + (a + byte) % 255) % 255) bytes

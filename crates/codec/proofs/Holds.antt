@@ -52,7 +52,8 @@ pub part-holds : {s : List ℕ} {k : ℕ} {vs : List ℕ} (n a : ℕ) {i : ℕ} 
     Holds s i vs
 part-holds {s} {k} n a {i} h e l = record {
   at = λ j q. let w : i + j ≡ a + (k + j) = omega arith in
-      ap (λ x. getD s x 0) w ∙ sym (getD-take n (drop a s) (k + j) 0 (omega arith) ∙ getD-drop a s (k + j) 0) ∙ h .at j q;
+      ap (λ x. getD s x 0) w ∙ sym (getD-take n (drop a s) (k + j) 0 (omega arith) ∙ getD-drop a s (k + j) 0)
+      ∙ h .at j q;
 }
 
 -- a run of the list's own length is all that is left
@@ -123,7 +124,8 @@ module _ (s : List ℕ) (g : ℕ → List ℕ) (w : ℕ) where
       let m : length (g a) ≡ w = rw e at (wide 0 (omega arith)) in
       let here : Holds s i (g a) = holds-at (rw e at (h 0 (omega arith))) z in
       holds-append s i (g a) (joined g (a + 1) n) (ap (λ x. i + x) (sym m)) here
-      (holds-joined (i + w) (a + 1) n (λ k l. let q : a + 1 + k ≡ a + (k + 1) = omega arith in rw q (wide (k + 1) (omega arith)))
+      (holds-joined (i + w) (a + 1) n (λ k l. let q : a + 1 + k ≡ a + (k + 1) = omega arith in
+      rw q (wide (k + 1) (omega arith)))
       (λ k l. let q : a + 1 + k ≡ a + (k + 1) = omega arith in
       let x : i + w + w * k ≡ i + w * (k + 1) = omega arith in
       rw q (holds-at (h (k + 1) (omega arith)) x)))
@@ -141,7 +143,8 @@ module _ (s : List ℕ) (g : ℕ → List ℕ) (w : ℕ) where
       let q : a + suc k ≡ a + 1 + k = omega arith in
       let x : i + w * suc k ≡ i + w + w * k = omega arith in
       rw q (holds-at (holds-each (i + w) (a + 1) n
-      (λ k l. let q : a + 1 + k ≡ a + (k + 1) = omega arith in rw q (wide (k + 1) (omega arith))) rest k (omega arith)) x)
+      (λ k l. let q : a + 1 + k ≡ a + (k + 1) = omega arith in rw q (wide (k + 1) (omega arith))) rest k (omega arith))
+      x)
 
 -- ---- zeros
 module _ (s : List ℕ) (a b : ℕ) where

@@ -62,7 +62,8 @@ module _ {A : Type 0} (g : ℕ → List A) where
   joined-all P d a zero z h i = z
   joined-all P d a (suc n) z h i = append-all (g a) (joined g (a + 1) n) (h a) (joined-all P d (a + 1) n z h) i
     where
-      append-all : (x y : List A) → ((j : ℕ) → P (getD x j d)) → ((j : ℕ) → P (getD y j d)) → (j : ℕ) → P (getD (x ++ y) j d)
+      append-all : (x y : List A) → ((j : ℕ) → P (getD x j d)) → ((j : ℕ) → P (getD y j d)) → (j : ℕ)
+          → P (getD (x ++ y) j d)
       append-all [] y p q j = q j
       append-all (v ∷ x) y p q zero = p 0
       append-all (v ∷ x) y p q (suc j) = append-all x y (λ k. p (suc k)) q j

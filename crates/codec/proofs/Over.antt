@@ -13,7 +13,8 @@ use Rattle.base.proofs.Tests.{by-test}
 use Rattle.codec.specs.Over.{over}
 
 -- what it is, where the run fits
-pub over-eq : (l : List ℕ) (i : ℕ) (vs : List ℕ) → i + length vs ≤ length l → over l i vs ≡ take i l ++ vs ++ drop (i + length vs) l
+pub over-eq : (l : List ℕ) (i : ℕ) (vs : List ℕ) → i + length vs ≤ length l
+    → over l i vs ≡ take i l ++ vs ++ drop (i + length vs) l
 unfolding over
 over-eq l i vs h = sets-eq vs l i h
 
@@ -33,12 +34,15 @@ over-cons l i v vs = refl
 pub getD-before : (l : List ℕ) (j i : ℕ) (vs : List ℕ) → i < j → getD (over l j vs) i 0 ≡ getD l i 0
 unfolding over
 getD-before l j i [] h = refl
-getD-before l j i (v ∷ vs) h = getD-before (set l j v) (suc j) i vs (omega arith) ∙ getD-set-other l j i v 0 (λ e. omega arith)
+getD-before l j i (v ∷ vs) h =
+    getD-before (set l j v) (suc j) i vs (omega arith) ∙ getD-set-other l j i v 0 (λ e. omega arith)
 
-pub getD-run : (l : List ℕ) (j i : ℕ) (vs : List ℕ) → i < length vs → j + length vs ≤ length l → getD (over l j vs) (j + i) 0 ≡ getD vs i 0
+pub getD-run : (l : List ℕ) (j i : ℕ) (vs : List ℕ) → i < length vs → j + length vs ≤ length l
+    → getD (over l j vs) (j + i) 0 ≡ getD vs i 0
 unfolding over
 getD-run l j i [] h k = absurd (omega arith)
-getD-run l j zero (v ∷ vs) h k = rw (add-zero j) (getD-before (set l j v) (suc j) j vs (omega arith) ∙ getD-set-same l j v 0 (omega arith))
+getD-run l j zero (v ∷ vs) h k =
+    rw (add-zero j) (getD-before (set l j v) (suc j) j vs (omega arith) ∙ getD-set-same l j v 0 (omega arith))
 getD-run l j (suc i) (v ∷ vs) h k =
     let n = length-set l j v in
     let e : j + suc i ≡ suc j + i = omega arith in
@@ -59,7 +63,8 @@ pub also : (l : List ℕ) (i j : ℕ) (a b : List ℕ) {d e : List ℕ} → d �
 also l i j a b p q h = q ∙ ap (λ x. over x j b) p ∙ over-next l i j a b h
 
 -- a loop that writes a from i up to n - 1: a turn, and its end
-pub fill-turn : (l : List ℕ) (i n a : ℕ) → i < n → over (set l i a) (i + 1) (replicate (n - (i + 1)) a) ≡ over l i (replicate (n - i) a)
+pub fill-turn : (l : List ℕ) (i n a : ℕ) → i < n → over (set l i a) (i + 1) (replicate (n - (i + 1)) a)
+    ≡ over l i (replicate (n - i) a)
 unfolding over
 fill-turn l i n a h = let e : n - i ≡ suc (n - (i + 1)) = omega arith in rw (e, add-one)
 
@@ -71,7 +76,8 @@ fill-end l i n a h = let e : n - i ≡ 0 = omega arith in rw e
 pub getD-after : (l : List ℕ) (j i : ℕ) (vs : List ℕ) → j + length vs ≤ i → getD (over l j vs) i 0 ≡ getD l i 0
 unfolding over
 getD-after l j i [] h = refl
-getD-after l j i (v ∷ vs) h = getD-after (set l j v) (suc j) i vs (omega arith) ∙ getD-set-other l j i v 0 (λ e. omega arith)
+getD-after l j i (v ∷ vs) h =
+    getD-after (set l j v) (suc j) i vs (omega arith) ∙ getD-set-other l j i v 0 (λ e. omega arith)
 
 -- what was written under a run does not show
 pub over-set : (l : List ℕ) (i j v : ℕ) (b : List ℕ) → j ≤ i → i < j + length b → over (set l i v) j b ≡ over l j b
@@ -79,9 +85,11 @@ unfolding over
 over-set l i j v [] h g = absurd (omega arith)
 over-set l i j v (y ∷ b) h g = by-test (eqb i j)
     (λ e. let q = eqb-true i j e in rw (q, set-set l j v y))
-    (λ e. let d = eqb-false i j e in rw (set-comm l i j v y d) (over-set (set l j y) i (suc j) v b (omega arith) (omega arith)))
+    (λ e. let d = eqb-false i j e in rw (set-comm l i j v y d)
+    (over-set (set l j y) i (suc j) v b (omega arith) (omega arith)))
 
-pub over-under : (l : List ℕ) (i j : ℕ) (a b : List ℕ) → j ≤ i → i + length a ≤ j + length b → over (over l i a) j b ≡ over l j b
+pub over-under : (l : List ℕ) (i j : ℕ) (a b : List ℕ) → j ≤ i → i + length a ≤ j + length b
+    → over (over l i a) j b ≡ over l j b
 unfolding over
 over-under l i j [] b h g = refl
 over-under l i j (x ∷ a) b h g =

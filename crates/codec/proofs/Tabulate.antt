@@ -30,7 +30,8 @@ module _ {A : Type 0} (g : ℕ → A) where
       let e : a + 1 + n ≡ a + suc n = omega arith in
       ap (λ l. g a ∷ l) (tabulate-last (a + 1) n ∙ rw e)
 
-  pub tabulate-same : (h : ℕ → A) (a n : ℕ) → ((i : ℕ) → i < n → g (a + i) ≡ h (a + i)) → tabulate g a n ≡ tabulate h a n
+  pub tabulate-same : (h : ℕ → A) (a n : ℕ) → ((i : ℕ) → i < n → g (a + i) ≡ h (a + i))
+      → tabulate g a n ≡ tabulate h a n
   unfolding tabulate
   tabulate-same h a zero e = refl
   tabulate-same h a (suc n) e =
@@ -52,7 +53,8 @@ module _ {A : Type 0} (g : ℕ → A) where
   tabulate-take a (suc n) (suc m) h = ap (λ l. g a ∷ l) (tabulate-take (a + 1) n m (omega arith))
 
   -- what holds of all that g gives
-  pub tabulate-all {ℓ} : (P : A → Type ℓ) (d : A) (a n : ℕ) → P d → ((i : ℕ) → P (g i)) → (i : ℕ) → P (getD (tabulate g a n) i d)
+  pub tabulate-all {ℓ} : (P : A → Type ℓ) (d : A) (a n : ℕ) → P d → ((i : ℕ) → P (g i)) → (i : ℕ)
+      → P (getD (tabulate g a n) i d)
   unfolding tabulate
   tabulate-all P d a zero z h i = z
   tabulate-all P d a (suc n) z h zero = h a
@@ -63,7 +65,8 @@ pub tabulate-part : {A : Type 0} (l : List A) (d : A) (a n : ℕ) → a + n ≤ 
     tabulate (λ i. getD l (a + i) d) 0 n ≡ take n (drop a l)
 tabulate-part l d a n h =
     let size : length (take n (drop a l)) ≡ n = length-take-le n (drop a l) (omega (arith, length-drop a l)) in
-    ext-getD d (tabulate (λ i. getD l (a + i) d) 0 n) (take n (drop a l)) (length-tabulate (λ i. getD l (a + i) d) 0 n ∙ sym size)
+    ext-getD d (tabulate (λ i. getD l (a + i) d) 0 n) (take n (drop a l)) (length-tabulate (λ i. getD l (a + i) d) 0 n
+    ∙ sym size)
     (λ i k. let m : i < n = omega (arith, length-tabulate (λ i. getD l (a + i) d) 0 n) in
     getD-tabulate (λ i. getD l (a + i) d) d 0 n i m ∙ ap (λ j. getD l (a + j) d) (zero-add i)
     ∙ sym (getD-take n (drop a l) i d m ∙ getD-drop a l i d))

@@ -30,7 +30,8 @@ length-place j dist site cue =
     ∙ ap (λ n. n + length (labelled (bytes " ") cue))
     (length-append (labelled (separator j) dist) (labelled (bytes " ") site))
 
-pub place-short : (j dist site cue : ℕ) → dist < 2 ^ 64 → site < 2 ^ 32 → cue < 2 ^ 32 → length (placeText j dist site cue) ≤ 44
+pub place-short : (j dist site cue : ℕ) → dist < 2 ^ 64 → site < 2 ^ 32 → cue < 2 ^ 32
+    → length (placeText j dist site cue) ≤ 44
 place-short j dist site cue d s c =
     omega (
       arith,

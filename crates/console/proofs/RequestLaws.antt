@@ -23,7 +23,8 @@ pub stored-next : (input : List ℕ) (at i : ℕ) (l : List ℤ) (v : ℤ) → i
 unfolding coordinates
 stored-next input at i l v h e q =
     let m = set l i v in
-    let stored : take (i + 1) m ≡ take i m ++ getD m i (pos 0) ∷ [] = rw (add-one i) (take-suc m i (pos 0) (rw (length-set l i v) h)) in
+    let stored : take (i + 1) m ≡ take i m ++ getD m i (pos 0) ∷ [] = rw (add-one i)
+    (take-suc m i (pos 0) (rw (length-set l i v) h)) in
     let same : getD m i (pos 0) ≡ i32At input (at + 8 * i) = getD-set-same l i v (pos 0) h ∙ q in
     let next = tabulate-last (λ j. i32At input (at + 8 * j)) 0 i in
     stored ∙ rw (same, take-set-le i l i v (le-refl i), e) (rw (add-one i) (sym (rw (zero-add i) at next)))
@@ -38,7 +39,8 @@ pub whole : (input : List ℕ) → wellFormed input ≡ true → Whole input
 unfolding wellFormed headLength
 whole input e =
     let n = stopCount input in
-    let p = and-both (leb 8 (length input) && leb (length input) maxInput) (leb n requestStops && leb (8 + 8 * n) (length input)) e in
+    let p = and-both (leb 8 (length input) && leb (length input) maxInput)
+    (leb n requestStops && leb (8 + 8 * n) (length input)) e in
     let q = and-both (leb 8 (length input)) (leb (length input) maxInput) (p .0) in
     let r = and-both (leb n requestStops) (leb (8 + 8 * n) (length input)) (p .1) in
     record { long = leb-true _ _ (q .0); few = leb-true _ _ (r .0); stops = leb-true _ _ (r .1) }

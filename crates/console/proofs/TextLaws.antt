@@ -23,9 +23,11 @@ length-digits zero n = refl
 length-digits (suc w) n = length-append (digits w (n / 10)) _ ∙ ap (λ k. k + 1) (length-digits w (n / 10)) ∙ add-one w
 
 -- the last digit stored, the others are left
-pub digits-turn : (l : List ℕ) (at i n : ℕ) → over (set l (at + i) (48 + n % 10)) at (digits i (n / 10)) ≡ over l at (digits (suc i) n)
+pub digits-turn : (l : List ℕ) (at i n : ℕ) → over (set l (at + i) (48 + n % 10)) at (digits i (n / 10))
+    ≡ over l at (digits (suc i) n)
 unfolding digits
-digits-turn l at i n = sym (over-last l at (at + i) (48 + n % 10) (digits i (n / 10)) (ap (λ k. at + k) (sym (length-digits i (n / 10)))))
+digits-turn l at i n =
+    sym (over-last l at (at + i) (48 + n % 10) (digits i (n / 10)) (ap (λ k. at + k) (sym (length-digits i (n / 10)))))
 
 pub digits-end : (l : List ℕ) (at n : ℕ) → l ≡ over l at (digits 0 n)
 unfolding digits
@@ -36,7 +38,8 @@ module _ {l m p a b : List ℕ} {i j k : ℕ} where
   pub then : Wrote l i a m j → Wrote m j b p k → Wrote l i (a ++ b) p k
   then w v = record {
     content = v .content ∙ ap (λ s. over s j b) (w .content) ∙ over-next l i j a b (w .end);
-    end = v .end ∙ ap (λ n. n + length b) (w .end) ∙ add-assoc i (length a) (length b) ∙ ap (λ n. i + n) (sym (length-append a b));
+    end = v .end ∙ ap (λ n. n + length b) (w .end) ∙ add-assoc i (length a) (length b)
+        ∙ ap (λ n. i + n) (sym (length-append a b));
   }
 
 pub same-room : {l a m : List ℕ} {i j : ℕ} → Wrote l i a m j → length m ≡ length l
@@ -47,7 +50,8 @@ pub in-room : {l a m : List ℕ} {i j n r : ℕ} → n ≤ length l → Wrote l 
 in-room h w few = omega (arith, same-room w, h, few)
 
 -- room for r more after a text
-pub room-after : {l a m : List ℕ} {i j : ℕ} (n r : ℕ) → Wrote l i a m j → i + n ≤ length l → length a + r ≤ n → j + r ≤ length m
+pub room-after : {l a m : List ℕ} {i j : ℕ} (n r : ℕ) → Wrote l i a m j → i + n ≤ length l → length a + r ≤ n
+    → j + r ≤ length m
 room-after n r w fits short = omega (arith, w .end, same-room w, fits, short)
 
 -- ---- a loop that writes n parts: what is written and what is left come to the whole
@@ -59,7 +63,8 @@ module _ (g : ℕ → List ℕ) (n : ℕ) (l : List ℕ) (at : ℕ) where
   pub parts-start : Parts g n l at l at 0
   parts-start = let whole : n - 0 ≡ n = omega arith in record { content = rw whole; end = rw whole }
 
-  pub parts-turn : {m p : List ℕ} {next after : ℕ} (j : ℕ) → j < n → Parts g n l at m next j → Wrote m next (g j) p after →
+  pub parts-turn : {m p : List ℕ} {next after : ℕ} (j : ℕ) → j < n → Parts g n l at m next j
+      → Wrote m next (g j) p after →
       Parts g n l at p after (j + 1)
   unfolding joined
   parts-turn {m} {p} {next} {after} j h q w =
@@ -67,7 +72,8 @@ module _ (g : ℕ → List ℕ) (n : ℕ) (l : List ℕ) (at : ℕ) where
       let rest = joined g (j + 1) (n - (j + 1)) in
       let e : next + length (g j ++ rest) ≡ at + length (joined g 0 n) = rw more at (q .end) in
       record {
-        content = ap (λ s. over s after rest) (w .content) ∙ over-next m next after (g j) rest (w .end) ∙ rw more at (q .content);
+        content = ap (λ s. over s after rest) (w .content) ∙ over-next m next after (g j) rest (w .end)
+            ∙ rw more at (q .content);
         end = omega (arith, w .end, length-append (g j) rest, e);
       }
 
@@ -84,7 +90,8 @@ pub width-few : (w more n : ℕ) → n < 10 ^ suc w → widthUpTo more n ≤ suc
 unfolding widthUpTo
 width-few w zero n l = omega arith
 width-few zero (suc more) n l = rw (lt-ltb n 10 l) (omega arith)
-width-few (suc w) (suc more) n l = cond-ind (ltb n 10) 1 (suc (widthUpTo more (n / 10))) (λ k. k ≤ suc (suc w)) (λ _. omega arith)
+width-few (suc w) (suc more) n l =
+    cond-ind (ltb n 10) 1 (suc (widthUpTo more (n / 10))) (λ k. k ≤ suc (suc w)) (λ _. omega arith)
     (λ _. omega (arith, width-few w more (n / 10) (omega (arith, l, pow-suc 10 (suc w)))))
 
 pub decimal-width : (n : ℕ) → length (decimal n) ≡ width n

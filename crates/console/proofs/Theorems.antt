@@ -26,7 +26,11 @@ unfolding widthUpTo
 width-enough zero n h = h
 width-enough (suc more) n h = cond-ind (ltb n 10) 1 (suc (widthUpTo more (n / 10))) (λ w. n < 10 ^ w)
     (λ e. ltb-true n 10 e)
-    (λ e. omega (arith, width-enough more (n / 10) (omega (arith, h, pow-suc 10 (suc more))), pow-suc 10 (widthUpTo more (n / 10))))
+    (λ e. omega (
+      arith,
+      width-enough more (n / 10) (omega (arith, h, pow-suc 10 (suc more))),
+      pow-suc 10 (widthUpTo more (n / 10)),
+    ))
 
 -- a printed number reads as itself: every number of 64 bits is below 10^20
 pub decimal-exact : (n : ℕ) → n < 10 ^ 20 → valueFrom 0 (decimal n) ≡ n

@@ -1,4 +1,5 @@
--- The lines that the program prints (document 01, "Writer, full check, host, program"). "Every printed line ends with a line
+-- The lines that the program prints (document 01, "Writer, full check, host, program"). "Every printed line ends with a
+-- line
 -- feed."
 use Prim.Native.Nat.{ℕ, zero, suc, _+_, _*_}
 use mathlib.Core.List.{List, _++_}
@@ -13,7 +14,8 @@ refusedLine number block = labelled (bytes "refused ") number ++ labelled (bytes
 -- "The first line has T, opened and struck"
 unfoldable pub countsLine : ℕ → ℕ → ℕ → List ℕ
 countsLine tiles opened pruned =
-    labelled (bytes "tiles ") tiles ++ labelled (bytes " opened ") opened ++ labelled (bytes " struck ") pruned ++ bytes "\n"
+    labelled (bytes "tiles ") tiles ++ labelled (bytes " opened ") opened ++ labelled
+    (bytes " struck ") pruned ++ bytes "\n"
 
 -- "places are joined by a semicolon and a space", and a space stands before the first
 abbrev pub separator : ℕ → List ℕ
@@ -31,7 +33,8 @@ placeAt dist site cue from j = placeText j (getD dist (from + j) 0) (getD site (
 unfoldable pub placesText : List ℕ → List ℕ → List ℕ → ℕ → ℕ → List ℕ
 placesText dist site cue from used = joined (placeAt dist site cue from) 0 used
 
--- "a line for each stop, numbered from 0": "place j of stop i is at i × k + j"; "a stop without places prints `stop 0:` (its own
+-- "a line for each stop, numbered from 0": "place j of stop i is at i × k + j"; "a stop without places prints `stop 0:`
+-- (its own
 -- number) alone"
 unfoldable pub stopLine : List ℕ → List ℕ → List ℕ → ℕ → ℕ → ℕ → List ℕ
 stopLine dist site cue k used i =

@@ -94,7 +94,8 @@ fn put_request(input: &[u8], out: &mut [u8]) -> usize
     put_join(&input[start..], &xs[..n], &ys[..n], k, out)
 }
 
-// The whole of the program but for reading and writing: puts the output for an input at the start of out, and gives its length.
+// The whole of the program but for reading and writing: puts the output for an input at the start of out, and gives its
+// length.
 pub fn respond(input: &[u8], out: &mut [u8; ROOM]) -> usize
     ensures text { λ r. ⌜ Wrote (now (out .entry)) 0 (output (now (input .entry))) (now (out .exit)) r ⌝ }
     ensures end { λ r. ⌜ r ≤ length (now (out .exit)) ⌝ }

@@ -1,4 +1,5 @@
-// The program's text: from the bytes of standard input to the bytes of standard output, with nothing of the operating system.
+// The program's text: from the bytes of standard input to the bytes of standard output, with nothing of the operating
+// system.
 pub mod answer;
 pub mod line;
 pub mod request;

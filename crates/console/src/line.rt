@@ -40,8 +40,10 @@ fn put_places(
     used: usize,
 ) -> usize
     requires { ⌜ at + 44 * used ≤ length (now out) ⌝ }
-    requires { ⌜ (from + used ≤ length (now dist)) × (from + used ≤ length (now site)) × (from + used ≤ length (now cue)) ⌝ }
-    ensures { λ r. ⌜ Wrote (now (out .entry)) at (placesText (now (dist .entry)) (now (site .entry)) (now (cue .entry)) from used) (now (out .exit)) r ⌝ }
+    requires { ⌜ (from + used ≤ length (now dist)) × (from + used ≤ length (now site))
+        × (from + used ≤ length (now cue)) ⌝ }
+    ensures { λ r. ⌜ Wrote (now (out .entry)) at (placesText (now (dist .entry)) (now (site .entry))
+        (now (cue .entry)) from used) (now (out .exit)) r ⌝ }
 {
     let mut next = at;
     let mut j = 0;
@@ -63,8 +65,10 @@ fn put_stop(
     i: usize,
 ) -> usize
     requires { ⌜ at + 27 + 44 * used ≤ length (now out) ⌝ }
-    requires { ⌜ (i * k + used ≤ length (now dist)) × (i * k + used ≤ length (now site)) × (i * k + used ≤ length (now cue)) ⌝ }
-    ensures { λ r. ⌜ Wrote (now (out .entry)) at (stopLine (now (dist .entry)) (now (site .entry)) (now (cue .entry)) k used i) (now (out .exit)) r ⌝ }
+    requires { ⌜ (i * k + used ≤ length (now dist)) × (i * k + used ≤ length (now site))
+        × (i * k + used ≤ length (now cue)) ⌝ }
+    ensures { λ r. ⌜ Wrote (now (out .entry)) at (stopLine (now (dist .entry)) (now (site .entry))
+        (now (cue .entry)) k used i) (now (out .exit)) r ⌝ }
 {
     let after_number = put_labelled(out, at, b"stop ", i as u64);
     let after_colon = put_text(out, after_number, b":");
@@ -85,7 +89,9 @@ pub fn put_stops(
 ) -> usize
     requires { ⌜ (at + stopRoom * n ≤ length (now out)) × (used ≤ maxK) × (used ≤ k) ⌝ }
     requires { ⌜ (n * k ≤ length (now dist)) × (n * k ≤ length (now site)) × (n * k ≤ length (now cue)) ⌝ }
-    ensures text { λ r. ⌜ Wrote (now (out .entry)) at (joined (stopLine (now (dist .entry)) (now (site .entry)) (now (cue .entry)) k used) 0 n) (now (out .exit)) r ⌝ }
+    ensures text { λ r. ⌜ Wrote (now (out .entry))
+        at (joined (stopLine (now (dist .entry)) (now (site .entry)) (now (cue .entry)) k used) 0 n)
+        (now (out .exit)) r ⌝ }
     ensures end { λ r. ⌜ r ≤ at + stopRoom * n ⌝ }
 {
     let mut next = at;

@@ -33,8 +33,8 @@ fn low(n: u64) -> u8
 // Bytes 510 and 511 of the block at `at`, from bytes 1 to 509.
 pub fn put_checksum(d: &mut [u8], at: usize)
     requires { ⌜ at + blockSize ≤ length (now d) ⌝ }
-    ensures { λ _. ⌜
-        now (d .exit) ≡ over (now (d .entry)) (at + checkAt) (checkBytes (take blockSize (drop at (now (d .entry))))) ⌝ }
+    ensures { λ _. ⌜ now (d .exit)
+        ≡ over (now (d .entry)) (at + checkAt) (checkBytes (take blockSize (drop at (now (d .entry))))) ⌝ }
 {
     let end = at + layout::BLOCK_SIZE;
     let s = sums_of(&d[at..end]);

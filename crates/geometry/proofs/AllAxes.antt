@@ -10,7 +10,8 @@ use Rattle.base.proofs.Tests.{and-both, both-and, clash}
 use Rattle.geometry.specs.Box.{lo, withinLimits, validAxis, validBox, validPoint, onAxis, inside}
 use Rattle.geometry.specs.Claims.{axisBound}
 use Rattle.geometry.specs.Distance.{D, closestPoint, farthestPoint, minDist, maxDist}
-use Rattle.geometry.proofs.OneAxis.{Axis, axis, On, on, on-test, low-on, valid-on, limited-on, closest-on, closest-least, farthest-on, farthest-most}
+use Rattle.geometry.proofs.OneAxis.{Axis, axis, On, on, on-test, low-on, valid-on, limited-on, closest-on}
+use Rattle.geometry.proofs.OneAxis.{closest-least, farthest-on, farthest-most}
 use Rattle.geometry.proofs.Shift.{Limited, limited, square-bound}
 
 -- a point of a box, axis by axis
@@ -97,7 +98,8 @@ within-box (more {s} {b} o i) t =
 pub in-valid : {b : List (List ℤ)} {p : List ℤ} → In b p → validBox b ≡ true → validPoint p ≡ true
 unfolding validBox validPoint
 in-valid none t = refl
-in-valid (more {s} {b} o i) t = let u = and-both (validAxis s) (validBox b) t in both-and (valid-on (u .0) o) (in-valid i (u .1))
+in-valid (more {s} {b} o i) t =
+    let u = and-both (validAxis s) (validBox b) t in both-and (valid-on (u .0) o) (in-valid i (u .1))
 
 pub distance-bound : {p q : List ℤ} → Within p → Within q → D p q ≤ axisBound * length p
 unfolding D

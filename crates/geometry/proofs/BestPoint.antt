@@ -32,7 +32,8 @@ three (x ∷ o) (y ∷ e) (z ∷ b) t u v p q =
     let f = and-both (validAxis x) (validBox o) t in
     let g = and-both (validAxis y) (validBox e) u in
     let h = and-both (validAxis z) (validBox b) v in
-    next-axis (axis x (f .0)) (axis y (g .0)) (axis z (h .0)) (three o e b (f .1) (g .1) (h .1) (omega arith) (omega arith))
+    next-axis (axis x (f .0)) (axis y (g .0)) (axis z (h .0))
+    (three o e b (f .1) (g .1) (h .1) (omega arith) (omega arith))
 
 -- the margin's point of O, and that E and B can be measured from it
 pub best-in : {o e b : List (List ℤ)} → Three o e b → In o (bestPoint o e b)

@@ -1,4 +1,5 @@
--- Axis by axis, for n axes: each test is that of every axis, each distance the sum of the axes' squares, the margin the sum
+-- Axis by axis, for n axes: each test is that of every axis, each distance the sum of the axes' squares, the margin the
+-- sum
 -- of the axes' gains. The code reads a box and a point by index: its proofs are instances of these. Assumes nothing.
 use Prim.Native.Nat.{ℕ, zero, suc, _+_, _<_}
 use mathlib.Core.Bool.{true}
@@ -54,7 +55,8 @@ valid-axis-at b v i l =
     every-at (λ i. validAxis (axisAt b i)) (length b) i (sym (valid-box-every b (length b) refl) ∙ v) l
 
 -- the tests of three boxes, on each axis
-pub valid-axes-at : (o e b : List (List ℤ)) → (validBox o ≡ true) × ((validBox e ≡ true) × (validBox b ≡ true)) → (i : ℕ)
+pub valid-axes-at : (o e b : List (List ℤ)) → (validBox o ≡ true) × ((validBox e ≡ true) × (validBox b ≡ true))
+    → (i : ℕ)
     → i < length o → i < length e → i < length b → Valid (axisAt o i) (axisAt e i) (axisAt b i)
 valid-axes-at o e b v i p q r =
     (valid-axis-at o (v .0) i p, (valid-axis-at e (v .1 .0) i q, valid-axis-at b (v .1 .1) i r))

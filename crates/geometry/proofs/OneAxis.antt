@@ -13,7 +13,9 @@ use Rattle.base.proofs.Tests.{and-both, both-and, iff-eq, cond-ind}
 use Rattle.geometry.specs.Box.{lowest, highest, lo, hi, withinLimits, validAxis, onAxis}
 use Rattle.geometry.specs.Claims.{axisBound}
 use Rattle.geometry.specs.Distance.{gap, square, closest, farthest}
-use Rattle.geometry.proofs.Shift.{shift, Limited, limited, limited-between, less-shift, at-most-shift, same-shift, at-most-refl, not-less, at-most-trans, sub-shift, gap-shift, square-bound, less-sub}
+use Rattle.geometry.proofs.Shift.{shift, Limited, limited, limited-between, less-shift, at-most-shift}
+use Rattle.geometry.proofs.Shift.{same-shift, at-most-refl, not-less, at-most-trans, sub-shift, gap-shift}
+use Rattle.geometry.proofs.Shift.{square-bound, less-sub}
 
 -- what the test of an axis shows
 pub record Axis (s : List ℤ) : Type 0 where
@@ -78,7 +80,8 @@ pub limited-on : {s : List ℤ} {x : ℤ} → Axis s → On s x → Limited x
 limited-on {s} {x} a p = limited-between (lo s) x (hi s) (a .low) (a .high) (p .from) (p .to)
 
 -- by the place of x against the axis
-closest-ind {ℓ} : (s : List ℤ) (x : ℤ) (P : ℤ → Type ℓ) → (ltZ x (lo s) ≡ true → P (lo s)) → (ltZ (hi s) x ≡ true → P (hi s)) →
+closest-ind {ℓ} : (s : List ℤ) (x : ℤ) (P : ℤ → Type ℓ) → (ltZ x (lo s) ≡ true → P (lo s))
+    → (ltZ (hi s) x ≡ true → P (hi s)) →
     (ltZ x (lo s) ≡ false → ltZ (hi s) x ≡ false → P x) → P (closest s x)
 unfolding closest
 closest-ind s x P f g k =
@@ -94,12 +97,17 @@ farthest-ind s x P f g =
     (λ t. g (ltb-false (gap x (lo s)) (gap x (hi s)) t))
 
 -- the farther end, told by the differences to the two ends, which together are the axis
-pub farthest-test : (s : List ℤ) (x : ℤ) → Axis s → Limited x → farthest s x ≡ cond (ltZ (x -ℤ lo s) (hi s -ℤ x)) (hi s) (lo s)
+pub farthest-test : (s : List ℤ) (x : ℤ) → Axis s → Limited x
+    → farthest s x ≡ cond (ltZ (x -ℤ lo s) (hi s -ℤ x)) (hi s) (lo s)
 farthest-test s x a lx =
     let l = gap-shift x (lo s) (lx .small) (a .low .small) in
     let h = gap-shift x (hi s) (lx .small) (a .high .small) in
     let o = at-most-shift (lo s) (hi s) (a .low .small) (a .high .small) (a .ordered) in
-    rw (sub-shift x (lo s) (lx .small) (a .low .small), sub-shift (hi s) x (a .high .small) (lx .small), less-sub (shift x) (shift (lo s)) (shift (hi s)) (shift x))
+    rw (
+      sub-shift x (lo s) (lx .small) (a .low .small),
+      sub-shift (hi s) x (a .high .small) (lx .small),
+      less-sub (shift x) (shift (lo s)) (shift (hi s)) (shift x),
+    )
     (farthest-ind s x (λ z. z ≡ cond (ltb (shift x + shift x) (shift (hi s) + shift (lo s))) (hi s) (lo s))
     (λ t. rw (lt-ltb (shift x + shift x) (shift (hi s) + shift (lo s)) (omega arith)))
     (λ t. cond-ind (ltb (shift x + shift x) (shift (hi s) + shift (lo s))) (hi s) (lo s) (λ z. lo s ≡ z)
@@ -132,8 +140,16 @@ module _ (s : List ℤ) (x : ℤ) (a : Axis s) (lx : Limited x) where
         let v = below in
         let e = gap-shift x q (lx .small) (lq .small) in
         closest-ind s x (λ z. gap x z ≤ gap x q)
-        (λ t. omega (arith, gap-shift x (lo s) (lx .small) (a .low .small), less-shift x (lo s) (lx .small) (a .low .small) t))
-        (λ t. omega (arith, gap-shift x (hi s) (lx .small) (a .high .small), less-shift (hi s) x (a .high .small) (lx .small) t))
+        (λ t. omega (
+          arith,
+          gap-shift x (lo s) (lx .small) (a .low .small),
+          less-shift x (lo s) (lx .small) (a .low .small) t,
+        ))
+        (λ t. omega (
+          arith,
+          gap-shift x (hi s) (lx .small) (a .high .small),
+          less-shift (hi s) x (a .high .small) (lx .small) t,
+        ))
         (λ n k. omega (arith, gap-shift x x (lx .small) (lx .small)))
 
     farthest-gap : gap x q ≤ gap x (farthest s x)

@@ -82,7 +82,8 @@ small-between (pos a) (negsuc z) b h k s t = clash s refl
 small-between (negsuc a) (negsuc z) b h k s t = omega (arith, leb-true z a s)
 
 -- a difference of two numbers from 0, by its sign
-sub-ind : (a b : ℕ) (R : ℤ → Type 0) → ((x : ℕ) → b + x ≡ a → R (pos x)) → ((x : ℕ) → a + suc x ≡ b → R (negsuc x)) → R (subℕ a b)
+sub-ind : (a b : ℕ) (R : ℤ → Type 0) → ((x : ℕ) → b + x ≡ a → R (pos x)) → ((x : ℕ) → a + suc x ≡ b → R (negsuc x))
+    → R (subℕ a b)
 sub-ind a b R f g =
     cond-ind (ltb a b) (negsuc (b - suc a)) (pos (a - b)) R
     (λ t. let h = ltb-true a b t in g (b - suc a) (omega arith))
@@ -100,7 +101,8 @@ sub-is a (suc b) = refl
 
 -- two pairs of numbers as far apart, the same way round
 sub-same : (a b c d : ℕ) → a + d ≡ c + b → subℕ a b ≡ subℕ c d
-sub-same a b c d e = sub-ind a b (λ z. z ≡ subℕ c d) (λ x f. sym (sub-pos c d x (omega arith))) (λ x f. sym (sub-neg c d x (omega arith)))
+sub-same a b c d e = sub-ind a b (λ z. z ≡ subℕ c d) (λ x f. sym (sub-pos c d x (omega arith)))
+    (λ x f. sym (sub-neg c d x (omega arith)))
 
 -- the difference of two
 pub sub-shift : (a b : ℤ) → Small a → Small b → a -ℤ b ≡ pos (shift a) -ℤ pos (shift b)

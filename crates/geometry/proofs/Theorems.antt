@@ -222,5 +222,6 @@ closer-transitive o a b c vo va vb vc sa sb sc p q =
 
 -- cases 1 to 8
 pub cases : AllSay table
-unfolding margin reached reachedFrom difference bestPoint bestEnd gain closestPoint farthestPoint closest farthest D square gap minDist maxDist
+unfolding margin reached reachedFrom difference bestPoint bestEnd gain closestPoint farthestPoint closest farthest D
+    square gap minDist maxDist
 cases = (refl, (refl, (refl, (refl, (refl, (refl, ((refl, refl), ((refl, refl), tt))))))))

@@ -1,4 +1,5 @@
--- Coordinates, boxes and points (document 01, head of the paper). Every number is a whole number of centimetres. A box is
+-- Coordinates, boxes and points (document 01, head of the paper). Every number is a whole number of centimetres. A box
+-- is
 -- the list of its axes, each the list of its low and its high end; a point is the list of its coordinates. Everything
 -- holds for any number of axes.
 use mathlib.Core.Bool.{Bool, true, false, _&&_}

@@ -27,10 +27,12 @@ pub record Largest (b : List (List ℤ)) (p : List ℤ) (n : ℕ) : Type 0 where
   pub reached : D p point ≡ n
   pub largest : (q : List ℤ) → inside b q ≡ true → D p q ≤ n
 
--- the margin is "the largest D(o,e) - D(o,b) over whole-number points o of O, e of E, b of B", and its three points reach it
+-- the margin is "the largest D(o,e) - D(o,b) over whole-number points o of O, e of E, b of B", and its three points
+-- reach it
 pub record LargestDifference (o e b : List (List ℤ)) (m : Reached) : Type 0 where
   pub o-inside : inside o (m .o) ≡ true
   pub e-inside : inside e (m .e) ≡ true
   pub b-inside : inside b (m .b) ≡ true
   pub reached : difference (m .o) (m .e) (m .b) ≡ m .margin
-  pub largest : (x y z : List ℤ) → inside o x ≡ true → inside e y ≡ true → inside b z ≡ true → difference x y z ≤ℤ m .margin
+  pub largest : (x y z : List ℤ) → inside o x ≡ true → inside e y ≡ true → inside b z ≡ true
+      → difference x y z ≤ℤ m .margin

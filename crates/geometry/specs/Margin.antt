@@ -1,4 +1,5 @@
--- The margin of three boxes, its three points, and closer (document 01, "Three boxes"; E is "nearer" than B from O there).
+-- The margin of three boxes, its three points, and closer (document 01, "Three boxes"; E is "nearer" than B from O
+-- there).
 use mathlib.Core.Bool.{Bool, cond}
 use mathlib.Core.List.{List, [], _∷_}
 use lib.IntN.{ℤ, pos, _-ℤ_}

@@ -10,8 +10,10 @@ use Rattle.host.specs.declared.reports.ValidateReport.{ValidateReport}
 use Rattle.host.specs.declared.reports.WriteReport.{WriteReport}
 
 abbrev pub joinReport : Outcome Result → JoinReport
-joinReport (accepted r) = record { number = 0; block = 0; used = r .used; tiles = r .tiles; opened = r .opened; pruned = r .pruned }
-joinReport (refused number block) = record { number = number; block = block; used = 0; tiles = 0; opened = 0; pruned = 0 }
+joinReport (accepted r) =
+    record { number = 0; block = 0; used = r .used; tiles = r .tiles; opened = r .opened; pruned = r .pruned }
+joinReport (refused number block) =
+    record { number = number; block = block; used = 0; tiles = 0; opened = 0; pruned = 0 }
 
 abbrev pub pruneReport : Outcome Counts → PruneReport
 pruneReport (accepted c) = record { number = 0; block = 0; tiles = c .tiles; pruned = c .pruned }

@@ -7,11 +7,15 @@ use Rattle.search.specs.Lists.{count, total, filter, member}
 use Rattle.search.specs.Order.{lex, insert, sort}
 use Rattle.search.specs.Plan.{ranks, ranked}
 use Rattle.search.specs.Pruning.{pruned}
-use Rattle.search.specs.Run.{rank, aheadOf, listing, placesOf, nearest, candidate, byKey, queue, ahead, enough, contents, opening, serve, follow, run, join, mark, marks}
+use Rattle.search.specs.Run.{rank, aheadOf, listing, placesOf, nearest, candidate, byKey, queue, ahead, enough}
+use Rattle.search.specs.Run.{contents, opening, serve, follow, run, join, mark, marks}
 use Rattle.join.specs.Cases.{table, AllSay}
 
 pub twelve-cases : AllSay table
-unfolding margin reached reachedFrom difference bestPoint bestEnd gain closestPoint farthestPoint closest farthest closer D square gap minDist maxDist sums sumsFrom ranks ranked count total filter member lex insert sort pruned rank aheadOf listing placesOf nearest candidate byKey queue ahead enough contents opening serve follow run join mark marks
+unfolding margin reached reachedFrom difference bestPoint bestEnd gain closestPoint farthestPoint closest farthest
+    closer D square gap minDist maxDist sums sumsFrom ranks ranked count total filter member lex insert sort pruned rank
+    aheadOf listing placesOf nearest candidate byKey queue ahead enough contents opening serve follow run join mark
+    marks
 twelve-cases = (
   refl,
   (

@@ -25,7 +25,8 @@ use Rattle.search.specs.Lists.{range, bit, count, member}
 use Rattle.search.specs.Limits.{maxK, maxPlaces}
 use Rattle.search.specs.Plan.{Lawful, ranked}
 use Rattle.search.specs.Pruning.{pruned, prunedCount}
-use Rattle.search.specs.Run.{noPlace, candidate, candidates, queue, join, slices, placesUsed, mark, marks, openedMark, prunedMark}
+use Rattle.search.specs.Run.{noPlace, candidate, candidates, queue, join, slices, placesUsed, mark, marks, openedMark}
+use Rattle.search.specs.Run.{prunedMark}
 use Rattle.search.specs.declared.Place.{Place}
 use Rattle.serve.specs.Inner.Marks.{markAll}
 use Rattle.serve.specs.Inner.Serving.{lastLength, waiting, walksOf, StopsReady, StopsServed}
@@ -56,7 +57,8 @@ last-of n m [] h a = absurd (omega arith)
 last-of n m (l ∷ []) h a = a .0
 last-of n m (l ∷ k ∷ ls) h a = last-of n (length l) (k ∷ ls) (omega arith) (a .1)
 
-refused-from : {A : Type 0} (o : Outcome A) (g : A → ℕ) {x y : ℕ} → refused x y ≡ andThen o (λ a. accepted (g a)) → o ≡ refused x y
+refused-from : {A : Type 0} (o : Outcome A) (g : A → ℕ) {x y : ℕ} → refused x y ≡ andThen o (λ a. accepted (g a))
+    → o ≡ refused x y
 refused-from (accepted a) g e = accepted-refused {o = accepted (g a)} refl (sym e)
 refused-from (refused x y) g e = cc
 
@@ -220,16 +222,19 @@ module _ {f : List ℕ} {h : Header} {cols : List (List ℤ)} {k : ℕ} {out : S
     opened-is =
         let opened = join (entries f h) O k (openingOf f h) (stopsOf cols) .openings in
         let l = range-length (mark (entries f h) O k opened) 0 (h .tiles) in
-        rw (take-over (h .tiles) (out .marks) (map (mark (entries f h) O k opened) (range 0 (h .tiles))) l (r .args .marks))
+        rw (take-over (h .tiles) (out .marks) (map (mark (entries f h) O k opened) (range 0 (h .tiles))) l
+        (r .args .marks))
         (opened-count (entries f h) O k (openingOf f h) (stopsOf cols))
 
-    used-is : (ls : List (List Place)) → walksFor f h cols k .out ≡ accepted ls → lastLength 0 ls ≡ placesUsed (entries f h) k
+    used-is : (ls : List (List Place)) → walksFor f h cols k .out ≡ accepted ls
+        → lastLength 0 ls ≡ placesUsed (entries f h) k
     unfolding runFor
     used-is ls e =
         let a = cuts-length (entries f h) k (openingOf f h) (queue (entries f h) O k) (stopsOf cols) ls e in
         let q = stops-length cols in
         last-of (placesUsed (entries f h) k) 0 ls (omega (arith, r .args .some))
-        (places-used (entries f h) O k lawful (openingOf f h) (opening-checked f h b) (stopsOf cols) (smallest .holds) ls
+        (places-used (entries f h) O k lawful (openingOf f h) (opening-checked f h b) (stopsOf cols)
+        (smallest .holds) ls
         (alike b .outcome ∙ e))
 
     module _ {out′ : Slices} where

@@ -1,5 +1,6 @@
 -- The theorems for the reader: demands 2 and 3 about files, answers and the lent slices.
--- The call is `call::join`, its definition `joinEnd` (specs/Join), what is claimed `Demand3` (specs/Claims). f is the file, cols
+-- The call is `call::join`, its definition `joinEnd` (specs/Join), what is claimed `Demand3` (specs/Claims). f is the
+-- file, cols
 -- the stops by columns, on as many axes as the town has.
 use Prim.Native.Nat.{ℕ, suc, _+_, _*_, _<_, _≤_}
 use mathlib.Core.Bool.{true, false}
@@ -68,26 +69,27 @@ never-pruned f h cols k = run.never-pruned (entries f h) (around cols) k (openin
 module _ (f : List ℕ) (cols : List (List ℤ)) (k : ℕ) (out : Slices) where
   -- "Any file of the same length, equal to this one in every byte of the directory and of the opened tiles"
   module _ (g : List ℕ) (h : Header) (d : directory f ≡ accepted h) (same : SameDirectory f g h)
-      (alike : All (λ t. blockAt g (tilePosition h t) ≡ blockAt f (tilePosition h t)) (runFor f h cols k .openings)) where
-    ended-same : (u : List ℕ) (o : Outcome (List (List Place))) → ended g h cols k u out o ≡ ended f h cols k u out o
-    unfolding ended filled
-    ended-same u (accepted ls) =
-        let o = around cols in
-        rw (used-depends f g h same k, pruned-count-depends f g h same o k, marks-depend f g h same o k u)
-    ended-same u (refused x y) = refl
+      (alike : All (λ t. blockAt g (tilePosition h t) ≡ blockAt f (tilePosition h t)) (runFor f h cols k .openings))
+    where
+      ended-same : (u : List ℕ) (o : Outcome (List (List Place))) → ended g h cols k u out o ≡ ended f h cols k u out o
+      unfolding ended filled
+      ended-same u (accepted ls) =
+          let o = around cols in
+          rw (used-depends f g h same k, pruned-count-depends f g h same o k, marks-depend f g h same o k u)
+      ended-same u (refused x y) = refl
 
-    run-same : runEnd g h cols k out ≡ runEnd f h cols k out
-    unfolding runEnd runFor
-    run-same =
-        let r = runFor f h cols k in
-        rw (join-depends f g h same (around cols) k (stopsOf cols) alike) (ended-same (r .openings) (r .outcome))
+      run-same : runEnd g h cols k out ≡ runEnd f h cols k out
+      unfolding runEnd runFor
+      run-same =
+          let r = runFor f h cols k in
+          rw (join-depends f g h same (around cols) k (stopsOf cols) alike) (ended-same (r .openings) (r .outcome))
 
-    -- "gets an answer with the same lists, marks and counts": the whole end of the call is the same, refusals included
-    pub other-files : joinEnd g cols k out ≡ joinEnd f cols k out
-    unfolding joinEnd tests joinFrom
-    other-files =
-        let e = same-directory f g h d same in
-        rw (d, e) (by-outcome (arguments (h .tiles) cols k (lengthsOf out)) (λ x q. rw q run-same) (λ n b q. rw q))
+      -- "gets an answer with the same lists, marks and counts": the whole end of the call, refusals included
+      pub other-files : joinEnd g cols k out ≡ joinEnd f cols k out
+      unfolding joinEnd tests joinFrom
+      other-files =
+          let e = same-directory f g h d same in
+          rw (d, e) (by-outcome (arguments (h .tiles) cols k (lengthsOf out)) (λ x q. rw q run-same) (λ n b q. rw q))
 
   -- ---- a call that answers
 
@@ -159,7 +161,8 @@ module _ (f : List ℕ) (cols : List (List ℤ)) (k : ℕ) (out : Slices) where
       abbrev H : Header
       H = a .h
 
-      demand : RunAnswers (entries f H) (around cols) k (openingOf f H) (stopsOf cols) (a .ls) (runFor f H cols k .openings)
+      demand : RunAnswers (entries f H) (around cols) k (openingOf f H) (stopsOf cols) (a .ls)
+          (runFor f H cols k .openings)
       unfolding runFor
       demand =
           run.demand-3 (entries f H) (around cols) k (lawful (a .ready axes)) (openingOf f H) (stopsOf cols)
@@ -179,7 +182,8 @@ module _ (f : List ℕ) (cols : List (List ℤ)) (k : ℕ) (out : Slices) where
           let e = getD-run (out .marks) 0 t ms (omega arith) (omega (arith, a .ready axes .args .marks)) in
           rw (a .slices-are) (rw (zero-add t) at e)
 
-      marks-left : take (H .tiles) (left f cols k out H .marks) ≡ marks (entries f H) (around cols) k (opened f cols k out H)
+      marks-left : take (H .tiles) (left f cols k out H .marks)
+          ≡ marks (entries f H) (around cols) k (opened f cols k out H)
       unfolding filled marks
       marks-left =
           let ms = map (mark (entries f H) (around cols) k (opened f cols k out H)) (range 0 (H .tiles)) in
@@ -212,7 +216,8 @@ module _ (f : List ℕ) (cols : List (List ℤ)) (k : ℕ) (out : Slices) where
             smallest = smallest (a .ready axes);
             lists = λ town g i j p q.
                 let n = stops-length cols in
-                let m : length (a .ls) ≡ stopCount cols = sym (length-map (a .ls) (padded k)) ∙ ap length (d .lists town g)
+                let m : length (a .ls) ≡ stopCount cols = sym (length-map (a .ls) (padded k))
+                ∙ ap length (d .lists town g)
                 ∙ length-map (stopsOf cols) (λ p. fullSearch (entries f h) k p town) ∙ n in
                 place-left r a m i j p q ∙ d .places town g [] i j (omega arith) q;
             opened-exactly = d .opened-exactly;
@@ -227,7 +232,8 @@ module _ (f : List ℕ) (cols : List (List ℤ)) (k : ℕ) (out : Slices) where
           },
         )
 
-    module _ (r : Result) (e : joinEnd f cols k out .outcome ≡ accepted r) (h : Header) (d : directory f ≡ accepted h) where
+    module _ (r : Result) (e : joinEnd f cols k out .outcome ≡ accepted r) (h : Header)
+        (d : directory f ≡ accepted h) where
       -- Demand 3 speaks of some town: there is one that agrees with the directory and the opened tiles.
       pub town-exists : Bytes f → (town : Town plane) × Agreeing f cols k out h town
       unfolding runFor
@@ -236,12 +242,14 @@ module _ (f : List ℕ) (cols : List (List ℤ)) (k : ℕ) (out : Slices) where
           let i : a .h ≡ h = accepted-injective (sym (a .dir) ∙ d) in
           let s = smallest (a .ready axes) in
           let n = stops-length cols in
-          let p = first-stop (λ p. inside (around cols) p ≡ true) (stopsOf cols) (omega (arith, a .ready axes .args .some))
+          let p = first-stop (λ p. inside (around cols) p ≡ true) (stopsOf cols)
+          (omega (arith, a .ready axes .args .some))
           (s .holds) in
           rw (← i) (run.town-exists (entries f (a .h)) (around cols) k (lawful (a .ready axes)) (openingOf f (a .h))
           (opening-checked f (a .h) b) (stopsOf cols) (a .ls) (a .lists) (p .0) (p .1))
 
-      -- What a full search gives, as a reader would want it: the town's sites, each once, in their ranking, and every site left
+      -- What a full search gives, as a reader would want it: the town's sites, each once, in their ranking, and every
+      -- site left
       -- out behind every listed one.
       pub full-search : (town : Town plane) → Agreeing f cols k out h town
           → All (λ p. FullSearch (entries f h) k p town) (stopsOf cols)
@@ -254,9 +262,11 @@ module _ (f : List ℕ) (cols : List (List ℤ)) (k : ℕ) (out : Slices) where
 
     -- ---- demand 2
 
-    -- "On a file that passes the full check, each list is the first k sites of the whole town, by distance, then tile, then
+    -- "On a file that passes the full check, each list is the first k sites of the whole town, by distance, then tile,
+    -- then
     -- slot": the join answers, with these lists
-    pub demand-2 : Bytes f → (h : Header) → validate f ≡ accepted h → arguments (h .tiles) cols k (lengthsOf out) ≡ accepted tt
+    pub demand-2 : Bytes f → (h : Header) → validate f ≡ accepted h
+        → arguments (h .tiles) cols k (lengthsOf out) ≡ accepted tt
         → joinEnd f cols k out ≡ ended f h cols k (runFor f h cols k .openings) out
         (accepted (map (λ p. firstOf (entries f h) k p (townOf f h)) (stopsOf cols)))
     unfolding runEnd runFor
@@ -264,7 +274,8 @@ module _ (f : List ℕ) (cols : List (List ℤ)) (k : ℕ) (out : Slices) where
         let good = validate-exactly f h .0 v in
         let d = directory-exactly f h .1 (good .directory) in
         let w = run-ready f cols k out d a axes in
-        let e = run.demand-2 (entries f h) (around cols) k (lawful w) (openingOf f h) (townOf f h) (good-agrees f h good b)
+        let e = run.demand-2 (entries f h) (around cols) k (lawful w) (openingOf f h) (townOf f h)
+        (good-agrees f h good b)
         (good-opens f h good) (stopsOf cols) (smallest w .holds) in
         tests-pass f cols k out d a
         ∙ ap (ended f h cols k (join (entries f h) (around cols) k (openingOf f h) (stopsOf cols) .openings) out) e

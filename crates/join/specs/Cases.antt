@@ -1,4 +1,5 @@
--- Document 01, "Twelve cases", as one table: 1 to 8 are geometry's, 9 to 11 are checks of a block, 12 is "the town above".
+-- Document 01, "Twelve cases", as one table: 1 to 8 are geometry's, 9 to 11 are checks of a block, 12 is "the town
+-- above".
 use Prim.Native.Nat.{ℕ}
 use mathlib.Core.List.{List, [], _∷_, _++_, map}
 use mathlib.Core.Path.{_≡_}
@@ -15,15 +16,18 @@ use Rattle.search.specs.Run.{Run, join, marks}
 use Rattle.search.specs.declared.Place.{Place}
 use Rattle.tiles.specs.declared.tile.Site.{Site}
 
--- "tiles with y 0..0: tile 0 x 0..10, site (10,0) cue 7; tile 1 x -10..-4, site (-10,0) cue 8; tile 2 x 10..12, site (11,0) cue 9"
+-- "tiles with y 0..0: tile 0 x 0..10, site (10,0) cue 7; tile 1 x -10..-4, site (-10,0) cue 8; tile 2 x 10..12, site
+-- (11,0) cue 9"
 abbrev pub boxes : List (List (List ℤ))
-boxes = box (pos 0) (pos 10) (pos 0) (pos 0) ∷ box (negℤ (pos 10)) (negℤ (pos 4)) (pos 0) (pos 0) ∷ box (pos 10) (pos 12) (pos 0) (pos 0) ∷ []
+boxes = box (pos 0) (pos 10) (pos 0) (pos 0) ∷ box (negℤ (pos 10)) (negℤ (pos 4)) (pos 0) (pos 0) ∷ box (pos 10)
+    (pos 12) (pos 0) (pos 0) ∷ []
 
 abbrev pub siteOf : ℤ → ℕ → List Site
 siteOf x cue = record { x = x; y = pos 0; cue = cue } ∷ []
 
 abbrev pub reading : ℕ → Outcome (List Site)
-reading t = getD (accepted (siteOf (pos 10) 7) ∷ accepted (siteOf (negℤ (pos 10)) 8) ∷ accepted (siteOf (pos 11) 9) ∷ []) t (refused 0 0)
+reading t = getD (accepted (siteOf (pos 10) 7) ∷ accepted (siteOf (negℤ (pos 10)) 8) ∷ accepted
+    (siteOf (pos 11) 9) ∷ []) t (refused 0 0)
 
 -- that town from "stop (0,0)"
 abbrev pub origin : List ℤ
@@ -46,7 +50,8 @@ table =
     ++ check-of (replicate 509 0) (record { a = 0; c = 0 })
     ∷ check-of (1 ∷ replicate 508 0) (record { a = 1; c = 254 })
     ∷ check-of (replicate 508 0 ++ (1 ∷ [])) (record { a = 1; c = 1 })
-    ∷ town-with 2 (record { dist = 100; site = 0; cue = 7 } ∷ record { dist = 100; site = 40; cue = 8 } ∷ []) (2 ∷ 2 ∷ 0 ∷ [])
+    ∷ town-with 2 (record { dist = 100; site = 0; cue = 7 } ∷ record { dist = 100; site = 40; cue = 8 } ∷ [])
+    (2 ∷ 2 ∷ 0 ∷ [])
     ∷ []
 
 -- what a case says: of bytes 1 to 509 whatever the others are; of a run its list and its marks

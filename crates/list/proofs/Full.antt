@@ -49,7 +49,8 @@ module _ {o : Lists} {at used k : ℕ} (ready : Ready o at used k) (x : Place) w
         let m = places o at (k - 1) in
         let f : suc (length m) ≡ k = omega (arith, places-length o at (k - 1), ready .some) in
         let w : inserts rank k (x ∷ []) (places o at used) ≡ places o at used =
-        ap (inserts rank k (x ∷ [])) apart ∙ cut-stays rank x k rank-order m y f (rw apart at (ready .sorted)) e ∙ sym apart in
+        ap (inserts rank k (x ∷ [])) apart ∙ cut-stays rank x k rank-order m y f (rw apart at (ready .sorted)) e
+        ∙ sym apart in
         record { number = rw w (sym (places-length o at used)); laid = rw w (sym (lay-self o at used)) }
 
     pub put-full : {o′ : Lists} → rank y x ≡ false → o′ ≡ withPlace o at (k - 1) x → Adds o at used k (x ∷ []) used o′
@@ -68,7 +69,8 @@ module _ (o : Lists) (at used k least tile : ℕ) where
       let n = places-length o at used in
       rw (ne-eqb (length (places o at used)) k (λ e. omega arith))
 
-  pub full-last : 0 < k → used ≡ k → lastAhead k (places o at used) least tile ≡ aheadOf (placeAt o (at + (k - 1))) least tile
+  pub full-last : 0 < k → used ≡ k → lastAhead k (places o at used) least tile
+      ≡ aheadOf (placeAt o (at + (k - 1))) least tile
   unfolding lastAhead places
   full-last h e =
       let n = places-length o at used in

@@ -17,7 +17,8 @@ use Rattle.search.proofs.Sort.{insert-length}
 use Rattle.list.specs.Inner.Keeping.{places, put, Ready, withPlace}
 use Rattle.list.specs.Lists.{Lists, placeAt}
 use Rattle.list.proofs.Insertion.{insert-back, insert-none, insert-end}
-use Rattle.list.proofs.Laying.{places-length, places-last, places-same, places-sorted, lay-self, put-last, put-lay}
+use Rattle.list.proofs.Laying.{places-length, places-last, places-same, places-sorted, lay-self, put-last}
+use Rattle.list.proofs.Laying.{put-lay}
 
 -- a place stored at index i does not show in what lies below
 places-put : (o : Lists) (at n i : ℕ) (y : Place) → at + n ≤ i → places (put o i y) at n ≡ places o at n
@@ -50,7 +51,8 @@ module _ {o : Lists} {at n k : ℕ} (ready : Ready o at n k) where
         → withPlace (put o (at + n) y) at (n - 1) x ≡ withPlace o at n x
     moved-up x q e = go n some q
       where
-        go : (m : ℕ) → 0 < m → y ≡ placeAt o (at + m - 1) → withPlace (put o (at + m) y) at (m - 1) x ≡ withPlace o at m x
+        go : (m : ℕ) → 0 < m → y ≡ placeAt o (at + m - 1)
+            → withPlace (put o (at + m) y) at (m - 1) x ≡ withPlace o at m x
         go zero h q = absurd (omega arith)
         go (suc m) h q =
             let l = places o at m in
@@ -58,7 +60,8 @@ module _ {o : Lists} {at n k : ℕ} (ready : Ready o at n k) where
             let b = places-length o at m in
             let f : at + suc m ≡ at + length (insert rank x l) = omega arith in
             let w = places-put o at m (at + suc m) y (omega arith) in
-            rw (last-is o at m y q, insert-back rank x l y e, sub-one, w) (put-last o at (at + suc m) (insert rank x l) y f)
+            rw (last-is o at m y q, insert-back rank x l y e, sub-one, w)
+            (put-last o at (at + suc m) (insert rank x l) y f)
 
     moved-ready : Ready (put o (at + n) y) at (n - 1) k
     moved-ready =
@@ -78,7 +81,8 @@ module _ {o : Lists} {at n k : ℕ} (ready : Ready o at n k) where
     stored-behind : (x : Place) → y ≡ placeAt o (at + n - 1) → rank y x ≡ true → put o (at + n) x ≡ withPlace o at n x
     stored-behind x q e = go n some q (ready .sorted)
       where
-        go : (m : ℕ) → 0 < m → y ≡ placeAt o (at + m - 1) → Sorted rank (places o at m) → put o (at + m) x ≡ withPlace o at m x
+        go : (m : ℕ) → 0 < m → y ≡ placeAt o (at + m - 1) → Sorted rank (places o at m)
+            → put o (at + m) x ≡ withPlace o at m x
         go zero h q s = absurd (omega arith)
         go (suc m) h q s =
             let w = last-is o at m y q in
@@ -89,7 +93,8 @@ module _ {o : Lists} {at n k : ℕ} (ready : Ready o at n k) where
   unfolding places tabulate
   stored-first h x = let e : n ≡ 0 = omega arith in rw e (stored-last o at 0 x (insert-none rank x))
 
--- ---- the loop that leaves a gap for x above or among n places: at the start the slices were o₀, now left places are below the gap
+-- ---- the loop that leaves a gap for x above or among n places: at the start the slices were o₀, now left places are
+-- below the gap
 pub record Gap (o₀ : Lists) (at n : ℕ) (x : Place) (o : Lists) (left : ℕ) : Type 0 where
   pub few : left ≤ n
   pub d : length (o .dist) ≡ length (o₀ .dist)

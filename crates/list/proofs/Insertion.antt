@@ -43,7 +43,8 @@ module _ {A : Type 0} (lt : A → A → Bool) (x : A) where
     pub cut-stays : Order lt → (l : List A) (y : A) → suc (length l) ≡ k → Sorted lt (l ++ y ∷ []) → lt y x ≡ true
         → inserts lt k (x ∷ []) (l ++ y ∷ []) ≡ l ++ y ∷ []
     unfolding inserts
-    cut-stays o l y n s e = rw (insert-end o l y s e) (take-at (l ++ y ∷ []) (x ∷ []) k (omega (arith, length-append l (y ∷ []))))
+    cut-stays o l y n s e =
+        rw (insert-end o l y s e) (take-at (l ++ y ∷ []) (x ∷ []) k (omega (arith, length-append l (y ∷ []))))
 
     pub cut-falls : (l : List A) (y : A) → suc (length l) ≡ k → lt y x ≡ false
         → inserts lt k (x ∷ []) (l ++ y ∷ []) ≡ insert lt x l

@@ -19,7 +19,8 @@ use Rattle.codec.specs.Tabulate.{tabulate}
 use Rattle.search.specs.Inner.Cut.{Sorted}
 use Rattle.search.specs.Run.{noPlace, rank}
 use Rattle.search.specs.declared.Place.{Place}
-use Rattle.codec.proofs.Over.{length-over, over-nil, over-cons, getD-before, getD-run, getD-after, over-next, over-under}
+use Rattle.codec.proofs.Over.{length-over, over-nil, over-cons, getD-before, getD-run, getD-after, over-next}
+use Rattle.codec.proofs.Over.{over-under}
 use Rattle.codec.proofs.Over.{over-last, set-over}
 use Rattle.codec.proofs.Tabulate.{length-tabulate, getD-tabulate, tabulate-last, tabulate-same, tabulate-take}
 use Rattle.search.proofs.Cut.{sorted-take}
@@ -40,13 +41,16 @@ module _ (show : Place → ℕ) where
       ∙ sym (ap (λ (z : List ℕ). over z (suc at) vs) (ap (set l at) (e at) ∙ set-getD l at 0))
       ∙ sym (over-cons l at (show (g at)) vs)
 
-  over-shown : show noPlace ≡ 0 → (l : List ℕ) (at : ℕ) (m : List Place) (i : ℕ) → i < length m → at + length m ≤ length l
+  over-shown : show noPlace ≡ 0 → (l : List ℕ) (at : ℕ) (m : List Place) (i : ℕ) → i < length m
+      → at + length m ≤ length l
       → getD (over l at (map show m)) (at + i) 0 ≡ show (getD m i noPlace)
   over-shown z l at m i h g =
       let n = length-map m show in
-      getD-run l at i (map show m) (omega arith) (omega arith) ∙ ap (getD (map show m) i) (sym z) ∙ List·getD-map show m i noPlace
+      getD-run l at i (map show m) (omega arith) (omega arith) ∙ ap (getD (map show m) i) (sym z)
+      ∙ List·getD-map show m i noPlace
 
-  shown-before : (l : List ℕ) (at : ℕ) (m : List Place) (i : ℕ) → i < at → getD (over l at (map show m)) i 0 ≡ getD l i 0
+  shown-before : (l : List ℕ) (at : ℕ) (m : List Place) (i : ℕ)
+      → i < at → getD (over l at (map show m)) i 0 ≡ getD l i 0
   shown-before l at m i h = getD-before l at i (map show m) h
 
   shown-after : (l : List ℕ) (at : ℕ) (m : List Place) (i : ℕ) → at + length m ≤ i
@@ -94,7 +98,8 @@ places-same o o′ at n e = tabulate-same (placeAt o′) (placeAt o) at n (λ i 
 -- the first of sorted places are sorted
 pub places-sorted : (o : Lists) (at n m : ℕ) → m ≤ n → Sorted rank (places o at n) → Sorted rank (places o at m)
 unfolding places
-places-sorted o at n m h s = rw (tabulate-take (placeAt o) at n m h) at (sorted-take rank m (tabulate (placeAt o) at n) s)
+places-sorted o at n m h s =
+    rw (tabulate-take (placeAt o) at n m h) at (sorted-take rank m (tabulate (placeAt o) at n) s)
 
 -- ---- a list laid
 
@@ -125,20 +130,23 @@ lay-under o i j a b h g = same
     (shown-under (λ a. a .cue) (o .cue) i j a b h g)
 
 -- a list with one place more: that place stored first, or last
-pub put-last : (o : Lists) (i n : ℕ) (a : List Place) (y : Place) → n ≡ i + length a → lay (put o n y) i a ≡ lay o i (a ++ y ∷ [])
+pub put-last : (o : Lists) (i n : ℕ) (a : List Place) (y : Place) → n ≡ i + length a
+    → lay (put o n y) i a ≡ lay o i (a ++ y ∷ [])
 unfolding lay
 put-last o i n a y e = same
     (shown-last (λ p. p .dist) (o .dist) i n a y e)
     (shown-last (λ p. p .site) (o .site) i n a y e)
     (shown-last (λ p. p .cue) (o .cue) i n a y e)
 
-pub put-lay : (o : Lists) (i n : ℕ) (a : List Place) (y : Place) → n ≡ i + length a → put (lay o i a) n y ≡ lay o i (a ++ y ∷ [])
+pub put-lay : (o : Lists) (i n : ℕ) (a : List Place) (y : Place) → n ≡ i + length a
+    → put (lay o i a) n y ≡ lay o i (a ++ y ∷ [])
 unfolding lay
 put-lay o i n a y e =
     same (later (λ p. p .dist) (o .dist)) (later (λ p. p .site) (o .site)) (later (λ p. p .cue) (o .cue))
     ∙ rw (← (put-last o i n a y e))
   where
-    later : (show : Place → ℕ) (l : List ℕ) → set (over l i (map show a)) n (show y) ≡ over (set l n (show y)) i (map show a)
+    later : (show : Place → ℕ) (l : List ℕ) → set (over l i (map show a)) n (show y)
+        ≡ over (set l n (show y)) i (map show a)
     later show l = let m = length-map a show in set-over l i n (show y) (map show a) (omega arith)
 
 module _ (o : Lists) (at : ℕ) (l : List Place) where

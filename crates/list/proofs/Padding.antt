@@ -65,7 +65,8 @@ module _ (k : ℕ) (o : Lists) (at : ℕ) (l : List Place) (z : Clear o at (at +
       let n = k - length l in
       let o′ = lay o at l in
       let rest : places o′ (at + length l) n ≡ replicate n noPlace =
-      tabulate-const (placeAt o′) noPlace (at + length l) n (λ i a b. lay-after o at l i a ∙ z i (omega arith) (omega arith)) in
+      tabulate-const (placeAt o′) noPlace (at + length l) n (λ i a b. lay-after o at l i a
+      ∙ z i (omega arith) (omega arith)) in
       rw (padded-is k l few) (sym (lay-next o at l (replicate n noPlace)) ∙ rw rest at (lay-self o′ (at + length l) n))
 
   -- the list of a stop is laid, and those of the later stops are left

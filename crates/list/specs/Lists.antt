@@ -1,4 +1,5 @@
--- The output slices of the join: "Three output slices hold D, the site as tile × 40 + slot, and cue" (document 01, "The join").
+-- The output slices of the join: "Three output slices hold D, the site as tile × 40 + slot, and cue" (document 01, "The
+-- join").
 --
 --   Lists, lists         the three slices as one value
 --   Long                 how long they are at least

@@ -66,7 +66,8 @@ fn put_place(dist: &mut [u64], site: &mut [u32], cue: &mut [u32], at: usize, n: 
     cue[i] = x.cue;
 }
 
-// Puts x into the used places of a sorted list of at most k from index at on: the number of places used then. A full list whose
+// Puts x into the used places of a sorted list of at most k from index at on: the number of places used then. A full
+// list whose
 // last place ranks before x stays as it is, and else its last place falls off.
 pub fn insert_place(
     dist: &mut [u64],

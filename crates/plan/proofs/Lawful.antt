@@ -41,7 +41,8 @@ reached b p axes w n =
     let e = two q (pos 0) (in-length i ∙ axes) in
     (record { x = at-x q; y = at-y q; cue = n }, (rw (← e) (in-test i), (rw (← e) refl, refl)))
 
-module _ (f : List ℕ) (h : Header) (o : List (List ℤ)) (read : directory f ≡ accepted h) (valid : validBox o ≡ true) (axes : length o ≡ axisCount) where
+module _ (f : List ℕ) (h : Header) (o : List (List ℤ)) (read : directory f ≡ accepted h) (valid : validBox o ≡ true)
+    (axes : length o ≡ axisCount) where
   valid-at : (t : ℕ) → t < h .tiles → validBox (boxAt f t) ≡ true
   valid-at t l = entry-of-accepted f h t read l .0
 

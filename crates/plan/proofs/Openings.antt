@@ -35,7 +35,8 @@ cue-small f b h t slot = u32-small _ _ (block-bytes f _ b)
 
 -- ---- openings
 
-all-tabulate : {A : Type 0} (P : A → Type 0) (g : ℕ → A) (a n : ℕ) → ((i : ℕ) → i < n → P (g (a + i))) → All P (tabulate g a n)
+all-tabulate : {A : Type 0} (P : A → Type 0) (g : ℕ → A) (a n : ℕ) → ((i : ℕ) → i < n → P (g (a + i)))
+    → All P (tabulate g a n)
 unfolding tabulate
 all-tabulate P g a zero h = tt
 all-tabulate P g a (suc n) h = (

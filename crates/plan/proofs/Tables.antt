@@ -1,4 +1,5 @@
--- For the crates above: a table filled element by element (one turn of the loop, its end, and reading it), and tests as numbers.
+-- For the crates above: a table filled element by element (one turn of the loop, its end, and reading it), and tests as
+-- numbers.
 use Prim.Native.Nat.{ℕ, zero, suc, _+_, _-_, _<_, _≤_}
 use mathlib.Core.Bool.{Bool, true, false}
 use mathlib.Core.List.{List, map}

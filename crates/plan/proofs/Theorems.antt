@@ -1,4 +1,5 @@
--- The theorems of this crate for the reader: what the search assumes of a geometry, a directory and a reading holds of every file
+-- The theorems of this crate for the reader: what the search assumes of a geometry, a directory and a reading holds of
+-- every file
 -- whose directory is accepted, and which bytes of the file decide it.
 use Prim.Native.Nat.{ℕ, _<_}
 use mathlib.Core.Bool.{true}
@@ -31,7 +32,8 @@ use Rattle.plan.proofs.Openings.{opening-town, openings-checked, all-op
 
 module _ (f : List ℕ) (h : Header) where
   -- box arithmetic and directory are as the search assumes, for every stop in O
-  pub plan-lawful : (o : List (List ℤ)) → directory f ≡ accepted h → validBox o ≡ true → length o ≡ axisCount → Lawful (entries f h) o
+  pub plan-lawful : (o : List (List ℤ)) → directory f ≡ accepted h → validBox o ≡ true → length o ≡ axisCount
+      → Lawful (entries f h) o
   plan-lawful = lawful f h
 
   -- a tile that opens holds the sites of the file's own town

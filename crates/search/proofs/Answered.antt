@@ -1,8 +1,10 @@
--- A run that answers, and a town that agrees with the directory and with what was opened: its lists are the full search's, and
+-- A run that answers, and a town that agrees with the directory and with what was opened: its lists are the full
+-- search's, and
 -- what it opened is what another filling can change.
 use Prim.Native.Nat.{ℕ, _+_, _*_, _<_}
 use mathlib.Core.Bool.{true, false}
-use mathlib.Core.List.{List, [], _∷_, map, head-eq-of-cons-eq, tail-eq-of-cons-eq, List·Memᴰ, List·Memᴰ·head, List·Memᴰ·tail, List·Memᴰ·append-cases}
+use mathlib.Core.List.{List, [], _∷_, map, head-eq-of-cons-eq, tail-eq-of-cons-eq, List·Memᴰ, List·Memᴰ·head}
+use mathlib.Core.List.{List·Memᴰ·tail, List·Memᴰ·append-cases}
 use mathlib.Core.Logic.{_⊎_, inl, inr}
 use mathlib.Core.Path.{_≡_, refl, sym, ap, _∙_, subst}
 use native.Mathlib.Omega.{arith}
@@ -15,7 +17,8 @@ use Rattle.search.specs.FullSearch.{refill, firstOf, fullSearch, Fits, C
 use Rattle.search.specs.Inner.Walk.{both}
 use Rattle.search.specs.Lists.{member, All}
 use Rattle.search.specs.Plan.{Geometry, Directory, Lawful, Town, Fills, Agrees}
-use Rattle.search.specs.Run.{Reading, Place, noPlace, Run, nearest, queue, Checked, join, padded, slices, placesUsed}
+use Rattle.search.specs.Run.{Reading, Place, noPlace, Run, nearest, queue, Checked, join, padded, slices}
+use Rattle.search.specs.Run.{placesUsed}
 use Rattle.search.proofs.Equation.{withNew, withNew-member, join-walks}
 use Rattle.search.proofs.Exact.{asked-differs}
 use Rattle.search.proofs.Fillings.{some-filling, refill-there}
@@ -119,7 +122,8 @@ module _ {G : Geometry} {E : Directory G} {O : G .Box} (L : Lawful E O) (k : ℕ
     unfolding fullSearch
     answer-padded g f = rw (answer-lists g f) (twice ps)
       where
-        twice : (qs : List Stop) → map (padded k) (map (λ p. firstOf E k p g) qs) ≡ map (λ p. padded k (firstOf E k p g)) qs
+        twice : (qs : List Stop) → map (padded k) (map (λ p. firstOf E k p g) qs)
+            ≡ map (λ p. padded k (firstOf E k p g)) qs
         twice [] = refl
         twice (q ∷ qs) = ap (λ l. padded k (firstOf E k q g) ∷ l) (twice qs)
 
@@ -134,7 +138,8 @@ module _ {G : Geometry} {E : Directory G} {O : G .Box} (L : Lawful E O) (k : ℕ
     pub answer-used : (g : Town G) → Fits E read opened g → All (λ l. length l ≡ placesUsed E k) ls
     answer-used g f = rw (answer-lists g f) (each ps hs)
       where
-        each : (qs : List Stop) → All (Within O) qs → All (λ l. length l ≡ placesUsed E k) (map (λ p. firstOf E k p g) qs)
+        each : (qs : List Stop) → All (Within O) qs
+            → All (λ l. length l ≡ placesUsed E k) (map (λ p. firstOf E k p g) qs)
         each [] h = tt
         each (q ∷ qs) h = (first-length E k L q (h .0) g (f .directory), each qs (h .1))
 
@@ -179,5 +184,6 @@ module _ {G : Geometry} {E : Directory G} {O : G .Box} (L : Lawful E O) (k : ℕ
         }
 
         same : member t opened ≡ false → firstOf E k (c .stop) g′ ≡ firstOf E k (c .stop) g
-        same e = map-same (λ p. firstOf E k p g′) (λ p. firstOf E k p g) (sym (answer-lists g′ (fits e)) ∙ answer-lists g f)
+        same e =
+            map-same (λ p. firstOf E k p g′) (λ p. firstOf E k p g) (sym (answer-lists g′ (fits e)) ∙ answer-lists g f)
             (c .served)

@@ -1,4 +1,5 @@
--- Case 12 of document 01 on one axis (the y of its boxes is 0..0; x is moved up by 100), run by the definitions; then the same
+-- Case 12 of document 01 on one axis (the y of its boxes is 0..0; x is moved up by 100), run by the definitions; then
+-- the same
 -- town for two stops, and with a tile that does not open.
 use Prim.Native.Nat.{ℕ, _+_, _*_, _-_, max}
 use mathlib.Core.List.{List, [], _∷_}
@@ -10,7 +11,8 @@ use Rattle.search.specs.Lists.{count, total, filter, member}
 use Rattle.search.specs.Order.{lex, insert, sort}
 use Rattle.search.specs.Plan.{Geometry, Directory, ranks, ranked}
 use Rattle.search.specs.Pruning.{pruned}
-use Rattle.search.specs.Run.{Place, rank, aheadOf, listing, placesOf, nearest, candidate, byKey, queue, ahead, enough, contents, opening, serve, follow, run, join, mark, marks}
+use Rattle.search.specs.Run.{Place, rank, aheadOf, listing, placesOf, nearest, candidate, byKey, queue, ahead}
+use Rattle.search.specs.Run.{enough, contents, opening, serve, follow, run, join, mark, marks}
 
 record Spot : Type 0 where
   x : ℕ
@@ -68,10 +70,12 @@ record Expected : Type 0 where
   marks-2 : marks tiles here 2 (join tiles here 2 town (100 ∷ []) .openings) ≡ 2 ∷ 2 ∷ 0 ∷ []
   marks-3 : marks tiles here 3 (join tiles here 3 town (100 ∷ []) .openings) ≡ 2 ∷ 2 ∷ 2 ∷ []
   -- a tile is opened once, whichever stops take it
-  twice : join tiles here 2 town (100 ∷ 100 ∷ []) ≡ record { openings = 0 ∷ 1 ∷ []; outcome = accepted (first ∷ first ∷ []) }
+  twice : join tiles here 2 town (100 ∷ 100 ∷ []) ≡ record
+      { openings = 0 ∷ 1 ∷ []; outcome = accepted (first ∷ first ∷ []) }
   -- a refused opening ends the run, and is in it
   broken : join tiles here 2 damaged (100 ∷ 100 ∷ []) ≡ record { openings = 0 ∷ 1 ∷ []; outcome = refused 3 2 }
 
 expected : Expected
-unfolding one town damaged first ranks ranked count total filter member lex insert sort pruned rank aheadOf listing placesOf nearest candidate byKey queue ahead enough contents opening serve follow run join mark marks
+unfolding one town damaged first ranks ranked count total filter member lex insert sort pruned rank aheadOf listing
+    placesOf nearest candidate byKey queue ahead enough contents opening serve follow run join mark marks
 expected = record { case-12 = refl; marks-2 = refl; marks-3 = refl; twice = refl; broken = refl }

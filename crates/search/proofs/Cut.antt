@@ -1,4 +1,5 @@
--- A list cut at k as code keeps it: sites are put in one after another, and its last place tells whether k are ahead of a key.
+-- A list cut at k as code keeps it: sites are put in one after another, and its last place tells whether k are ahead of
+-- a key.
 -- For the code of the join: its list and its end test are those of the walk.
 use Prim.Native.Nat.{ℕ, zero, suc, _-_, _≤_, _<_}
 use mathlib.Core.Bool.{Bool, true, false, _&&_}
@@ -17,7 +18,8 @@ use Rattle.search.specs.Inner.Walk.{enter, both, cutWalk, cutWalks}
 use Rattle.search.specs.Lists.{count, All}
 use Rattle.search.specs.Order.{lex, sort}
 use Rattle.search.specs.Plan.{Geometry, Directory, near, Lawful, Town}
-use Rattle.search.specs.Run.{tilePlaces, Reading, Place, noPlace, rank, aheadOf, contents, Checked, queue, ahead, enough, join}
+use Rattle.search.specs.Run.{tilePlaces, Reading, Place, noPlace, rank, aheadOf, contents, Checked, queue, ahead}
+use Rattle.search.specs.Run.{enough, join}
 use Rattle.search.proofs.Equation.{Alike, join-walks}
 use Rattle.search.proofs.Lists.{all-map, all-append, all-take, all-perm, count-all}
 use Rattle.search.proofs.Pairs.{lex-tight, lex-coarse}
@@ -30,7 +32,8 @@ use Rattle.search.proofs.Walk.{by-outcome, walk, cut, cutOut, walks}
 -- ---- putting in
 
 -- the first k of what was found and of more: the more put into the first k of what was found
-pub cut-append : {A : Type 0} (lt : A → A → Bool) (o : Order lt) (P : A → Type 0) (tight : Tight lt P) (k : ℕ) (l m : List A)
+pub cut-append : {A : Type 0} (lt : A → A → Bool) (o : Order lt) (P : A
+    → Type 0) (tight : Tight lt P) (k : ℕ) (l m : List A)
     → All P (l ++ m) → take k (sort lt (l ++ m)) ≡ inserts lt k m (take k (sort lt l))
 unfolding inserts sort
 cut-append lt o P tight k l [] h = rw append-nil
@@ -50,7 +53,8 @@ sorted-take lt (suc k) (x ∷ l) h = (all-take (λ z. lt z x ≡ false) k l (h .
 count-le-length : {A : Type 0} (p : A → Bool) (l : List A) → count p l ≤ length l
 unfolding count
 count-le-length p [] = omega arith
-count-le-length p (x ∷ l) = let ih = count-le-length p l in by-test (p x) (λ e. rw e (omega arith)) (λ e. rw e (omega arith))
+count-le-length p (x ∷ l) =
+    let ih = count-le-length p l in by-test (p x) (λ e. rw e (omega arith)) (λ e. rw e (omega arith))
 
 count-take : {A : Type 0} (p : A → Bool) (k : ℕ) (l : List A) → count p (take k l) ≤ count p l
 unfolding count
@@ -63,7 +67,8 @@ unfolding count
 count-full p [] h = tt
 count-full p (x ∷ l) h =
     let c = count-le-length p l in
-    by-test (p x) (λ e. (e, count-full p l (let g = rw e at h in omega arith))) (λ e. absurd (let g = rw e at h in omega arith))
+    by-test (p x) (λ e. (e, count-full p l (let g = rw e at h in omega arith)))
+    (λ e. absurd (let g = rw e at h in omega arith))
 
 all-getD : {A : Type 0} (P : A → Type 0) (l : List A) (i : ℕ) (d : A) → i < length l → All P l → P (getD l i d)
 all-getD P [] i d h a = absurd (omega arith)
@@ -109,13 +114,15 @@ module _ {G : Geometry} (E : Directory G) (O : G .Box) (k : ℕ) where
       (λ f. let q = lex-tight (a .dist) (a .site) (b .dist) (b .site) f e in rw (q .0, q .1) h)
 
   -- the cut list is full and its last place is ahead of the key exactly when k of what was found are
-  full-enough : (p : Stop) (t : ℕ) (found : List Place) → 0 < k → lastAhead k (cut k found) (near E p t) t ≡ enough E k p t found
+  full-enough : (p : Stop) (t : ℕ) (found : List Place) → 0 < k
+      → lastAhead k (cut k found) (near E p t) t ≡ enough E k p t found
   unfolding lastAhead enough cut ahead
   full-enough p t found pos =
       let s = sort rank found in
       let h = sort-sorted rank rank-order found in
       let n = length-take k s in
-      let last = last-test rank rank-order (ahead E p t) (ahead-down p t) k (take k s) noPlace pos (sorted-take rank k s h)
+      let last = last-test rank rank-order (ahead E p t) (ahead-down p t) k (take k s) noPlace pos
+      (sorted-take rank k s h)
       (omega arith) in
       sym last ∙ cut-test rank rank-order (ahead E p t) (ahead-down p t) k s h
       ∙ ap (leb k) (count-sort rank (ahead E p t) found)
@@ -162,20 +169,25 @@ module _ {G : Geometry} (E : Directory G) (O : G .Box) (k : ℕ) where
       unfolding cut sort
       stop-cut = let e = cut-walk (queue E O k p) [] (queue-tiles E O k p) tt in rw (take-nil {A = Place} k) at e
 
-    walks-cut : (ps : List Stop) → All (Within O) ps → cutWalks E k read (queue E O k) ps ≡ walks E k (queue E O k) read ps
+    walks-cut : (ps : List Stop) → All (Within O) ps
+        → cutWalks E k read (queue E O k) ps ≡ walks E k (queue E O k) read ps
     unfolding cutWalks walks
     walks-cut [] hs = refl
     walks-cut (p ∷ ps) hs = rw (stop-cut p (hs .0), walks-cut ps (hs .1))
 
-    -- The join, from what code keeps: the lists are those of the cut walks, and the openings the tiles asked for, repeats removed.
+    -- The join, from what code keeps: the lists are those of the cut walks, and the openings the tiles asked for,
+    -- repeats removed.
     pub join-cut : (ps : List Stop) (hs : All (Within O) ps)
-        → Alike [] (join E O k read ps) (cutWalks E k read (queue E O k) ps .asked) (cutWalks E k read (queue E O k) ps .out)
+        → Alike [] (join E O k read ps) (cutWalks E k read (queue E O k) ps .asked)
+        (cutWalks E k read (queue E O k) ps .out)
     join-cut ps hs = rw (walks-cut ps hs) (join-walks E O k L read checked ps hs)
 
 -- ---- the clauses of a cut walk, and of all
 
-module _ {G : Geometry} (E : Directory G) (k : ℕ) (read : Reading G) (p : G .Stop) (t : ℕ) (ts : List ℕ) (l : List Place) where
-  pub cut-full : lastAhead k l (near E p t) t ≡ true → cutWalk E k read p (t ∷ ts) l ≡ record { asked = []; out = accepted l }
+module _ {G : Geometry} (E : Directory G) (k : ℕ) (read : Reading G) (p : G .Stop) (t : ℕ) (ts : List ℕ)
+    (l : List Place) where
+  pub cut-full : lastAhead k l (near E p t) t ≡ true
+      → cutWalk E k read p (t ∷ ts) l ≡ record { asked = []; out = accepted l }
   unfolding cutWalk
   cut-full e = rw e
 

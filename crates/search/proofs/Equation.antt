@@ -1,4 +1,5 @@
--- The join and the walks of each stop by itself come to the same: a tile opened for an earlier stop has no site ahead of a key
+-- The join and the walks of each stop by itself come to the same: a tile opened for an earlier stop has no site ahead
+-- of a key
 -- that comes before its own, so it counts from where the stop's own walk takes it.
 use Prim.Native.Nat.{ℕ}
 use mathlib.Core.Bool.{Bool, true, false, cond, _||_, or-false}
@@ -12,11 +13,17 @@ use Rattle.base.proofs.Tests.{by-test}
 use Rattle.search.specs.Inner.Walk.{both}
 use Rattle.search.specs.Lists.{count, filter, member, All, Distinct}
 use Rattle.search.specs.Plan.{Geometry, Directory, Lawful, Town}
-use Rattle.search.specs.Run.{tilePlaces, Reading, Place, Run, placesOf, nearest, byKey, queue, ahead, enough, contents, Checked, serve, join}
-use Rattle.search.proofs.Lists.{all-map, all-both, all-append, all-right, all-mem, count-append, count-none, count-perm, filter-all, filter-passes, filter-mem, filter-append, filter-id, filter-distinct, member-mem, mem-member, member-append, distinct-snoc, same-elements}
-use Rattle.search.proofs.Places.{by-key-order, placesOf-append, placesOf-perm, Filled, later-none, later-behind, nearest-front}
+use Rattle.search.specs.Run.{tilePlaces, Reading, Place, Run, placesOf, nearest, byKey, queue, ahead, enough}
+use Rattle.search.specs.Run.{contents, Checked, serve, join}
+use Rattle.search.proofs.Lists.{all-map, all-both, all-append, all-right, all-mem, count-append, count-none}
+use Rattle.search.proofs.Lists.{count-perm, filter-all, filter-passes, filter-mem, filter-append, filter-id}
+use Rattle.search.proofs.Lists.{filter-distinct, member-mem, mem-member, member-append, distinct-snoc}
+use Rattle.search.proofs.Lists.{same-elements}
+use Rattle.search.proofs.Places.{by-key-order, placesOf-append, placesOf-perm, Filled, later-none, later-behind}
+use Rattle.search.proofs.Places.{nearest-front}
 use Rattle.search.proofs.Queue.{Chosen, queue-chosen, queue-sorted, queue-distinct, queue-mem}
-use Rattle.search.proofs.Run.{contents-accepted, enoughFor, Served, none, ends, again, opens, refuses, served, served-all, served-distinct, Opens, served-good, Ran, done, answers, breaks, ran}
+use Rattle.search.proofs.Run.{contents-accepted, enoughFor, Served, none, ends, again, opens, refuses, served}
+use Rattle.search.proofs.Run.{served-all, served-distinct, Opens, served-good, Ran, done, answers, breaks, ran}
 use Rattle.search.proofs.Sort.{sorted-right, order-irrefl}
 use Rattle.search.proofs.Walk.{walk, cut, cutOut, walks, walk-ends, walk-refused, walk-opens, Enough}
 
@@ -64,7 +71,8 @@ module _ {G : Geometry} (E : Directory G) (O : G .Box) (k : ℕ) where
 
     open-filled : (opened : List ℕ) → Open opened → All (Filled E g) opened
     open-filled opened o = all-both (Chosen E O k) (Opens E k read) _ opened
-        (λ t c a. (c .0, rw (contents-accepted E k read t (a .0) (a .1)) (checked t (a .0) (c .0) (a .1)))) (o .chosen) (o .good)
+        (λ t c a. (c .0, rw (contents-accepted E k read t (a .0) (a .1)) (checked t (a .0) (c .0) (a .1)))) (o .chosen)
+        (o .good)
 
     -- ---- a stop at a point of its queue: the tiles passed are open
 
@@ -79,7 +87,8 @@ module _ {G : Geometry} (E : Directory G) (O : G .Box) (k : ℕ) where
           let q : ℕ → Bool = λ t. member t opened in
           let f : filter q (queue E O k p) ≡ pre ++ extra = ap (filter q) e ∙ filter-append q pre ts
           ∙ ap (λ l. l ++ extra) (filter-id q pre passed) in
-          rw f at (same-elements opened (filter q (queue E O k p)) (o .once) (filter-distinct q (queue E O k p) (queue-distinct E O k p))
+          rw f at (same-elements opened (filter q (queue E O k p)) (o .once)
+          (filter-distinct q (queue E O k p) (queue-distinct E O k p))
           (λ t m. let c = all-mem (Chosen E O k) (o .chosen) m in
           filter-mem q (queue-mem E O k p t (c .0) (c .1)) (mem-member t opened m))
           (λ t m. member-mem t opened (all-mem (λ u. member u opened ≡ true) (filter-passes q (queue E O k p)) m)))
@@ -98,7 +107,8 @@ module _ {G : Geometry} (E : Directory G) (O : G .Box) (k : ℕ) where
         (order-irrefl (byKey E p) (by-key-order E p) t, s .0)
 
     -- as many sites of open tiles are ahead of the next key as of the tiles passed
-    same-count : (p : Stop) → Within O p → (pre : List ℕ) (t : ℕ) (ts opened : List ℕ) → queue E O k p ≡ pre ++ t ∷ ts → Open opened
+    same-count : (p : Stop) → Within O p → (pre : List ℕ) (t : ℕ) (ts opened : List ℕ) → queue E O k p ≡ pre ++ t ∷ ts
+        → Open opened
         → All (λ u. member u opened ≡ true) pre
         → count (ahead E p t) (placesOf G p g opened) ≡ count (ahead E p t) (placesOf G p g pre)
     same-count p home pre t ts opened e o h =
@@ -111,7 +121,8 @@ module _ {G : Geometry} (E : Directory G) (O : G .Box) (k : ℕ) where
         let b = count-append (ahead E p t) (placesOf G p g pre) (placesOf G p g x) in
         omega arith
 
-    same-enough : (p : Stop) → Within O p → (pre : List ℕ) (t : ℕ) (ts opened : List ℕ) → queue E O k p ≡ pre ++ t ∷ ts → Open opened
+    same-enough : (p : Stop) → Within O p → (pre : List ℕ) (t : ℕ) (ts opened : List ℕ) → queue E O k p ≡ pre ++ t ∷ ts
+        → Open opened
         → All (λ u. member u opened ≡ true) pre → enoughFor E k read p t opened ≡ enough E k p t (placesOf G p g pre)
     unfolding enough
     same-enough p home pre t ts opened e o h = ap (leb k) (same-count p home pre t ts opened e o h)
@@ -147,7 +158,8 @@ module _ {G : Geometry} (E : Directory G) (O : G .Box) (k : ℕ) where
         (all-map pre (λ u m. member-append u opened (t ∷ []) ∙ rw m) h)
         (mem-member t (opened ++ t ∷ []) (Memᴰ·append-right opened (List·Memᴰ·head refl)))
 
-    new-open : (p : Stop) (pre : List ℕ) (t : ℕ) (ts opened : List ℕ) (f : List Site) → queue E O k p ≡ pre ++ t ∷ ts → Open opened
+    new-open : (p : Stop) (pre : List ℕ) (t : ℕ) (ts opened : List ℕ) (f : List Site) → queue E O k p ≡ pre ++ t ∷ ts
+        → Open opened
         → member t opened ≡ false → read t ≡ accepted f → Open (opened ++ t ∷ [])
     new-open p pre t ts opened f e o m a = record {
       once = distinct-snoc opened t (o .once) m;
@@ -162,7 +174,8 @@ module _ {G : Geometry} (E : Directory G) (O : G .Box) (k : ℕ) where
     serve-walk : {p : Stop} {ts opened : List ℕ} {r : Run (List Place)} → Served E k read p ts opened r → Within O p
         → (pre : List ℕ) → queue E O k p ≡ pre ++ ts
         → Open opened → All (λ t. member t opened ≡ true) pre
-        → Alike opened r (walk E k read p ts (placesOf G p g pre) .asked) (cutOut k (walk E k read p ts (placesOf G p g pre) .out))
+        → Alike opened r (walk E k read p ts (placesOf G p g pre) .asked)
+        (cutOut k (walk E k read p ts (placesOf G p g pre) .out))
     unfolding walk withNew enough
     serve-walk {p} (none {opened = u}) home pre e o h =
         record { outcome = ap accepted (same-list p home pre [] u e o h tt); openings = refl }
@@ -188,7 +201,8 @@ module _ {G : Geometry} (E : Directory G) (O : G .Box) (k : ℕ) where
 
     -- ---- all stops
 
-    still-open : (p : Stop) (opened : List ℕ) (l : List Place) → serve E k read p (queue E O k p) opened .outcome ≡ accepted l
+    still-open : (p : Stop) (opened : List ℕ) (l : List Place)
+        → serve E k read p (queue E O k p) opened .outcome ≡ accepted l
         → Open opened → Open (serve E k read p (queue E O k p) opened .openings)
     still-open p opened l e o =
         let s = served E k read p (queue E O k p) opened in
@@ -204,7 +218,8 @@ module _ {G : Geometry} (E : Directory G) (O : G .Box) (k : ℕ) where
     unfolding placesOf
     alone p home opened o = serve-walk (served E k read p (queue E O k p) opened) home [] refl o tt
 
-    run-walks : {ps : List Stop} {opened : List ℕ} {r : Run (List (List Place))} → Ran E k (queue E O k) read ps opened r → All (Within O) ps
+    run-walks : {ps : List Stop} {opened : List ℕ} {r : Run (List (List Place))}
+        → Ran E k (queue E O k) read ps opened r → All (Within O) ps
         → Open opened → Alike opened r (walks E k (queue E O k) read ps .asked) (walks E k (queue E O k) read ps .out)
     unfolding walks both withNew
     run-walks done hs o = record { outcome = refl; openings = refl }
@@ -214,13 +229,15 @@ module _ {G : Geometry} (E : Directory G) (O : G .Box) (k : ℕ) where
         let w = walk E k read p (queue E O k p) [] in
         rw (sym (a .outcome) ∙ e) (record {
           outcome = rw (ih .outcome);
-          openings = ih .openings ∙ rw (a .openings, withNew-append u (w .asked) (walks E k (queue E O k) read ps .asked));
+          openings =
+              ih .openings ∙ rw (a .openings, withNew-append u (w .asked) (walks E k (queue E O k) read ps .asked));
         })
     run-walks (breaks {p = p} {opened = u} e) hs o =
         let a = alone p (hs .0) u o in
         rw (sym (a .outcome) ∙ e) (record { outcome = refl; openings = a .openings })
 
     -- The equation: the same outcome and lists; the openings are the tiles asked for, repeats removed.
-    pub join-walks : (ps : List Stop) → All (Within O) ps → Alike [] (join E O k read ps) (walks E k (queue E O k) read ps .asked) (walks E k (queue E O k) read ps .out)
+    pub join-walks : (ps : List Stop) → All (Within O) ps
+        → Alike [] (join E O k read ps) (walks E k (queue E O k) read ps .asked) (walks E k (queue E O k) read ps .out)
     unfolding join
     join-walks ps hs = run-walks (ran E k (queue E O k) read ps []) hs (record { once = tt; chosen = tt; good = tt })

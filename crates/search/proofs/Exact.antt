@@ -1,8 +1,10 @@
--- A tile that a stop's walk asks for has another filling that changes the full search for that stop: fewer than k sites of the
+-- A tile that a stop's walk asks for has another filling that changes the full search for that stop: fewer than k sites
+-- of the
 -- town are ahead of its key, so a site at its least distance, with another cue, gets a place.
 use Prim.Native.Nat.{ℕ, suc, _+_, _*_, _/_, _%_, _≤_, _<_}
 use mathlib.Core.Bool.{true, false}
-use mathlib.Core.List.{List, [], _∷_, _++_, append-assoc, append-nil, append-cancel-left, head-eq-of-cons-eq, List·Memᴰ, List·Memᴰ·head, List·Memᴰ·tail, Memᴰ·append-right, Permᴰ·symm}
+use mathlib.Core.List.{List, [], _∷_, _++_, append-assoc, append-nil, append-cancel-left, head-eq-of-cons-eq, List·Memᴰ}
+use mathlib.Core.List.{List·Memᴰ·head, List·Memᴰ·tail, Memᴰ·append-right, Permᴰ·symm}
 use mathlib.Core.Logic.{inl, inr, _≢_}
 use mathlib.Core.Option.{some}
 use mathlib.Core.Path.{_≡_, refl, sym, ap, _∙_, subst}
@@ -17,11 +19,14 @@ use Rattle.search.specs.FullSearch.{refill, firstOf}
 use Rattle.search.specs.Lists.{range, count, All}
 use Rattle.search.specs.Order.{lex, sort}
 use Rattle.search.specs.Plan.{Geometry, Directory, Lawful, slots, ranks, Town, Agrees}
-use Rattle.search.specs.Run.{tilePlaces, Place, rank, aheadOf, listing, placesOf, nearest, byKey, queue, ahead, enough}
+use Rattle.search.specs.Run.{tilePlaces, Place, rank, aheadOf, listing, placesOf, nearest, byKey, queue, ahead}
+use Rattle.search.specs.Run.{enough}
 use Rattle.search.proofs.Fillings.{another-site, ranked-count, refit, refill-here, refill-there, refill-agrees}
-use Rattle.search.proofs.Lists.{all-map, all-any, all-both, all-right, all-take, all-mem, all-perm, count-append, count-le, count-none, count-perm, range-mem}
+use Rattle.search.proofs.Lists.{all-map, all-any, all-both, all-right, all-take, all-mem, all-perm, count-append}
+use Rattle.search.proofs.Lists.{count-le, count-none, count-perm, range-mem}
 use Rattle.search.proofs.Pairs.{Ahead, lex-ahead, lex-less, lex-same, lex-not-less, lex-coarse}
-use Rattle.search.proofs.Places.{rank-order, by-key-order, placesOf-append, placesOf-perm, Known, known, listing-from, placeAt, Own, own-tight, own-places, later-none}
+use Rattle.search.proofs.Places.{rank-order, by-key-order, placesOf-append, placesOf-perm, Known, known}
+use Rattle.search.proofs.Places.{listing-from, placeAt, Own, own-tight, own-places, later-none}
 use Rattle.search.proofs.Pruning.{below}
 use Rattle.search.proofs.Queue.{queue-tiles, queue-sorted, Chosen, queue-chosen, candidate-some}
 use Rattle.search.proofs.Sort.{sort-is-perm, sorted-right, order-irrefl, listed}
@@ -95,8 +100,10 @@ module _ {G : Geometry} (E : Directory G) (O : G .Box) (k : ℕ) where
 
     others-none : (t : ℕ) → count (ahead E p t) (placesOf G p g (queue E O k p)) < k
         → All (λ y. ahead E p t y ≡ false) (placesOf G p g (others E O k))
-    others-none t h = others-places E O k L p home g ag (λ y. ahead E p t y ≡ false) (λ b y hb s i. by-test (ahead E p t y)
-        (λ a. absurd (let l = few-before t h y a in let d = pruned-behind E O k L p home g ag b hb s y i in omega arith))
+    others-none t h =
+        others-places E O k L p home g ag (λ y. ahead E p t y ≡ false) (λ b y hb s i. by-test (ahead E p t y)
+        (λ a. absurd (let l = few-before t h y a in let d = pruned-behind E O k L p home g ag b hb s y i in
+        omega arith))
         (λ a. a))
 
     short-town : (t : ℕ) → count (ahead E p t) (placesOf G p g (queue E O k p)) < k
@@ -144,7 +151,8 @@ module _ {G : Geometry} (E : Directory G) (O : G .Box) (k : ℕ) where
       rw (h .0, ← e) (listing-silent p (suc a) f₀ f (h .1))
 
   -- it has a place
-  first-listed : (p : Stop) (g : Town G) (t : ℕ) (f₀ : List Site) (q : Site) (f : List Site) (ts : List ℕ) → g t ≡ f₀ ++ q ∷ f
+  first-listed : (p : Stop) (g : Town G) (t : ℕ) (f₀ : List Site) (q : Site) (f : List Site) (ts : List ℕ)
+      → g t ≡ f₀ ++ q ∷ f
       → All (λ s. ranks G s ≡ false) f₀ → ranks G q ≡ true → List·Memᴰ t ts
       → List·Memᴰ (record { dist = D p q; site = t * slots + length f₀; cue = cue q }) (placesOf G p g ts)
   unfolding placesOf listing
@@ -191,7 +199,8 @@ module _ {G : Geometry} (E : Directory G) (O : G .Box) (k : ℕ) where
 
     ag′ : Agrees E g′
     unfolding g′ fresh q
-    ag′ = refill-agrees E g t fresh ag (refit E t (b .earlier) (b .later) (b .it) q (rw (b .parts) at (ag t ht)) (b .loud)
+    ag′ =
+        refill-agrees E g t fresh ag (refit E t (b .earlier) (b .later) (b .it) q (rw (b .parts) at (ag t ht)) (b .loud)
         (other .4) (other .1))
 
     -- the place that it has now
@@ -210,7 +219,8 @@ module _ {G : Geometry} (E : Directory G) (O : G .Box) (k : ℕ) where
     unfolding rank ahead aheadOf now q
     there-ahead u x e i h = go (lex-ahead (x .dist) (x .site) (D p q) (t * slots + slot) h)
       where
-        go : Ahead (x .dist) (x .site) (D p q) (t * slots + slot) → lex (x .dist) (x .site / slots) (minDist p (box t)) t ≡ true
+        go : Ahead (x .dist) (x .site) (D p q) (t * slots + slot)
+            → lex (x .dist) (x .site / slots) (minDist p (box t)) t ≡ true
         go (inl h) = rw (← (other .2)) (lex-less (x .site / slots) t h)
         go (inr h) = rw (← (other .2)) (lex-same (h .0)
             (let v = i .tile in let d : u ≢ t = eqb-false u t e in let c = slot-small in omega arith))
@@ -223,8 +233,10 @@ module _ {G : Geometry} (E : Directory G) (O : G .Box) (k : ℕ) where
         let same : eqb u t ≡ false → All (λ x. rank x now ≡ true → ahead E p t x ≡ true) (tilePlaces G p u (g u)) = λ e.
         all-map (tilePlaces G p u (g u)) (λ x i. there-ahead u x e i) (known E L p home g u (hu, ag u hu)) in
         by-test (eqb u t)
-        (λ e. rw (eqb-true u t e) (let n = count-none (λ x. rank x now) (tilePlaces G p t (g′ t)) here-none in omega arith))
-        (λ e. rw (refill-there E g t fresh u e) (count-le (λ x. rank x now) (ahead E p t) (tilePlaces G p u (g u)) (same e)))
+        (λ e. rw (eqb-true u t e) (let n = count-none (λ x. rank x now) (tilePlaces G p t (g′ t)) here-none in
+        omega arith))
+        (λ e. rw (refill-there E g t fresh u e) (count-le (λ x. rank x now) (ahead E p t) (tilePlaces G p u (g u))
+        (same e)))
 
     few : (ts : List ℕ) → All (λ u. u < tiles) ts
         → count (λ x. rank x now) (placesOf G p g′ ts) ≤ count (ahead E p t) (placesOf G p g ts)
@@ -279,7 +291,8 @@ module _ {G : Geometry} (E : Directory G) (O : G .Box) (k : ℕ) where
   asked-differs L p home g ag t m =
       let a = asked-short p g (queue E O k p) [] t m in
       let short = short-town L p home g ag t (short-queue L p home g ag t (a .sooner) (a .later) (a .split) (a .few)) in
-      let c = all-mem (Chosen E O k) (asked-all E k (Chosen E O k) (λ u. accepted (g u)) p (queue E O k p) [] (queue-chosen E O k p)) m in
+      let c = all-mem (Chosen E O k) (asked-all E k (Chosen E O k) (λ u. accepted (g u)) p (queue E O k p) []
+      (queue-chosen E O k p)) m in
       let ht = c .0 in
       let n = candidate-some E O k t (c .1) in
       let e = ranked-count E t (g t) (ag t ht) in

@@ -1,7 +1,8 @@
 -- Laws of lists: properties of all elements, counts, filters, membership, rearrangement.
 use Prim.Native.Nat.{ℕ, zero, suc, _+_, _≤_, _<_}
 use mathlib.Core.Bool.{Bool, true, false, not, _||_}
-use mathlib.Core.List.{List, [], _∷_, _++_, List·Memᴰ, List·Memᴰ·head, List·Memᴰ·tail, List·Permᴰ, List·Permᴰ·nil, List·Permᴰ·cons, List·Permᴰ·swap, List·Permᴰ·trans, Permᴰ·refl, Permᴰ·symm, Permᴰ·middle}
+use mathlib.Core.List.{List, [], _∷_, _++_, List·Memᴰ, List·Memᴰ·head, List·Memᴰ·tail, List·Permᴰ, List·Permᴰ·nil}
+use mathlib.Core.List.{List·Permᴰ·cons, List·Permᴰ·swap, List·Permᴰ·trans, Permᴰ·refl, Permᴰ·symm, Permᴰ·middle}
 use mathlib.Core.Logic.{_⊎_, inl, inr, _≢_}
 use mathlib.Core.Path.{_≡_, refl, sym, ap, _∙_, subst}
 use native.Mathlib.Omega.{arith}
@@ -13,7 +14,8 @@ use Rattle.search.specs.Lists.{range, count, total, filter, member, All,
 
 -- ---- a property of every index: from one to before another, and of that one
 
-pub up-to-next : (P : ℕ → Type 0) (from i : ℕ) → ((j : ℕ) → from ≤ j → j < i → P j) → P i → (j : ℕ) → from ≤ j → j < i + 1 → P j
+pub up-to-next : (P : ℕ → Type 0) (from i : ℕ) → ((j : ℕ) → from ≤ j → j < i → P j) → P i → (j : ℕ) → from ≤ j
+    → j < i + 1 → P j
 up-to-next P from i before here j l u =
     by-test (ltb j i)
     (λ t. before j l (ltb-true j i t))
@@ -31,7 +33,8 @@ pub all-any : {A : Type 0} (P : A → Type 0) (l : List A) → ((a : A) → P a)
 all-any P [] f = tt
 all-any P (x ∷ l) f = (f x, all-any P l f)
 
-pub all-both : {A : Type 0} (P Q R : A → Type 0) (l : List A) → ((a : A) → P a → Q a → R a) → All P l → All Q l → All R l
+pub all-both : {A : Type 0} (P Q R : A → Type 0) (l : List A) → ((a : A) → P a → Q a → R a) → All P l → All Q l
+    → All R l
 all-both P Q R [] f h g = tt
 all-both P Q R (x ∷ l) f h g = (f x (h .0) (g .0), all-both P Q R l f (h .1) (g .1))
 
@@ -127,7 +130,8 @@ total-le p q w (x ∷ l) h =
     by-test (p x) (λ e. rw (e, h .0 e) (omega arith)) (λ e. rw e (omega arith))
 
 -- the first element that passes a test, or none does
-pub find : {A : Type 0} (q : A → Bool) (l : List A) → ((x : A) × List·Memᴰ x l × (q x ≡ true)) ⊎ All (λ x. q x ≡ false) l
+pub find : {A : Type 0} (q : A → Bool) (l : List A)
+    → ((x : A) × List·Memᴰ x l × (q x ≡ true)) ⊎ All (λ x. q x ≡ false) l
 find q [] = inr tt
 find {A} q (x ∷ l) = by-test (q x) (λ e. inl (x, List·Memᴰ·head refl, e)) (λ e. go e (find q l))
   where
@@ -141,14 +145,16 @@ find {A} q (x ∷ l) = by-test (q x) (λ e. inl (x, List·Memᴰ·head refl, e))
 pub filter-all : {A : Type 0} (P : A → Type 0) (q : A → Bool) (l : List A) → All P l → All P (filter q l)
 unfolding filter
 filter-all P q [] h = tt
-filter-all P q (x ∷ l) h = by-test (q x) (λ e. rw e (h .0, filter-all P q l (h .1))) (λ e. rw e (filter-all P q l (h .1)))
+filter-all P q (x ∷ l) h =
+    by-test (q x) (λ e. rw e (h .0, filter-all P q l (h .1))) (λ e. rw e (filter-all P q l (h .1)))
 
 pub filter-passes : {A : Type 0} (q : A → Bool) (l : List A) → All (λ x. q x ≡ true) (filter q l)
 unfolding filter
 filter-passes q [] = tt
 filter-passes q (x ∷ l) = by-test (q x) (λ e. rw e (e, filter-passes q l)) (λ e. rw e (filter-passes q l))
 
-pub filter-mem : {A : Type 0} (q : A → Bool) {l : List A} {x : A} → List·Memᴰ x l → q x ≡ true → List·Memᴰ x (filter q l)
+pub filter-mem : {A : Type 0} (q : A → Bool) {l : List A} {x : A} → List·Memᴰ x l → q x ≡ true
+    → List·Memᴰ x (filter q l)
 unfolding filter
 filter-mem q (List·Memᴰ·head {x = y} e) h = rw (ap q (sym e) ∙ h) (List·Memᴰ·head e)
 filter-mem q (List·Memᴰ·tail {x = y} m) h =
@@ -200,8 +206,10 @@ range-above a (suc n) m h = (h, range-above (suc a) n m (omega arith))
 
 pub range-distinct : (a n : ℕ) → Distinct (range a n)
 range-distinct a zero = tt
-range-distinct a (suc n) =
-    (all-map (range (suc a) n) (λ z h e. omega arith) (range-above (suc a) n (suc a) (omega arith)), range-distinct (suc a) n)
+range-distinct a (suc n) = (
+  all-map (range (suc a) n) (λ z h e. omega arith) (range-above (suc a) n (suc a) (omega arith)),
+  range-distinct (suc a) n,
+)
 
 -- ---- membership as a test
 

@@ -14,7 +14,9 @@ use Rattle.search.specs.Lists.{range, count, filter, member, All, Distin
 use Rattle.search.specs.Plan.{Geometry, Directory}
 use Rattle.search.specs.Pruning.{pruned, prunedCount}
 use Rattle.search.specs.Run.{Place, noPlace, padded, slices, mark, marks}
-use Rattle.search.proofs.Lists.{all-any, all-mem, count-all, count-perm, filter-passes, filter-mem, filter-distinct, range-mem, range-distinct, member-mem, mem-member, same-elements}
+use Rattle.search.proofs.Lists.{all-any, all-mem, count-all, count-perm, filter-passes, filter-mem}
+use Rattle.search.proofs.Lists.{filter-distinct, range-mem, range-distinct, member-mem, mem-member}
+use Rattle.search.proofs.Lists.{same-elements}
 
 count-map : {A B : Type 0} (p : B → Bool) (f : A → B) (l : List A) → count p (map f l) ≡ count (λ x. p (f x)) l
 unfolding count
@@ -98,7 +100,8 @@ module _ {G : Geometry} (E : Directory G) (O : G .Box) (k : ℕ) where
       unfolding mark
       mark-pruned t = (
         λ h. sym (one t) ∙ rw h,
-        λ h. by-test (member t opened) (λ e. clash h (all-mem (λ u. pruned E O k u ≡ false) unpruned (member-mem t opened e)))
+        λ h. by-test (member t opened) (λ e. clash h
+            (all-mem (λ u. pruned E O k u ≡ false) unpruned (member-mem t opened e)))
             (λ e. rw (e, h)),
       )
 

@@ -38,7 +38,8 @@ pub lex-ahead : (a b c d : ℕ) → lex a b c d ≡ true → Ahead a b c d
 unfolding lex
 lex-ahead a b c d e = by-test (ltb a c)
     (λ f. inl (ltb-true a c f))
-    (λ f. by-test (eqb a c) (λ g. inr (eqb-true a c g, ltb-true b d (rw (f, g) at e))) (λ g. clash (rw (f, g) at e) refl))
+    (λ f. by-test (eqb a c) (λ g. inr (eqb-true a c g, ltb-true b d (rw (f, g) at e)))
+    (λ g. clash (rw (f, g) at e) refl))
 
 pub lex-behind : (a b c d : ℕ) → lex a b c d ≡ false → Behind a b c d
 lex-behind a b c d e = by-test (ltb a c)

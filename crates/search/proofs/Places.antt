@@ -1,7 +1,9 @@
--- The places of tiles for a stop: what is known of each, their order against the tiles' keys, and which tiles decide the first k.
+-- The places of tiles for a stop: what is known of each, their order against the tiles' keys, and which tiles decide
+-- the first k.
 use Prim.Native.Nat.{ℕ, suc, _+_, _*_, _/_, _%_, _≤_, _<_}
 use mathlib.Core.Bool.{true, false}
-use mathlib.Core.List.{List, [], _∷_, _++_, append-assoc, List·Permᴰ, List·Permᴰ·nil, List·Permᴰ·cons, List·Permᴰ·swap, List·Permᴰ·trans, Permᴰ·append-left, Permᴰ·append-right, List·Permᴰ·append-comm}
+use mathlib.Core.List.{List, [], _∷_, _++_, append-assoc, List·Permᴰ, List·Permᴰ·nil, List·Permᴰ·cons, List·Permᴰ·swap}
+use mathlib.Core.List.{List·Permᴰ·trans, Permᴰ·append-left, Permᴰ·append-right, List·Permᴰ·append-comm}
 use mathlib.Core.Option.{Option, none, some}
 use mathlib.Core.Path.{_≡_, refl, sym, ap, _∙_}
 use native.Mathlib.Nat.{add-zero, zero-add, le-trans, le-suc, le-refl}
@@ -66,7 +68,8 @@ module _ {G : Geometry} (E : Directory G) where
       (placesOf-all P p g ts (h .1))
 
   -- towns that agree on the tiles
-  pub placesOf-same : (p : Stop) (g h : Town G) (ts : List ℕ) → All (λ t. g t ≡ h t) ts → placesOf G p g ts ≡ placesOf G p h ts
+  pub placesOf-same : (p : Stop) (g h : Town G) (ts : List ℕ) → All (λ t. g t ≡ h t) ts
+      → placesOf G p g ts ≡ placesOf G p h ts
   unfolding placesOf
   placesOf-same p g h [] e = refl
   placesOf-same p g h (t ∷ ts) e = rw (e .0, placesOf-same p g h ts (e .1))
@@ -135,7 +138,8 @@ module _ {G : Geometry} (E : Directory G) where
 
   module _ {O : G .Box} (L : Lawful E O) (p : Stop) (home : Within O p) (g : Town G) where
     known-from : (t j a : ℕ) (f : List Site) → t < tiles → a ≡ t * slots + j → j + length f ≤ slots
-        → ((i : ℕ) → getElem? (g t) (j + i) ≡ getElem? f i) → All (Inside (box t)) f → All (Known p g t) (listing G p a f)
+        → ((i : ℕ) → getElem? (g t) (j + i) ≡ getElem? f i) → All (Inside (box t)) f
+        → All (Known p g t) (listing G p a f)
     unfolding listing placeAt Own
     known-from t j a [] ht e h same ins = tt
     known-from t j a (s ∷ f) ht e h same ins =
@@ -190,13 +194,16 @@ module _ {G : Geometry} (E : Directory G) where
     later-none t ts h late = placesOf-known _ (λ u. byKey E p u t ≡ false) ts h late (λ u y s i. not-ahead t u y s i)
 
     -- what is ahead of a key is ahead of the places of a tile whose key is not sooner
-    ahead-rank : (t u : ℕ) (x y : Place) → ahead E p t x ≡ true → byKey E p u t ≡ false → Known p g u y → rank x y ≡ true
+    ahead-rank : (t u : ℕ) (x y : Place) → ahead E p t x ≡ true → byKey E p u t ≡ false → Known p g u y
+        → rank x y ≡ true
     unfolding ahead aheadOf rank
     ahead-rank t u x y e f i =
         lex-fine (x .dist) (x .site) (y .dist) (y .site)
-        (lex-trans (x .dist) (x .site / slots) (minDist p (box t)) t (y .dist) (y .site / slots) e (not-ahead t u y f i))
+        (lex-trans (x .dist) (x .site / slots) (minDist p (box t)) t (y .dist) (y .site / slots) e
+        (not-ahead t u y f i))
 
-    pub later-behind : (k t : ℕ) (ts : List ℕ) (l : List Place) → All (Filled g) ts → All (λ u. byKey E p u t ≡ false) ts
+    pub later-behind : (k t : ℕ) (ts : List ℕ) (l : List Place) → All (Filled g) ts
+        → All (λ u. byKey E p u t ≡ false) ts
         → k ≤ count (ahead E p t) l → All (λ y. k ≤ count (λ x. rank x y) l) (placesOf G p g ts)
     later-behind k t ts l h late e =
         let more : (u : ℕ) (y : Place) → byKey E p u t ≡ false → Known p g u y
@@ -206,7 +213,8 @@ module _ {G : Geometry} (E : Directory G) where
 
     -- tiles whose places are all behind k places of the others decide nothing
     pub nearest-front : (k : ℕ) (ts pre rest : List ℕ) → List·Permᴰ ts (pre ++ rest) → All (Filled g) ts
-        → All (λ y. k ≤ count (λ x. rank x y) (placesOf G p g pre)) (placesOf G p g rest) → nearest G k p g ts ≡ nearest G k p g pre
+        → All (λ y. k ≤ count (λ x. rank x y) (placesOf G p g pre)) (placesOf G p g rest)
+        → nearest G k p g ts ≡ nearest G k p g pre
     unfolding nearest
     nearest-front k ts pre rest d h b =
         let q = List·Permᴰ·trans d (List·Permᴰ·append-comm pre rest) in

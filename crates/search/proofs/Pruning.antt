@@ -47,19 +47,22 @@ module _ {G : Geometry} (E : Directory G) (O : G .Box) (k : ℕ) where
     deeper c b hc hb n = all-map (allTiles E) (λ e he f. L .closer-trans e c b he hc hb f n) (below E)
 
     step : (b : ℕ) → b < tiles → pruned E O k b ≡ true
-        → ((c : ℕ) → c < tiles → count (closerThan c) (allTiles E) < count (closerThan b) (allTiles E) → pruned E O k c ≡ true
+        → ((c : ℕ) → c < tiles → count (closerThan c) (allTiles E) < count (closerThan b) (allTiles E)
+        → pruned E O k c ≡ true
         → k ≤ total (freeCloser c) (ranked E) (allTiles E)) → k ≤ total (freeCloser b) (ranked E) (allTiles E)
     unfolding pruned
     step b hb s rec = go (find (λ c. pruned E O k c && closerThan b c) (allTiles E))
       where
         go : ((c : ℕ) × List·Memᴰ c (allTiles E) × ((pruned E O k c && closerThan b c) ≡ true)) ⊎ All
-            (λ c. (pruned E O k c && closerThan b c) ≡ false) (allTiles E) → k ≤ total (freeCloser b) (ranked E) (allTiles E)
+            (λ c. (pruned E O k c && closerThan b c) ≡ false) (allTiles E)
+            → k ≤ total (freeCloser b) (ranked E) (allTiles E)
         go (inl f) =
             let c = f .0 in
             let both = and-both (pruned E O k c) (closerThan b c) (f .2) in
             let hc : c < tiles = all-mem (λ t. t < tiles) (below E) (f .1) in
             let d = deeper c b hc hb (both .1) in
-            let r = rec c hc (count-lt (closerThan c) (closerThan b) d (f .1) (L .closer-irrefl c hc) (both .1)) (both .0) in
+            let r = rec c hc (count-lt (closerThan c) (closerThan b) d (f .1) (L .closer-irrefl c hc) (both .1))
+            (both .0) in
             let w = total-le (freeCloser c) (freeCloser b) (ranked E) (allTiles E)
             (all-map (allTiles E) (λ e i o. wider (pruned E O k e) (closerThan c e) (closerThan b e) i o) d) in
             omega arith

@@ -12,7 +12,8 @@ use Rattle.search.specs.Lists.{range, filter, All, Distinct}
 use Rattle.search.specs.Plan.{Geometry, Directory, ranked}
 use Rattle.search.specs.Pruning.{pruned}
 use Rattle.search.specs.Run.{candidate, byKey, queue}
-use Rattle.search.proofs.Lists.{all-both, all-perm, mem-perm, filter-all, filter-passes, filter-mem, filter-distinct, range-mem, range-distinct, distinct-perm}
+use Rattle.search.proofs.Lists.{all-both, all-perm, mem-perm, filter-all, filter-passes, filter-mem}
+use Rattle.search.proofs.Lists.{filter-distinct, range-mem, range-distinct, distinct-perm}
 use Rattle.search.proofs.Places.{by-key-order}
 use Rattle.search.proofs.Pruning.{below}
 use Rattle.search.proofs.Sort.{sort-is-perm, sort-sorted}
@@ -46,7 +47,8 @@ module _ {G : Geometry} (E : Directory G) (O : G .Box) (k : ℕ) where
 
     pub queue-chosen : All Chosen (queue E O k p)
     queue-chosen =
-        all-both (λ t. t < tiles) (λ t. candidate E O k t ≡ true) Chosen (queue E O k p) (λ t h c. (h, c)) queue-tiles queue-candidates
+        all-both (λ t. t < tiles) (λ t. candidate E O k t ≡ true) Chosen (queue E O k p)
+        (λ t h c. (h, c)) queue-tiles queue-candidates
 
     pub queue-sorted : Sorted (byKey E p) (queue E O k p)
     unfolding queue

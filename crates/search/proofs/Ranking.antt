@@ -1,7 +1,9 @@
--- The full search as a ranking: the town's sites, each once, in strict order, and the sites left out behind every listed one.
+-- The full search as a ranking: the town's sites, each once, in strict order, and the sites left out behind every
+-- listed one.
 use Prim.Native.Nat.{ℕ, zero, suc, _+_, _*_, _/_, _≤_, _<_, min}
 use mathlib.Core.Bool.{Bool, true, false}
-use mathlib.Core.List.{List, [], _∷_, _++_, map, List·Memᴰ, List·Memᴰ·head, List·Memᴰ·tail, List·Memᴰ·append-cases, Memᴰ·append-left, Memᴰ·append-right, Permᴰ·symm}
+use mathlib.Core.List.{List, [], _∷_, _++_, map, List·Memᴰ, List·Memᴰ·head, List·Memᴰ·tail, List·Memᴰ·append-cases}
+use mathlib.Core.List.{Memᴰ·append-left, Memᴰ·append-right, Permᴰ·symm}
 use mathlib.Core.Logic.{_⊎_, inl, inr}
 use mathlib.Core.Option.{some}
 use mathlib.Core.Path.{_≡_, refl, sym, ap, _∙_}
@@ -14,8 +16,10 @@ use Rattle.search.specs.Lists.{range, All, Distinct}
 use Rattle.search.specs.Order.{sort, Strict}
 use Rattle.search.specs.Plan.{Geometry, Directory, Lawful, slots, ranks, Town, Agrees}
 use Rattle.search.specs.Run.{tilePlaces, Place, rank, listing, placesOf, nearest, placesUsed}
-use Rattle.search.proofs.Lists.{all-map, all-append, all-left, all-mem, all-perm, mem-perm, range-below, range-above, range-mem, distinct-perm}
-use Rattle.search.proofs.Places.{rank-order, placesOf-all, placesOf-length, known, listing-from, placesOf-known, placeAt, Own, own-tight, own-places}
+use Rattle.search.proofs.Lists.{all-map, all-append, all-left, all-mem, all-perm, mem-perm, range-below}
+use Rattle.search.proofs.Lists.{range-above, range-mem, distinct-perm}
+use Rattle.search.proofs.Places.{rank-order, placesOf-all, placesOf-length, known, listing-from, placesOf-known}
+use Rattle.search.proofs.Places.{placeAt, Own, own-tight, own-places}
 use Rattle.search.proofs.Pruning.{below}
 use Rattle.search.proofs.Sort.{sort-is-perm, sort-sorted, sort-length, order-irrefl, strictly}
 use Rattle.search.proofs.Sound.{filled}
@@ -29,7 +33,8 @@ strict-left : {A : Type 0} (lt : A → A → Bool) (l m : List A) → Strict lt 
 strict-left lt [] m s = tt
 strict-left lt (x ∷ l) m s = (all-left (λ y. lt x y ≡ true) l m (s .0), strict-left lt l m (s .1))
 
-strict-across : {A : Type 0} (lt : A → A → Bool) (l m : List A) {x y : A} → Strict lt (l ++ m) → List·Memᴰ x l → List·Memᴰ y m
+strict-across : {A : Type 0} (lt : A → A → Bool) (l m : List A) {x y : A} → Strict lt (l ++ m) → List·Memᴰ x l
+    → List·Memᴰ y m
     → lt x y ≡ true
 strict-across lt l m {x} {y} s (List·Memᴰ·head {x = z} {xs = k} e) n =
     rw e (all-mem (λ w. lt z w ≡ true) (s .0) (Memᴰ·append-right k n))
@@ -126,7 +131,8 @@ module _ {G : Geometry} (E : Directory G) (k : ℕ) where
         (places-distinct (suc a) n (omega arith))
         (all-map (tilePlaces G p a (g a))
         (λ x i. all-map (placesOf G p g (range (suc a) n))
-        (λ y l e. let v = i .tile in let w = ap (λ (z : Place). z .site) e in absurd (clear (x .site) (y .site) a v w l))
+        (λ y l e. let v = i .tile in let w = ap (λ (z : Place). z .site) e in
+        absurd (clear (x .site) (y .site) a v w l))
         (later-tiles (suc a) n (omega arith)))
         (known E L p home g a (u, ag a u)))
       where
@@ -160,7 +166,8 @@ module _ {G : Geometry} (E : Directory G) (k : ℕ) where
         (rw parts (all-perm (SiteOf E p g) (Permᴰ·symm (sort-is-perm rank (placesOf G p g (range 0 tiles))))
         (places-sites p g)))
 
-    pub first-rest : (a b : Place) → List·Memᴰ a (firstOf E k p g) → SiteOf E p g b → (List·Memᴰ b (firstOf E k p g) → ⊥)
+    pub first-rest : (a b : Place) → List·Memᴰ a (firstOf E k p g) → SiteOf E p g b
+        → (List·Memᴰ b (firstOf E k p g) → ⊥)
         → rank a b ≡ true
     first-rest a b m s out = go (List·Memᴰ·append-cases (firstOf E k p g)
         (rw parts (mem-perm b (Permᴰ·symm (sort-is-perm rank (placesOf G p g (range 0 tiles)))) (site-placed p g b s))))

@@ -8,7 +8,8 @@ use Rattle.base.specs.Refusal.{accepted, refused, andThen}
 use Rattle.base.proofs.Tests.{by-test}
 use Rattle.search.specs.Lists.{member, All, Distinct}
 use Rattle.search.specs.Plan.{Geometry, Directory}
-use Rattle.search.specs.Run.{answer, Reading, Place, Run, placesOf, nearest, queue, enough, contents, opening, serve, follow, run, join}
+use Rattle.search.specs.Run.{answer, Reading, Place, Run, placesOf, nearest, queue, enough, contents, opening}
+use Rattle.search.specs.Run.{serve, follow, run, join}
 use Rattle.search.proofs.Lists.{all-map, all-append, all-left, all-right, distinct-snoc}
 use Rattle.search.proofs.Places.{placesOf-same}
 use Rattle.search.proofs.Queue.{Chosen, queue-chosen}
@@ -32,11 +33,14 @@ module _ {G : Geometry} (E : Directory G) (k : ℕ) where
     -- how a stop goes: the tiles that wait, those opened so far, and what it comes to
     pub data Served (p : Stop) : List ℕ → List ℕ → Run (List Place) → Type 0 where
       none : {opened : List ℕ} → Served p [] opened (answer E k read p opened)
-      ends : {t : ℕ} {ts opened : List ℕ} → enoughFor p t opened ≡ true → Served p (t ∷ ts) opened (answer E k read p opened)
-      again : {t : ℕ} {ts opened : List ℕ} {r : Run (List Place)} → enoughFor p t opened ≡ false → member t opened ≡ true
+      ends : {t : ℕ} {ts opened : List ℕ} → enoughFor p t opened ≡ true
+          → Served p (t ∷ ts) opened (answer E k read p opened)
+      again : {t : ℕ} {ts opened : List ℕ} {r : Run (List Place)} → enoughFor p t opened ≡ false
+          → member t opened ≡ true
           → Served p ts opened r → Served p (t ∷ ts) opened r
       opens : {t : ℕ} {ts opened : List ℕ} {f : List Site} {r : Run (List Place)} → enoughFor p t opened ≡ false
-          → member t opened ≡ false → read t ≡ accepted f → Served p ts (opened ++ t ∷ []) r → Served p (t ∷ ts) opened r
+          → member t opened ≡ false → read t ≡ accepted f → Served p ts (opened ++ t ∷ []) r
+          → Served p (t ∷ ts) opened r
       refuses : {t : ℕ} {ts opened : List ℕ} {n b : ℕ} → enoughFor p t opened ≡ false → member t opened ≡ false
           → read t ≡ refused n b
           → Served p (t ∷ ts) opened (record { openings = opened ++ t ∷ []; outcome = refused n b })
@@ -52,7 +56,8 @@ module _ {G : Geometry} (E : Directory G) (k : ℕ) where
         (λ f r. rw (e, m, r) (opens e m r (served p ts (opened ++ t ∷ []))))
         (λ n b r. rw (e, m, r) (refuses e m r))))
 
-    pub served-all : (P : ℕ → Type 0) {p : Stop} {ts opened : List ℕ} {r : Run (List Place)} → Served p ts opened r → All P ts
+    pub served-all : (P : ℕ → Type 0) {p : Stop} {ts opened : List ℕ} {r : Run (List Place)} → Served p ts opened r
+        → All P ts
         → All P opened → All P (r .openings)
     served-all P none g h = h
     served-all P (ends e) g h = h
@@ -60,7 +65,8 @@ module _ {G : Geometry} (E : Directory G) (k : ℕ) where
     served-all P (opens {t = t} {opened = o} e m a s) g h = served-all P s (g .1) (all-append P o (t ∷ []) h (g .0, tt))
     served-all P (refuses {t = t} {opened = o} e m a) g h = all-append P o (t ∷ []) h (g .0, tt)
 
-    pub served-distinct : {p : Stop} {ts opened : List ℕ} {r : Run (List Place)} → Served p ts opened r → Distinct opened
+    pub served-distinct : {p : Stop} {ts opened : List ℕ} {r : Run (List Place)} → Served p ts opened r
+        → Distinct opened
         → Distinct (r .openings)
     served-distinct none d = d
     served-distinct (ends e) d = d
@@ -98,11 +104,20 @@ module _ {G : Geometry} (E : Directory G) (k : ℕ) where
     pub data Ran : List Stop → List ℕ → Run (List (List Place)) → Type 0 where
       done : {opened : List ℕ} → Ran [] opened (record { openings = opened; outcome = accepted [] })
       answers : {p : Stop} {ps : List Stop} {opened : List ℕ} {l : List Place} {r : Run (List (List Place))}
-          → serve E k read p (tilesOf p) opened .outcome ≡ accepted l → Ran ps (serve E k read p (tilesOf p) opened .openings) r
-          → Ran (p ∷ ps) opened (record { openings = r .openings; outcome = andThen (r .outcome) (λ ls. accepted (l ∷ ls)) })
+          → serve E k read p (tilesOf p) opened .outcome ≡ accepted l
+          → Ran ps (serve E k read p (tilesOf p) opened .openings) r
+          → Ran (p ∷ ps) opened (record {
+            openings = r .openings;
+            outcome = andThen (r .outcome)
+                (λ ls. accepted (l ∷ ls));
+          })
       breaks : {p : Stop} {ps : List Stop} {opened : List ℕ} {n b : ℕ}
           → serve E k read p (tilesOf p) opened .outcome ≡ refused n b
-          → Ran (p ∷ ps) opened (record { openings = serve E k read p (tilesOf p) opened .openings; outcome = refused n b })
+          → Ran (p ∷ ps) opened (record {
+            openings = serve E k read p
+                (tilesOf p) opened .openings;
+            outcome = refused n b;
+          })
 
     pub ran : (ps : List Stop) (opened : List ℕ) → Ran ps opened (run E k tilesOf read ps opened)
     unfolding run follow
@@ -115,13 +130,15 @@ module _ {G : Geometry} (E : Directory G) (k : ℕ) where
         → {ps : List Stop} {opened : List ℕ} {r : Run (List (List Place))}
         → Ran ps opened r → All P opened → All P (r .openings)
     ran-all P q done h = h
-    ran-all P q (answers {p = p} {opened = o} e s) h = ran-all P q s (served-all read P (served read p (tilesOf p) o) (q p) h)
+    ran-all P q (answers {p = p} {opened = o} e s) h =
+        ran-all P q s (served-all read P (served read p (tilesOf p) o) (q p) h)
     ran-all P q (breaks {p = p} {opened = o} e) h = served-all read P (served read p (tilesOf p) o) (q p) h
 
     ran-distinct : {ps : List Stop} {opened : List ℕ} {r : Run (List (List Place))} → Ran ps opened r → Distinct opened
         → Distinct (r .openings)
     ran-distinct done d = d
-    ran-distinct (answers {p = p} {opened = o} e s) d = ran-distinct s (served-distinct read (served read p (tilesOf p) o) d)
+    ran-distinct (answers {p = p} {opened = o} e s) d =
+        ran-distinct s (served-distinct read (served read p (tilesOf p) o) d)
     ran-distinct (breaks {p = p} {opened = o} e) d = served-distinct read (served read p (tilesOf p) o) d
 
     ran-back : (P : ℕ → Type 0) {ps : List Stop} {opened : List ℕ} {r : Run (List (List Place))} → Ran ps opened r
@@ -130,7 +147,8 @@ module _ {G : Geometry} (E : Directory G) (k : ℕ) where
     ran-back P (answers {p = p} {opened = o} e s) h = served-back read P (served read p (tilesOf p) o) (ran-back P s h)
     ran-back P (breaks {p = p} {opened = o} e) h = served-back read P (served read p (tilesOf p) o) h
 
-    ran-good : {ps : List Stop} {opened : List ℕ} {r : Run (List (List Place))} → Ran ps opened r → (ls : List (List Place))
+    ran-good : {ps : List Stop} {opened : List ℕ} {r : Run (List (List Place))} → Ran ps opened r
+        → (ls : List (List Place))
         → r .outcome ≡ accepted ls → All (Opens read) opened → All (Opens read) (r .openings)
     ran-good done ls e h = h
     ran-good (answers {p = p} {opened = u} {l = l} {r = r} e s) ls f h = by-outcome (r .outcome)
@@ -147,14 +165,17 @@ module _ {G : Geometry} (E : Directory G) (k : ℕ) where
     same-places : (p : Stop) (opened : List ℕ) → All Same opened
         → placesOf G p (contents G read′) opened ≡ placesOf G p (contents G read) opened
     same-places p opened h =
-        placesOf-same E p (contents G read′) (contents G read) opened (all-map opened (λ t e. contents-same read read′ t e) h)
+        placesOf-same E p (contents G read′) (contents G read) opened
+        (all-map opened (λ t e. contents-same read read′ t e) h)
 
-    serve-same : {p : Stop} {ts opened : List ℕ} {r : Run (List Place)} → Served read p ts opened r → All Same (r .openings)
+    serve-same : {p : Stop} {ts opened : List ℕ} {r : Run (List Place)} → Served read p ts opened r
+        → All Same (r .openings)
         → serve E k read′ p ts opened ≡ r
     unfolding serve opening nearest
     serve-same {p} (none {opened = o}) h = rw (same-places p o h)
     serve-same {p} (ends {opened = o} e) h = rw (same-places p o h, e)
-    serve-same {p} (again {opened = o} e m s) h = rw (same-places p o (served-back read Same s h), e, m) (serve-same s h)
+    serve-same {p} (again {opened = o} e m s) h =
+        rw (same-places p o (served-back read Same s h), e, m) (serve-same s h)
     serve-same {p} (opens {t = t} {opened = o} e m a s) h =
         let b = served-back read Same s h in
         rw (same-places p o (all-left Same o (t ∷ []) b), e, m, all-right Same o (t ∷ []) b .0 ∙ a) (serve-same s h)
@@ -162,7 +183,8 @@ module _ {G : Geometry} (E : Directory G) (k : ℕ) where
         rw (same-places p o (all-left Same o (t ∷ []) h), e, m, all-right Same o (t ∷ []) h .0 ∙ a)
 
     module _ (tilesOf : Stop → List ℕ) where
-      run-same : {ps : List Stop} {opened : List ℕ} {r : Run (List (List Place))} → Ran tilesOf read ps opened r → All Same (r .openings)
+      run-same : {ps : List Stop} {opened : List ℕ} {r : Run (List (List Place))} → Ran tilesOf read ps opened r
+          → All Same (r .openings)
           → run E k tilesOf read′ ps opened ≡ r
       unfolding run follow
       run-same done h = refl
@@ -186,7 +208,8 @@ module _ {G : Geometry} (E : Directory G) (O : G .Box) (k : ℕ) where
   unfolding join
   join-once read ps = ran-distinct E k (queue E O k) read (ran E k (queue E O k) read ps []) tt
 
-  pub join-good : (read : Reading G) (ps : List Stop) (ls : List (List Place)) → join E O k read ps .outcome ≡ accepted ls
+  pub join-good : (read : Reading G) (ps : List Stop) (ls : List (List Place))
+      → join E O k read ps .outcome ≡ accepted ls
       → All (Opens E k read) (join E O k read ps .openings)
   unfolding join
   join-good read ps ls e = ran-good E k (queue E O k) read (ran E k (queue E O k) read ps []) ls e tt

@@ -9,7 +9,8 @@ use Rattle.search.specs.Lists.{range, count, total, All}
 use Rattle.search.specs.Order.{lex, insert, sort}
 use Rattle.search.specs.Plan.{Geometry, Directory, near, ranked}
 use Rattle.search.specs.Pruning.{pruned, prunedCount}
-use Rattle.search.specs.Run.{Reading, Place, aheadOf, placesOf, candidate, candidates, byKey, queue, ahead, enough}
+use Rattle.search.specs.Run.{Reading, Place, aheadOf, placesOf, candidate, candidates, byKey, queue, ahead}
+use Rattle.search.specs.Run.{enough}
 use Rattle.search.specs.Run.{contents, serve, run, join, placesUsed, mark, marks}
 use Rattle.search.proofs.Lists.{all-map, all-perm, filter-all, filter-same, range-below}
 use Rattle.search.proofs.Marks.{count-same}

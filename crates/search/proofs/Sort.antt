@@ -1,8 +1,10 @@
--- Sorting by a test: the sorted list does not depend on the order given, and what stands behind k others does not change
+-- Sorting by a test: the sorted list does not depend on the order given, and what stands behind k others does not
+-- change
 -- the first k.
 use Prim.Native.Nat.{ℕ, zero, suc, _+_, _≤_, _<_}
 use mathlib.Core.Bool.{Bool, true, false}
-use mathlib.Core.List.{List, [], _∷_, _++_, List·Memᴰ, List·Memᴰ·head, List·Memᴰ·tail, List·Permᴰ, List·Permᴰ·nil, List·Permᴰ·cons, List·Permᴰ·swap, List·Permᴰ·trans, Permᴰ·refl, Permᴰ·symm}
+use mathlib.Core.List.{List, [], _∷_, _++_, List·Memᴰ, List·Memᴰ·head, List·Memᴰ·tail, List·Permᴰ, List·Permᴰ·nil}
+use mathlib.Core.List.{List·Permᴰ·cons, List·Permᴰ·swap, List·Permᴰ·trans, Permᴰ·refl, Permᴰ·symm}
 use mathlib.Core.Path.{_≡_, refl, ap, _∙_}
 use native.Mathlib.Omega.{arith}
 use lib.ListN.{length, take}
@@ -92,7 +94,8 @@ module _ {A : Type 0} (lt : A → A → Bool) (o : Order lt) where
   sort-sorted (x ∷ l) = insert-sorted x (sort lt l) (sort-sorted l)
 
   -- what is behind k elements of a sorted list is inserted past them
-  insert-behind : (k : ℕ) (x : A) (l : List A) → Sorted lt l → k ≤ count (λ y. lt y x) l → take k (insert lt x l) ≡ take k l
+  insert-behind : (k : ℕ) (x : A) (l : List A) → Sorted lt l → k ≤ count (λ y. lt y x) l
+      → take k (insert lt x l) ≡ take k l
   unfolding insert count
   insert-behind zero x l s h = refl
   insert-behind (suc k) x [] s h = absurd (omega arith)
@@ -112,7 +115,8 @@ module _ {A : Type 0} (lt : A → A → Bool) (o : Order lt) where
       insert-behind k y (sort lt (ys ++ xs)) (sort-sorted (ys ++ xs)) g ∙ behind k ys xs (h .1)
 
   -- The cut list knows whether k are ahead: a test that holds of what is ahead of an element that passes it
-  pub count-cut : (k : ℕ) (p : A → Bool) → ((a b : A) → lt b a ≡ false → p b ≡ true → p a ≡ true) → (l : List A) → Sorted lt l
+  pub count-cut : (k : ℕ) (p : A → Bool) → ((a b : A) → lt b a ≡ false → p b ≡ true → p a ≡ true) → (l : List A)
+      → Sorted lt l
       → k ≤ count p l → count p (take k l) ≡ k
   unfolding count
   count-cut zero p d l s h = refl
@@ -161,7 +165,8 @@ module _ {A : Type 0} (lt : A → A → Bool) (o : Order lt) (P : A → Type 0) 
   unfolding sort
   sort-perm List·Permᴰ·nil h = refl
   sort-perm (List·Permᴰ·cons {a = a} e d) h = rw (← e) (ap (insert lt a) (sort-perm d (h .1)))
-  sort-perm (List·Permᴰ·swap {a = a} {b = b} {l = l} e f) h = rw (← e, ← f) (insert-comm a b (sort lt l) (h .0) (h .1 .0))
+  sort-perm (List·Permᴰ·swap {a = a} {b = b} {l = l} e f) h =
+      rw (← e, ← f) (insert-comm a b (sort lt l) (h .0) (h .1 .0))
   sort-perm (List·Permᴰ·trans d e) h = sort-perm d h ∙ sort-perm e (all-perm P d h)
 
   -- what is behind fewer than k is among the first k

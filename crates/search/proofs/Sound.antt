@@ -1,7 +1,8 @@
 -- In a town that agrees with the directory, the tiles that a stop's walk takes decide the first k sites of the town.
 use Prim.Native.Nat.{ℕ, _≤_, _<_}
 use mathlib.Core.Bool.{Bool, true, false, not}
-use mathlib.Core.List.{List, [], _∷_, _++_, List·Permᴰ, List·Permᴰ·trans, Permᴰ·refl, Permᴰ·symm, Permᴰ·append-left, List·Permᴰ·append-comm}
+use mathlib.Core.List.{List, [], _∷_, _++_, List·Permᴰ, List·Permᴰ·trans, Permᴰ·refl, Permᴰ·symm, Permᴰ·append-left}
+use mathlib.Core.List.{List·Permᴰ·append-comm}
 use mathlib.Core.Path.{_≡_, refl, sym, _∙_}
 use native.Mathlib.Omega.{arith}
 use lib.Dec.{ltb}
@@ -15,9 +16,11 @@ use Rattle.search.specs.Order.{sort}
 use Rattle.search.specs.Plan.{Geometry, Directory, Lawful, ranked, Town, Agrees}
 use Rattle.search.specs.Pruning.{pruned}
 use Rattle.search.specs.Run.{tilePlaces, Place, rank, placesOf, nearest, candidate, byKey, queue}
-use Rattle.search.proofs.Lists.{all-map, all-both, all-empty, all-right, count-append, count-all, count-perm, filter-all, filter-passes, filter-split}
+use Rattle.search.proofs.Lists.{all-map, all-both, all-empty, all-right, count-append, count-all, count-perm}
+use Rattle.search.proofs.Lists.{filter-all, filter-passes, filter-split}
 use Rattle.search.proofs.Pairs.{lex-less}
-use Rattle.search.proofs.Places.{by-key-order, placesOf-perm, placesOf-all, Filled, tile-length, Known, known, later-behind, nearest-front}
+use Rattle.search.proofs.Places.{by-key-order, placesOf-perm, placesOf-all, Filled, tile-length, Known, known}
+use Rattle.search.proofs.Places.{later-behind, nearest-front}
 use Rattle.search.proofs.Pruning.{allTiles, below, closerThan, freeCloser, pruned-by-free}
 use Rattle.search.proofs.Queue.{queue-tiles, queue-sorted}
 use Rattle.search.proofs.Sort.{sort-is-perm, sorted-right, order-irrefl}
@@ -103,7 +106,8 @@ module _ {G : Geometry} (E : Directory G) (O : G .Box) (k : ℕ) where
         (λ n. let u = ltb-false 0 (ranked E t) n in let v = tile-length E p g t (ag t ht) in omega arith)
 
     -- so what holds of all places of pruned tiles holds of the places of all tiles that no walk takes
-    pub others-places : (P : Place → Type 0) → ((b : ℕ) (y : Place) → b < tiles → pruned E O k b ≡ true → Known E p g b y → P y)
+    pub others-places : (P : Place → Type 0) → ((b : ℕ) (y : Place) → b < tiles → pruned E O k b ≡ true
+        → Known E p g b y → P y)
         → All P (placesOf G p g others)
     others-places P f =
         let here : (t : ℕ) → t < tiles → not (candidate E O k t) ≡ true → All P (tilePlaces G p t (g t)) =
@@ -114,7 +118,8 @@ module _ {G : Geometry} (E : Directory G) (O : G .Box) (k : ℕ) where
         (λ t. not (candidate E O k t) ≡ true) _ others here others-tiles others-not)
 
     -- the tiles behind the end of a walk
-    rest-behind : (rest : List ℕ) (l : List Place) → Sorted (byKey E p) rest → All (λ t. t < tiles) rest → Enough E k p rest l
+    rest-behind : (rest : List ℕ) (l : List Place) → Sorted (byKey E p) rest → All (λ t. t < tiles) rest
+        → Enough E k p rest l
         → All (λ y. k ≤ count (λ x. rank x y) l) (placesOf G p g rest)
     unfolding placesOf
     rest-behind [] l s h e = tt

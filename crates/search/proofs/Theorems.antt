@@ -15,7 +15,8 @@ use Rattle.search.specs.Lists.{count, member, All, Distinct}
 use Rattle.search.specs.Plan.{Geometry, Directory, Lawful, ranked, Town, Agrees}
 use Rattle.search.specs.Pruning.{pruned, prunedCount}
 use Rattle.search.specs.Run.{Reading, Place, Run, Checked, run, join, placesUsed, marks}
-use Rattle.search.proofs.Answered.{readTown, join-town, some-town, answer-padded, answer-places, answer-used, opened-changes, changes-opened}
+use Rattle.search.proofs.Answered.{readTown, join-town, some-town, answer-padded, answer-places, answer-used}
+use Rattle.search.proofs.Answered.{opened-changes, changes-opened}
 use Rattle.search.proofs.Lists.{all-map}
 use Rattle.search.proofs.Marks.{marks-at, mark-opened, mark-pruned, marks-opened, marks-pruned}
 use Rattle.search.proofs.Queue.{candidate-unpruned, candidate-some}
@@ -29,12 +30,15 @@ module _ {G : Geometry} (E : Directory G) (O : G .Box) (k : ℕ) where
   -- ---- every run, refused ones too; nothing is assumed
 
   -- "no struck tile is opened, not even in a refused run"
-  pub never-pruned : (read : Reading G) (ps : List Stop) → All (λ t. pruned E O k t ≡ false) (join E O k read ps .openings)
-  never-pruned read ps = all-map (join E O k read ps .openings) (λ t c. candidate-unpruned E O k t (c .1)) (join-chosen E O k read ps)
+  pub never-pruned : (read : Reading G) (ps : List Stop)
+      → All (λ t. pruned E O k t ≡ false) (join E O k read ps .openings)
+  never-pruned read ps =
+      all-map (join E O k read ps .openings) (λ t c. candidate-unpruned E O k t (c .1)) (join-chosen E O k read ps)
 
   -- "the tiles that are not struck and not empty"
   pub never-empty : (read : Reading G) (ps : List Stop) → All (λ t. 0 < ranked E t) (join E O k read ps .openings)
-  never-empty read ps = all-map (join E O k read ps .openings) (λ t c. candidate-some E O k t (c .1)) (join-chosen E O k read ps)
+  never-empty read ps =
+      all-map (join E O k read ps .openings) (λ t c. candidate-some E O k t (c .1)) (join-chosen E O k read ps)
 
   pub only-tiles : (read : Reading G) (ps : List Stop) → All (λ t. t < tiles) (join E O k read ps .openings)
   only-tiles read ps = all-map (join E O k read ps .openings) (λ t c. c .0) (join-chosen E O k read ps)
@@ -43,7 +47,8 @@ module _ {G : Geometry} (E : Directory G) (O : G .Box) (k : ℕ) where
   pub opened-once : (read : Reading G) (ps : List Stop) → Distinct (join E O k read ps .openings)
   opened-once read ps = join-once E O k read ps
 
-  -- "Any file .. equal to this one in every byte of the directory and of the opened tiles, gets an answer with the same lists,
+  -- "Any file .. equal to this one in every byte of the directory and of the opened tiles, gets an answer with the same
+  -- lists,
   -- marks and counts": the same outcome, lists and openings, of which marks and counts are made
   pub same-run : (read read′ : Reading G) (ps : List Stop) → All (λ t. read′ t ≡ read t) (join E O k read ps .openings)
       → join E O k read′ ps ≡ join E O k read ps
@@ -104,13 +109,16 @@ module _ {G : Geometry} (E : Directory G) (O : G .Box) (k : ℕ) where
       other-files = λ read′ h. same-run read read′ ps h;
     }
 
-    -- Demand 3 speaks of some town: where what opens agrees with the directory, one agrees with it and with all that was opened.
+    -- Demand 3 speaks of some town: where what opens agrees with the directory, one agrees with it and with all that
+    -- was opened.
     pub town-exists : (read : Reading G) → Checked E read → (ps : List Stop) (ls : List (List Place))
-        → join E O k read ps .outcome ≡ accepted ls → (p : Stop) → Within O p → (g : Town G) × Fits E read (join E O k read ps .openings) g
+        → join E O k read ps .outcome ≡ accepted ls → (p : Stop) → Within O p → (g : Town G)
+        × Fits E read (join E O k read ps .openings) g
     town-exists = some-town L k
 
     -- "Places used for each stop: the smaller of k and all sites."
-    pub places-used : (read : Reading G) → Checked E read → (ps : List Stop) → All (Within O) ps → (ls : List (List Place))
+    pub places-used : (read : Reading G) → Checked E read → (ps : List Stop) → All (Within O) ps
+        → (ls : List (List Place))
         → join E O k read ps .outcome ≡ accepted ls → All (λ l. length l ≡ placesUsed E k) ls
     unfolding join run
     places-used read checked [] hs ls e = let i : ls ≡ [] = cc in rw i tt

@@ -44,7 +44,8 @@ module _ {G : Geometry} (E : Directory G) (k : ℕ) where
   -- ---- the clauses of a walk
 
   module _ (read : Reading G) (p : Stop) (t : ℕ) (ts : List ℕ) (found : List Place) where
-    pub walk-ends : enough E k p t found ≡ true → walk read p (t ∷ ts) found ≡ record { asked = []; out = accepted found }
+    pub walk-ends : enough E k p t found ≡ true → walk read p (t ∷ ts) found
+        ≡ record { asked = []; out = accepted found }
     unfolding walk
     walk-ends e = rw e
 
@@ -69,7 +70,8 @@ module _ {G : Geometry} (E : Directory G) (k : ℕ) where
   asked-all P read p (t ∷ ts) found h = by-test (enough E k p t found)
       (λ e. rw (walk-ends read p t ts found e) tt)
       (λ e. by-outcome (read t)
-      (λ f r. rw (walk-opens read p t ts found f e r) (h .0, asked-all P read p ts (found ++ tilePlaces G p t f) (h .1)))
+      (λ f r. rw (walk-opens read p t ts found f e r)
+      (h .0, asked-all P read p ts (found ++ tilePlaces G p t f) (h .1)))
       (λ n b r. rw (walk-refused read p t ts found n b e r) (h .0, tt)))
 
   -- ---- a walk in a town: it answers, with the places of the first tiles of its queue
@@ -83,7 +85,8 @@ module _ {G : Geometry} (E : Directory G) (k : ℕ) where
     pub pre : List ℕ
     pub rest : List ℕ
     pub split : ts ≡ pre ++ rest
-    pub trace : walk (λ t. accepted (g t)) p ts found ≡ record { asked = pre; out = accepted (found ++ placesOf G p g pre) }
+    pub trace : walk (λ t. accepted (g t)) p ts found
+        ≡ record { asked = pre; out = accepted (found ++ placesOf G p g pre) }
     pub filled : Enough p rest (found ++ placesOf G p g pre)
 
   pub walked : (p : Stop) (g : Town G) (ts : List ℕ) (found : List Place) → Walked p g ts found

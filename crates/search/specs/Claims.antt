@@ -14,7 +14,8 @@ use Rattle.search.specs.Pruning.{pruned, prunedCount}
 use Rattle.search.specs.Run.{Reading, Place, noPlace, rank, join, padded, slices, placesUsed, marks, openedMark}
 use Rattle.search.specs.Run.{prunedMark}
 
--- What a full search gives: the town's sites, each once, in their ranking, and every site left out behind every listed one.
+-- What a full search gives: the town's sites, each once, in their ranking, and every site left out behind every listed
+-- one.
 pub record FullSearch {G : Geometry} (E : Directory G) (k : ℕ) (p : G .Stop) (g : Town G) : Type 0 where
   pub sites : All (SiteOf E p g) (firstOf E k p g)
   pub once : Distinct (map (λ a. a .site) (firstOf E k p g))
@@ -23,7 +24,8 @@ pub record FullSearch {G : Geometry} (E : Directory G) (k : ℕ) (p : G .Stop) (
       → rank a b ≡ true
   pub used : length (firstOf E k p g) ≡ placesUsed E k
 
--- Demand 3 of a run. "Suppose the join answers", with the lists ls. "Take any town that agrees with the directory and the
+-- Demand 3 of a run. "Suppose the join answers", with the lists ls. "Take any town that agrees with the directory and
+-- the
 -- opened tiles, whatever its other tiles hold."
 module _ {G : Geometry} (E : Directory G) (O : G .Box) (k : ℕ) (read : Reading G) (ps : List (G .Stop)) where
   pub record RunAnswers (ls : List (List Place)) (opened : List ℕ) : Type 0 where
@@ -32,7 +34,8 @@ module _ {G : Geometry} (E : Directory G) (O : G .Box) (k : ℕ) (read : Reading
     -- "the same distance, site and cue at each place": place j of stop i, in the output slices
     pub places : (g : Town G) → Fits E read opened g → (p : G .Stop) (i j : ℕ) → i < length ps → j < k
         → getD (slices k ls) (i * k + j) noPlace ≡ getD (fullSearch E k (getD ps i p) g) j noPlace
-    -- "A tile was opened exactly when some other filling of it .. changes what the full search gives for at least one stop"
+    -- "A tile was opened exactly when some other filling of it .. changes what the full search gives for at least one
+    -- stop"
     pub opened-exactly : (g : Town G) → Fits E read opened g → (t : ℕ) → (member t opened ≡ true) ↔ Changes E k g ps t
     -- "A tile is marked 2 exactly when it was opened and 1 exactly when it is struck"
     pub marked-opened : (t : ℕ) → t < E .tiles → (getD (marks E O k opened) t 0 ≡ openedMark) ↔ (member t opened ≡ true)
@@ -44,4 +47,5 @@ module _ {G : Geometry} (E : Directory G) (O : G .Box) (k : ℕ) (read : Reading
     pub count-pruned : count (λ m. eqb m prunedMark) (marks E O k opened) ≡ prunedCount E O k
     pub count-used : (g : Town G) → Fits E read opened g → All (λ l. length l ≡ placesUsed E k) ls
     -- "Any file .. equal to this one in .. the directory and .. the opened tiles"
-    pub other-files : (read′ : Reading G) → All (λ t. read′ t ≡ read t) opened → join E O k read′ ps ≡ join E O k read ps
+    pub other-files : (read′ : Reading G) → All (λ t. read′ t ≡ read t) opened
+        → join E O k read′ ps ≡ join E O k read ps

@@ -43,7 +43,8 @@ module _ {G : Geometry} (E : Directory G) where
     unfoldable pub fullSearch : Stop → Town G → List Place
     fullSearch p g = padded k (firstOf p g)
 
-    -- "some other filling of it, agreeing with the directory and put into that town with nothing else changed, changes what
+    -- "some other filling of it, agreeing with the directory and put into that town with nothing else changed, changes
+    -- what
     -- the full search gives for at least one stop, in a distance, a site or a cue"
     pub record Changes (g : Town G) (ps : List Stop) (t : ℕ) : Type 0 where
       pub filling : List Site

@@ -137,7 +137,8 @@ module _ {G : Geometry} (E : Directory G) (k : ℕ) where
   abbrev pub answer : Reading G → Stop → List ℕ → Run (List Place)
   answer read p opened = record { openings = opened; outcome = accepted (nearest G k p (contents G read) opened) }
 
-  -- One stop, with the tiles that wait, and those opened in the run so far, for this stop or an earlier one. "It ends when k
+  -- One stop, with the tiles that wait, and those opened in the run so far, for this stop or an earlier one. "It ends
+  -- when k
   -- sites of opened tiles are ahead of the next key .., or no tile remains. A tile not yet opened is opened".
   unfoldable pub serve : Reading G → Stop → List ℕ → List ℕ → Run (List Place)
   serve read p [] opened = answer read p opened
@@ -158,7 +159,8 @@ module _ {G : Geometry} (E : Directory G) (k : ℕ) where
   placesUsed = min k (total (λ t. true) (ranked E) (range 0 tiles))
 
 -- The join: at the start no tile is open.
-unfoldable pub join : {G : Geometry} (E : Directory G) → G .Box → ℕ → Reading G → List (G .Stop) → Run (List (List Place))
+unfoldable pub join : {G : Geometry} (E : Directory G) → G .Box → ℕ → Reading G → List (G .Stop)
+    → Run (List (List Place))
 join E O k read ps = run E k (queue E O k) read ps []
 
 -- ---- what it gives out

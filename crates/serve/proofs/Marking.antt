@@ -30,7 +30,8 @@ unfolding markAll
 mark-all-append ms [] b = refl
 mark-all-append ms (t ∷ a) b = mark-all-append (set ms t 2) a b
 
-mark-all-at : (ms ts : List ℕ) → All (λ t. t < length ms) ts → (i : ℕ) → getD (markAll ms ts) i 0 ≡ cond (member i ts) 2 (getD ms i 0)
+mark-all-at : (ms ts : List ℕ) → All (λ t. t < length ms) ts → (i : ℕ)
+    → getD (markAll ms ts) i 0 ≡ cond (member i ts) 2 (getD ms i 0)
 unfolding markAll member
 mark-all-at ms [] h i = refl
 mark-all-at ms (t ∷ ts) h i =
@@ -55,11 +56,13 @@ module _ {G : Geometry} (E : Directory G) (O : G .Box) (k : ℕ) (asked : List �
   mark-of i = rw (withNew-member i [] asked) (by-test (pruned E O k i) (λ e. rw e) (λ e. rw e))
 
   pub marks-end : (m : List ℕ) → E .tiles ≤ length m → All (λ t. t < E .tiles) asked →
-      markAll (over m 0 (map (λ t. bit (pruned E O k t)) (range 0 (E .tiles)))) asked ≡ over m 0 (marks E O k (withNew [] asked))
+      markAll (over m 0 (map (λ t. bit (pruned E O k t)) (range 0 (E .tiles)))) asked
+      ≡ over m 0 (marks E O k (withNew [] asked))
   unfolding marks member
   marks-end m h a =
       ext-getD 0 (markAll ms asked) (over m 0 (map (mark E O k (withNew [] asked)) (range 0 (E .tiles))))
-      (length-mark-all ms asked ∙ length-over m 0 pruning ∙ sym (length-over m 0 (map (mark E O k (withNew [] asked)) (range 0 (E .tiles)))))
+      (length-mark-all ms asked ∙ length-over m 0 pruning
+      ∙ sym (length-over m 0 (map (mark E O k (withNew [] asked)) (range 0 (E .tiles)))))
       (λ i l. mark-all-at ms asked (wider asked a) i ∙ go i (decLt i (E .tiles)))
     where
       pruning : List ℕ
@@ -74,13 +77,19 @@ module _ {G : Geometry} (E : Directory G) (O : G .Box) (k : ℕ) (asked : List �
 
       outside : (i : ℕ) → E .tiles ≤ i → (l : List ℕ) → All (λ t. t < E .tiles) l → member i l ≡ false
       outside i b [] a = refl
-      outside i b (t ∷ l) a = by-test (eqb i t) (λ e. absurd (let q = eqb-true i t e in omega (arith, a .0))) (λ e. rw e (outside i b l (a .1)))
+      outside i b (t ∷ l) a = by-test (eqb i t) (λ e. absurd (let q = eqb-true i t e in omega (arith, a .0)))
+          (λ e. rw e (outside i b l (a .1)))
 
-      go : (i : ℕ) → Dec (i < E .tiles) → cond (member i asked) 2 (getD ms i 0) ≡ getD (over m 0 (map (mark E O k (withNew [] asked)) (range 0 (E .tiles)))) i 0
+      go : (i : ℕ) → Dec (i < E .tiles) → cond (member i asked) 2 (getD ms i 0)
+          ≡ getD (over m 0 (map (mark E O k (withNew [] asked)) (range 0 (E .tiles)))) i 0
       go i (yes l) =
-          rw (filled-at (λ t. bit (pruned E O k t)) m (E .tiles) i h l, filled-at (mark E O k (withNew [] asked)) m (E .tiles) i h l) (sym (mark-of i))
+          rw (
+            filled-at (λ t. bit (pruned E O k t)) m (E .tiles) i h l,
+            filled-at (mark E O k (withNew [] asked)) m (E .tiles) i h l,
+          ) (sym (mark-of i))
       go i (no l) =
           let e = range-length (λ t. bit (pruned E O k t)) 0 (E .tiles) in
           let e′ = range-length (mark E O k (withNew [] asked)) 0 (E .tiles) in
           let b : E .tiles ≤ i = omega arith in
-          rw (outside i b asked a) (getD-after m 0 i pruning (omega arith) ∙ sym (getD-after m 0 i (map (mark E O k (withNew [] asked)) (range 0 (E .tiles))) (omega arith)))
+          rw (outside i b asked a) (getD-after m 0 i pruning (omega arith)
+          ∙ sym (getD-after m 0 i (map (mark E O k (withNew [] asked)) (range 0 (E .tiles))) (omega arith)))

@@ -83,7 +83,8 @@ module _ (f : List ℕ) (h : Header) (order : List ℕ) (g : Target) (o₀ : Sli
         let answer : whole .out ≡ accepted (found o used) = turn .out ∙ ap (λ w. w .out) e in
         let same : (l : List Place) → whole .out ≡ accepted l → found o used ≡ l =
         λ l q. accepted-injective (sym answer ∙ q) in
-        let marks : markAll (o₀ .marks) (whole .asked) ≡ o .marks = turn .asked ∙ ap (λ w. markAll (o .marks) (w .asked)) e in
+        let marks : markAll (o₀ .marks) (whole .asked) ≡ o .marks = turn .asked
+        ∙ ap (λ w. markAll (o .marks) (w .asked)) e in
         record {
           outcome = rw answer (ap accepted (sym n));
           few = λ l q. rw (← (same l q)) (omega (arith, turn .ready .few));
@@ -142,7 +143,8 @@ module _ (f : List ℕ) (h : Header) (order : List ℕ) (g : Target) (o₀ : Sli
 
           -- it opens, and the walk goes on
           module _ (l : List Site) (e : openingOf f h tile ≡ accepted l) (tiles : tile < h .tiles)
-              (marks : h .tiles ≤ length (o .marks)) {n : ℕ} (number : n ≡ length (withSites tile g used l (o .lists))) where
+              (marks : h .tiles ≤ length (o .marks)) {n : ℕ}
+              (number : n ≡ length (withSites tile g used l (o .lists))) where
             abbrev next : Slices
             next = afterTile tile g used (accepted l) o
 

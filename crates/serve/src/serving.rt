@@ -8,7 +8,8 @@ ghost use Rattle.list.specs.Lists.{lent};
 ghost use Rattle.plan.specs.FilePlan.{openingOf};
 ghost use Rattle.tiles.specs.Outcome.{openingOutcome};
 ghost use Rattle.serve.specs.Inner.Serving.{servingOutcome, TileReady, withSites, afterTile};
-ghost use Rattle.serve.specs.Inner.Serving.{StopReady, StopServed, walkOf, StopsReady, StopsServed, waiting, walksOf};
+ghost use Rattle.serve.specs.Inner.Serving.{StopReady, StopServed, walkOf, StopsReady, StopsServed, waiting};
+ghost use Rattle.serve.specs.Inner.Serving.{walksOf};
 use crate::marks::open_once;
 use base::Refusal;
 use blocks::header::Header;
@@ -114,7 +115,8 @@ fn serve_stop(
     }
 }
 
-// Serves the stops in turn, over the tiles that neither the marks nor the directory rule out: the list of stop i from index
+// Serves the stops in turn, over the tiles that neither the marks nor the directory rule out: the list of stop i from
+// index
 // i × k on. The places used by the last stop.
 pub fn serve_all(
     f: &[u8],

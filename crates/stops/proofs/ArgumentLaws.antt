@@ -33,7 +33,8 @@ columns-equal n (c ∷ cols) e =
 -- of two columns the second is looked at
 pub two-columns : (xs ys : List ℤ) → eqb (length ys) (length xs) ≡ equalColumns (length xs) (xs ∷ ys ∷ [])
 unfolding equalColumns
-two-columns xs ys = rw (eq-eqb (length xs) (length xs) refl) (by-test (eqb (length ys) (length xs)) (λ e. rw e) (λ e. rw e))
+two-columns xs ys =
+    rw (eq-eqb (length xs) (length xs) refl) (by-test (eqb (length ys) (length xs)) (λ e. rw e) (λ e. rw e))
 
 pub good-stops : (cols : List (List ℤ)) → stopsDue cols ≡ true
     → (1 ≤ stopCount cols) × ((stopCount cols ≤ maxStops) × All (λ c. length c ≡ stopCount cols) cols)

@@ -34,7 +34,8 @@ unfolding least
 least-start [] h = absurd (omega arith)
 least-start (x ∷ xs) h = refl
 
-pub greatest-start : (xs : List ℤ) → 0 < length xs → foremost (λ a b. ltZ b a) (getD xs 0 (pos 0)) (drop 1 xs) ≡ greatest xs
+pub greatest-start : (xs : List ℤ) → 0 < length xs
+    → foremost (λ a b. ltZ b a) (getD xs 0 (pos 0)) (drop 1 xs) ≡ greatest xs
 unfolding greatest
 greatest-start [] h = absurd (omega arith)
 greatest-start (x ∷ xs) h = refl

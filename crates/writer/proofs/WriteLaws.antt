@@ -73,7 +73,8 @@ module _ (s : Supply) (room : ℕ) where
       let l = lists-good (total (s .counts)) (length (s .xs)) (length (s .ys)) (length (s .cues)) (d .0) in
       let v : (t : ℕ) → t < tilesOf s →
       (validBox (boxOf (s .boxes) t) ≡ true) × (countOf (s .counts) t ≤ maxSites axes) =
-      λ t k. entry-good (s .boxes) (s .counts) t (every-at (entryFits (s .boxes) (s .counts)) (tilesOf s) t (c .0) k) in (
+      λ t k. entry-good (s .boxes) (s .counts) t
+      (every-at (entryFits (s .boxes) (s .counts)) (tilesOf s) t (c .0) k) in (
         record {
           least = t .0;
           most = t .1;

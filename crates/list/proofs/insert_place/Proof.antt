@@ -88,7 +88,8 @@ returns-3 c =
     let full : tie.Else1 = search in
     let s : tie.Start = search in
     let behind = sym (tested .before .ranks-before .ensures) ∙ tested .if2 .left in
-    put-full (s .pre) (s .args .x) (full .if1 .left) (y .place-at .result) (y .place-at .ensures) behind (put .put-place2 .ensures)
+    put-full (s .pre) (s .args .x) (full .if1 .left) (y .place-at .result) (y .place-at .ensures) behind
+    (put .put-place2 .ensures)
 
 pub insert-place-spec : {M : Type 1} → statement M
 insert-place-spec =

@@ -11,7 +11,8 @@ returns : tie.Need-returns
 returns c =
     let s : tie.Start = search in
     let a = s .args in
-    λ cs. sym (not-full (lists (a .dist .now) (a .site .now) cs) (a .at) (a .used) (a .k) (a .least) (a .tile) (c .if1 .taken))
+    λ cs. sym (not-full (lists (a .dist .now) (a .site .now) cs) (a .at) (a .used) (a .k) (a .least) (a .tile)
+    (c .if1 .taken))
 
 sub-last : tie.Need-sub-last
 sub-last c = search needs
@@ -41,7 +42,8 @@ returns-2 c =
     let a = s .args in
     let full : a .used ≡ a .k = omega (arith, s .pre .1) in
     λ cs. c .ahead-of-key .ensures
-    ∙ sym (full-last (lists (a .dist .now) (a .site .now) cs) (a .at) (a .used) (a .k) (a .least) (a .tile) (s .pre .0) full)
+    ∙ sym (full-last (lists (a .dist .now) (a .site .now) cs) (a .at) (a .used) (a .k) (a .least) (a .tile)
+    (s .pre .0) full)
 
 pub last-ahead-spec : {M : Type 1} → statement M
 last-ahead-spec =

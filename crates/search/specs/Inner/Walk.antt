@@ -1,4 +1,5 @@
--- The run as code goes by it: each stop from nothing found, with a list cut at k. A tile may be asked for again at a later stop.
+-- The run as code goes by it: each stop from nothing found, with a list cut at k. A tile may be asked for again at a
+-- later stop.
 -- `join-cut` (proofs/Cut) says that lists and openings are those of the join.
 use Prim.Native.Nat.{ℕ}
 use mathlib.Core.Bool.{cond}

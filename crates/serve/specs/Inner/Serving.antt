@@ -77,7 +77,8 @@ pub record StopReady (f : List ℕ) (h : Header) (order : List ℕ) (g : Target)
   pub opens : OpenedOpen f h (o .marks)
 
 -- the list from its index on and the marks; or refused, with changes among the stop's places and the marks only
-pub record StopServed (f : List ℕ) (h : Header) (w : Trace (List Place)) (k at : ℕ) (o : Slices) (r : Outcome ℕ) (o′ : Slices) : Type 0 where
+pub record StopServed (f : List ℕ) (h : Header) (w : Trace (List Place)) (k at : ℕ) (o : Slices) (r : Outcome ℕ)
+    (o′ : Slices) : Type 0 where
   pub outcome : r ≡ andThen (w .out) (λ l. accepted (length l))
   pub few : (l : List Place) → w .out ≡ accepted l → length l ≤ k
   pub answered : (l : List Place) → w .out ≡ accepted l
@@ -112,7 +113,8 @@ lastLength n [] = n
 lastLength n (l ∷ ls) = lastLength (length l) ls
 
 -- all lists and the marks; or refused, with changes among n places and T marks only
-pub record StopsServed (h : Header) (w : Trace (List (List Place))) (k n : ℕ) (o : Slices) (r : Outcome ℕ) (o′ : Slices) : Type 0 where
+pub record StopsServed (h : Header) (w : Trace (List (List Place))) (k n : ℕ) (o : Slices) (r : Outcome ℕ)
+    (o′ : Slices) : Type 0 where
   pub outcome : r ≡ andThen (w .out) (λ ls. accepted (lastLength 0 ls))
   pub answered : (ls : List (List Place)) → w .out ≡ accepted ls
       → o′ ≡ record { lists = lay (o .lists) 0 (slices k ls); marks = markAll (o .marks) (w .asked) }

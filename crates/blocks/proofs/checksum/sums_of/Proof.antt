@@ -9,7 +9,8 @@ use Rattle.blocks.proofs.checksum.sums_of.Statement.{statement}
 use Rattle.blocks.proofs.checksum.sums_of.Tie as tie
 
 abbrev Inv-loop : tie.InvT-loop
-Inv-loop s a₀ c₀ i₀ a c i = (i ≤ checkAt) × (a ≤ 255 * i) × (c ≤ 131072 * i) × (sumsFrom (a % 255) (c % 255) (slice i checkAt s) ≡ sums s)
+Inv-loop s a₀ c₀ i₀ a c i =
+    (i ≤ checkAt) × (a ≤ 255 * i) × (c ≤ 131072 * i) × (sumsFrom (a % 255) (c % 255) (slice i checkAt s) ≡ sums s)
 
 abbrev μ-loop : tie.MeasureT-loop
 μ-loop s a₀ c₀ i₀ a c i = blockSize - i
@@ -49,7 +50,8 @@ loop-again c =
 returns : tie.Need-returns Inv-loop μ-loop
 returns c =
     let l = c .before in
-    sym (sums-end (l .before .before .args .s .now) (l .loop .i) (l .loop .a % 255) (l .loop .c % 255) (search needs)) ∙ l .loop .inv .3
+    sym (sums-end (l .before .before .args .s .now) (l .loop .i) (l .loop .a % 255) (l .loop .c % 255) (search needs))
+    ∙ l .loop .inv .3
 
 pub sums-of-spec : {M : Type 1} → statement M
 sums-of-spec =

@@ -21,8 +21,10 @@ put-stops-requires c κs =
     let s : tie.Start = search in
     let fit = rw (a .answer .given .1) at (s .pre .1) in
     let counts = p .put-counts .ensures in
-    let long = fit .long in
-    ((omega (arith, counts .1, same-room (counts .0), s .pre .0, fit .stops), fit .few, fit .some), (long .0, long .1 .0, long .1 .1))
+    let long = fit .long in (
+      (omega (arith, counts .1, same-room (counts .0), s .pre .0, fit .stops), fit .few, fit .some),
+      (long .0, long .1 .0, long .1 .1),
+    )
 
 enum-known-answer-2 : tie.Need-enum-known-answer-2
 enum-known-answer-2 c = search needs

@@ -46,7 +46,8 @@ head-length-requires c κs =
     omega (arith, n .stop-count .ensures, request s .few)
 
 -- the file starts within the input
-fits : (c : tie.After-head-length) → (let s : tie.Start = search in c .head-length .result ≤ length (s .args .input .now))
+fits : (c : tie.After-head-length) → (let s : tie.Start = search in
+    c .head-length .result ≤ length (s .args .input .now))
 unfolding headLength
 fits c =
     let n : tie.After-stop-count = search in
@@ -75,7 +76,8 @@ ys-length : (c : tie.After-read-coordinates2) → (let n : tie.After-stop-count 
 ys-length c =
     let n : tie.After-stop-count = search in
     let s : tie.Start = search in
-    sym (ap length (c .read-coordinates2 .ensures) ∙ length-coordinates (s .args .input .now) 12 (n .stop-count .result))
+    sym (ap length (c .read-coordinates2 .ensures)
+    ∙ length-coordinates (s .args .input .now) 12 (n .stop-count .result))
 
 array-share-prefix-xs : tie.Need-array-share-prefix-xs
 array-share-prefix-xs c =

@@ -11,7 +11,8 @@ use Rattle.console.proofs.line.put_places.Tie as tie
 
 abbrev Inv-loop : tie.InvT-loop
 Inv-loop out₀ at dist site cue from used next₀ j₀ out next j =
-    (j ≤ used) × (next ≤ at + 44 * j) × (length out ≡ length out₀) × Parts (placeAt dist site cue from) used out₀ at out next j
+    (j ≤ used) × (next ≤ at + 44 * j) × (length out ≡ length out₀)
+    × Parts (placeAt dist site cue from) used out₀ at out next j
 
 abbrev μ-loop : tie.MeasureT-loop
 μ-loop out₀ at dist site cue from used next₀ j₀ out next j = used - j
@@ -64,8 +65,30 @@ loop-again c =
     let s = c .before .before .before .before .before .before .before .before .before .before .before .before .before in
     let l = c .before .before .before .before .before .before .before .before .loop in
     let w = c .before .before .put-place .ensures in
-    let short = place-short (l .j) (getD (s .args .dist .now) (s .args .from + l .j) 0) (getD (s .args .site .now) (s .args .from + l .j) 0) (getD (s .args .cue .now) (s .args .from + l .j) 0) (omega (arith, c .before .before .before .before .before .before .before .before .before .before .before .shared-slice-known .given (s .args .from + l .j))) (omega (arith, c .before .before .before .before .before .before .before .before .before .before .shared-slice-known2 .given (s .args .from + l .j))) (omega (arith, c .before .before .before .before .before .before .before .before .before .shared-slice-known3 .given (s .args .from + l .j))) in
-    (omega arith, omega (arith, short, w .end, l .inv .1), same-room w ∙ l .inv .2, parts-turn (placeAt (s .args .dist .now) (s .args .site .now) (s .args .cue .now) (s .args .from)) (s .args .used) (s .args .out .now) (s .args .at) (l .j) (omega arith) (l .inv .3) w)
+    let short = place-short (l .j) (getD (s .args .dist .now) (s .args .from + l .j) 0)
+    (getD (s .args .site .now) (s .args .from + l .j) 0) (getD (s .args .cue .now) (s .args .from + l .j) 0)
+    (omega (
+      arith,
+      c .before .before .before .before .before .before .before .before .before .before .before
+          .shared-slice-known .given (s .args .from + l .j),
+    ))
+    (omega (
+      arith,
+      c .before .before .before .before .before .before .before .before .before .before
+          .shared-slice-known2 .given (s .args .from + l .j),
+    ))
+    (omega (
+      arith,
+      c .before .before .before .before .before .before .before .before .before .shared-slice-known3
+          .given (s .args .from + l .j),
+    )) in (
+      omega arith,
+      omega (arith, short, w .end, l .inv .1),
+      same-room w
+          ∙ l .inv .2,
+      parts-turn (placeAt (s .args .dist .now) (s .args .site .now) (s .args .cue .now) (s .args .from))
+          (s .args .used) (s .args .out .now) (s .args .at) (l .j) (omega arith) (l .inv .3) w,
+    )
 
 same-length : tie.Need-same-length Inv-loop μ-loop
 same-length c = c .before .loop .inv .2
@@ -75,7 +98,8 @@ unfolding placesText
 returns c =
     let s = c .before .before .before .before .before .before in
     let l = c .before .loop in
-    parts-end (placeAt (s .args .dist .now) (s .args .site .now) (s .args .cue .now) (s .args .from)) (s .args .used) (s .args .out .now) (s .args .at) (l .j) (omega arith) (l .inv .3)
+    parts-end (placeAt (s .args .dist .now) (s .args .site .now) (s .args .cue .now) (s .args .from)) (s .args .used)
+    (s .args .out .now) (s .args .at) (l .j) (omega arith) (l .inv .3)
 
 pub put-places-spec : {M : Type 1} → statement M
 put-places-spec =

@@ -70,7 +70,8 @@ returns c =
     let t : tie.After-put-text = search in
     let p : tie.After-put-places = search in
     let u : tie.After-put-text2 = search in
-    then (then (then (a .put-labelled .ensures) (t .put-text .ensures)) (p .put-places .ensures)) (u .put-text2 .ensures)
+    then (then (then (a .put-labelled .ensures) (t .put-text .ensures)) (p .put-places .ensures))
+    (u .put-text2 .ensures)
 
 pub put-stop-spec : {M : Type 1} → statement M
 put-stop-spec =

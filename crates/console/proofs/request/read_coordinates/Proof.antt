@@ -50,7 +50,8 @@ loop-again c =
     let fits : SFits w32 (c .i32-at .result) = sfits-of (c .i32-at .ok) in (
       omega arith,
       simp length-set (l .inv .1),
-      rw (toZ-ofZ fits) (stored-next (s .args .input .now) (s .args .at) (l .i) (l .out) (c .i32-at .result) (omega (arith, s .pre .1, l .inv .1)) (l .inv .2) (c .i32-at .ensures)),
+      rw (toZ-ofZ fits) (stored-next (s .args .input .now) (s .args .at) (l .i) (l .out) (c .i32-at .result)
+          (omega (arith, s .pre .1, l .inv .1)) (l .inv .2) (c .i32-at .ensures)),
     )
 
 same-length : tie.Need-same-length Inv-loop μ-loop

@@ -17,7 +17,11 @@ stop-count-requires c κs = search needs
 
 returns-3 : tie.Need-returns-3
 unfolding wellFormed
-returns-3 c = rw (le-leb _ _ (c .before .before .before .if1 .left), le-leb _ _ (c .before .before .if2 .left), lt-leb _ _ (rw (c .before .stop-count .ensures) at (c .if3 .taken)))
+returns-3 c = rw (
+  le-leb _ _ (c .before .before .before .if1 .left),
+  le-leb _ _ (c .before .before .if2 .left),
+  lt-leb _ _ (rw (c .before .stop-count .ensures) at (c .if3 .taken)),
+)
 
 head-length-requires : tie.Need-head-length-requires
 head-length-requires c κs = search needs
@@ -26,7 +30,13 @@ returns-4 : tie.Need-returns-4
 unfolding wellFormed
 returns-4 c =
     let n = c .before .before .stop-count .ensures in
-    rw (le-leb _ _ (c .before .before .before .before .if1 .left), le-leb _ _ (c .before .before .before .if2 .left), le-leb _ _ (rw n at (c .before .if3 .left)), c .head-length .ensures, n)
+    rw (
+      le-leb _ _ (c .before .before .before .before .if1 .left),
+      le-leb _ _ (c .before .before .before .if2 .left),
+      le-leb _ _ (rw n at (c .before .if3 .left)),
+      c .head-length .ensures,
+      n,
+    )
 
 pub well-formed-spec : {M : Type 1} → statement M
 well-formed-spec =

@@ -10,7 +10,8 @@ use Rattle.console.proofs.text.put_digits.Statement.{statement}
 use Rattle.console.proofs.text.put_digits.Tie as tie
 
 abbrev Inv-loop : tie.InvT-loop
-Inv-loop out₀ at n w i₀ rest₀ out i rest = (i ≤ w) × (length out ≡ length out₀) × (over out at (digits i rest) ≡ over out₀ at (digits w n))
+Inv-loop out₀ at n w i₀ rest₀ out i rest =
+    (i ≤ w) × (length out ≡ length out₀) × (over out at (digits i rest) ≡ over out₀ at (digits w n))
 
 abbrev μ-loop : tie.MeasureT-loop
 μ-loop out₀ at n w i₀ rest₀ out i rest = i

@@ -9,7 +9,8 @@ use Rattle.console.proofs.text.put_text.Statement.{statement}
 use Rattle.console.proofs.text.put_text.Tie as tie
 
 abbrev Inv-loop : tie.InvT-loop
-Inv-loop out₀ at text i₀ out i = (i ≤ length text) × (length out ≡ length out₀) × (over out (at + i) (drop i text) ≡ over out₀ at text)
+Inv-loop out₀ at text i₀ out i =
+    (i ≤ length text) × (length out ≡ length out₀) × (over out (at + i) (drop i text) ≡ over out₀ at text)
 
 abbrev μ-loop : tie.MeasureT-loop
 μ-loop out₀ at text i₀ out i = length text - i

@@ -83,7 +83,8 @@ returns c =
     (simp (local-i32 (z b) (c₆ .put-i32-arg2 .given)) at (c₅ .put-i32 .ensures))
     (simp (local-i32 (z (b + 1)) (c₄ .put-i32-arg4 .given)) at (c₃ .put-i322 .ensures))
     (simp (local-i32 (z (b + 2)) (c₂ .put-i32-arg6 .given)) at (c₁ .put-i323 .ensures))
-    (simp (local-i32 (z (b + 3)) (c .before .before .before .put-i32-arg8 .given)) at (c .before .before .put-i324 .ensures))
+    (simp (local-i32 (z (b + 3)) (c .before .before .before .put-i32-arg8 .given))
+    at (c .before .before .put-i324 .ensures))
 
 pub put-box-spec : {M : Type 1} → statement M
 put-box-spec =

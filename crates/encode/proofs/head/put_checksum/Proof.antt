@@ -60,7 +60,8 @@ returns c =
     let s = c₃ .sums-of in
     let e = lent (a .d .now) (a .at) (s .result) (s .ensures) in
     check-row (a .d .now) (a .at + checkAt) (take blockSize (drop (a .at) (a .d .now)))
-    (c₂ .low .ensures ∙ ap (λ (x : Sums). x .a) e) (c .before .before .before .low2 .ensures ∙ ap (λ (x : Sums). x .c) e)
+    (c₂ .low .ensures ∙ ap (λ (x : Sums). x .a) e) (c .before .before .before .low2 .ensures
+    ∙ ap (λ (x : Sums). x .c) e)
     (c₁ .put-u8 .ensures) (c .before .before .put-u82 .ensures)
 
 pub put-checksum-spec : {M : Type 1} → statement M

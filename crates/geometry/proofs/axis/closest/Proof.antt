@@ -30,7 +30,8 @@ returns : tie.Need-returns
 unfolding closest
 returns c =
     let l = low (c .before .before) in
-    let t : ltZ (c .before .before .before .args .x) (lo (c .before .before .before .args .t1)) ≡ true = simp (toZ-ofZ (c .before .before .before .fits .x), toZ-ofZ l) at (c .if1 .taken) in
+    let t : ltZ (c .before .before .before .args .x) (lo (c .before .before .before .args .t1))
+    ≡ true = simp (toZ-ofZ (c .before .before .before .fits .x), toZ-ofZ l) at (c .if1 .taken) in
     toZ-ofZ l ∙ rw t
 
 returns-2 : tie.Need-returns-2
@@ -45,7 +46,8 @@ returns-3 : tie.Need-returns-3
 unfolding closest
 returns-3 c =
     let s = c .before .before .before .before in
-    let t : ltZ (hi (s .args .t1)) (s .args .x) ≡ false = simp (toZ-ofZ (s .fits .x), toZ-ofZ (high (c .before .before))) at (c .if2 .left) in
+    let t : ltZ (hi (s .args .t1)) (s .args .x) ≡ false = simp
+    (toZ-ofZ (s .fits .x), toZ-ofZ (high (c .before .before))) at (c .if2 .left) in
     toZ-ofZ (s .fits .x) ∙ rw (not-left (c .before), t)
 
 pub closest-spec : {M : Type 1} → statement M

@@ -32,13 +32,15 @@ sub-if1-2 c = let s = c .before .before in subtract-fits (on-axis s .high) (at s
 returns : tie.Need-returns
 returns c =
     let s = c .before .before .before in
-    let t : ltZ (s .args .x -ℤ lo (s .args .t1)) (hi (s .args .t1) -ℤ s .args .x) ≡ true = simp (subtract-is (at s) (on-axis s .low), subtract-is (on-axis s .high) (at s)) at (c .if1 .taken) in
+    let t : ltZ (s .args .x -ℤ lo (s .args .t1)) (hi (s .args .t1) -ℤ s .args .x)
+    ≡ true = simp (subtract-is (at s) (on-axis s .low), subtract-is (on-axis s .high) (at s)) at (c .if1 .taken) in
     toZ-ofZ (limited-fits (on-axis s .high)) ∙ sym (farthest-test (s .args .t1) (s .args .x) (on-axis s) (at s) ∙ rw t)
 
 returns-2 : tie.Need-returns-2
 returns-2 c =
     let s = c .before .before .before in
-    let t : ltZ (s .args .x -ℤ lo (s .args .t1)) (hi (s .args .t1) -ℤ s .args .x) ≡ false = simp (subtract-is (at s) (on-axis s .low), subtract-is (on-axis s .high) (at s)) at (c .if1 .left) in
+    let t : ltZ (s .args .x -ℤ lo (s .args .t1)) (hi (s .args .t1) -ℤ s .args .x)
+    ≡ false = simp (subtract-is (at s) (on-axis s .low), subtract-is (on-axis s .high) (at s)) at (c .if1 .left) in
     toZ-ofZ (limited-fits (on-axis s .low)) ∙ sym (farthest-test (s .args .t1) (s .args .x) (on-axis s) (at s) ∙ rw t)
 
 pub farthest-spec : {M : Type 1} → statement M

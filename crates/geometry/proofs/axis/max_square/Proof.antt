@@ -39,15 +39,32 @@ returns : tie.Need-returns
 unfolding square gap
 returns c =
     let s = c .before .before .before .before in
-    let t : ltZ (s .args .x -ℤ lo (s .args .t1)) (hi (s .args .t1) -ℤ s .args .x) ≡ true = simp (subtract-is (at s) (on-axis s .low), subtract-is (on-axis s .high) (at s)) at (c .before .if1 .taken) in
-    c .squared .ensures ∙ rw (subtract-is (on-axis s .high) (at s), farthest-test (s .args .t1) (s .args .x) (on-axis s) (at s), t, gap-comm (hi (s .args .t1)) (s .args .x) (on-axis s .high) (at s))
+    let t : ltZ (s .args .x -ℤ lo (s .args .t1)) (hi (s .args .t1) -ℤ s .args .x)
+    ≡ true = simp (
+      subtract-is (at s) (on-axis s .low),
+      subtract-is (on-axis s .high) (at s),
+    ) at (c .before .if1 .taken) in
+    c .squared .ensures ∙ rw (
+      subtract-is (on-axis s .high) (at s),
+      farthest-test (s .args .t1) (s .args .x) (on-axis s) (at s),
+      t,
+      gap-comm (hi (s .args .t1)) (s .args .x) (on-axis s .high) (at s),
+    )
 
 returns-2 : tie.Need-returns-2
 unfolding square gap
 returns-2 c =
     let s = c .before .before .before .before in
-    let t : ltZ (s .args .x -ℤ lo (s .args .t1)) (hi (s .args .t1) -ℤ s .args .x) ≡ false = simp (subtract-is (at s) (on-axis s .low), subtract-is (on-axis s .high) (at s)) at (c .before .if1 .left) in
-    c .squared2 .ensures ∙ rw (subtract-is (at s) (on-axis s .low), farthest-test (s .args .t1) (s .args .x) (on-axis s) (at s), t)
+    let t : ltZ (s .args .x -ℤ lo (s .args .t1)) (hi (s .args .t1) -ℤ s .args .x)
+    ≡ false = simp (
+      subtract-is (at s) (on-axis s .low),
+      subtract-is (on-axis s .high) (at s),
+    ) at (c .before .if1 .left) in
+    c .squared2 .ensures ∙ rw (
+      subtract-is (at s) (on-axis s .low),
+      farthest-test (s .args .t1) (s .args .x) (on-axis s) (at s),
+      t,
+    )
 
 pub max-square-spec : {M : Type 1} → statement M
 max-square-spec =

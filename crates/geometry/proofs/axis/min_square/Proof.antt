@@ -31,7 +31,10 @@ returns : tie.Need-returns
 unfolding square gap
 returns c =
     let s = c .before .before in
-    c .squared .ensures ∙ rw (subtract-is (limited (s .args .x) (s .pre .1)) (point-limited (c .before)), point (c .before))
+    c .squared .ensures ∙ rw (
+      subtract-is (limited (s .args .x) (s .pre .1)) (point-limited (c .before)),
+      point (c .before),
+    )
 
 pub min-square-spec : {M : Type 1} → statement M
 min-square-spec = tie.close (tie.spec closest-requires sub-squared squared-requires returns)

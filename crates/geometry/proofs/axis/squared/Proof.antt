@@ -25,7 +25,8 @@ module _ (d : ℤ) (h : SFits w32 d) where
   bound : natAbs d * natAbs d ≤ 2 ^ 62
   bound = let b = natAbs-le d (h .sfits) in mul-le-mul b b
 
-  square : toZ w64 (ofZ w64 (toZ w32 (ofZ w32 d))) *ℤ toZ w64 (ofZ w64 (toZ w32 (ofZ w32 d))) ≡ pos (natAbs d * natAbs d)
+  square : toZ w64 (ofZ w64 (toZ w32 (ofZ w32 d))) *ℤ toZ w64 (ofZ w64 (toZ w32 (ofZ w32 d)))
+      ≡ pos (natAbs d * natAbs d)
   square = rw back (product d)
 
   fits : SFits w64 (toZ w64 (ofZ w64 (toZ w32 (ofZ w32 d))) *ℤ toZ w64 (ofZ w64 (toZ w32 (ofZ w32 d))))
@@ -38,7 +39,8 @@ mul-result : tie.Need-mul-result
 mul-result c = fits (c .args .d) (c .fits .d)
 
 cast-result : tie.Need-cast-result
-cast-result c = rw (toZ-ofZ (fits (c .args .d) (c .fits .d)), square (c .args .d) (c .fits .d)) (tt, record { fits = omega (arith, bound (c .args .d) (c .fits .d)) })
+cast-result c = rw (toZ-ofZ (fits (c .args .d) (c .fits .d)), square (c .args .d) (c .fits .d))
+    (tt, record { fits = omega (arith, bound (c .args .d) (c .fits .d)) })
 
 returns : tie.Need-returns
 returns c = rw (toZ-ofZ (fits (c .args .d) (c .fits .d)), square (c .args .d) (c .fits .d))

@@ -20,7 +20,8 @@ first : tie.After-square2 → tie.After-square
 first c = search
 
 -- one square an axis
-sums : (c : tie.After-square2) → first c .square .result + c .square2 .result ≡ D (start c .args .t1) (start c .args .t2)
+sums : (c : tie.After-square2) → first c .square .result + c .square2 .result
+    ≡ D (start c .args .t1) (start c .args .t2)
 unfolding sum start first
 sums c =
     let p = start c .args .t1 in

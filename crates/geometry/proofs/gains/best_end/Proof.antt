@@ -28,7 +28,8 @@ both c = search
 
 -- the gains as the code compares them
 tested : (c : tie.After-struct-told)
-    → ltZ (toZ w64 (ofZ w64 (both c .gains-at-ends .result .low))) (toZ w64 (ofZ w64 (both c .gains-at-ends .result .high)))
+    → ltZ (toZ w64 (ofZ w64 (both c .gains-at-ends .result .low)))
+    (toZ w64 (ofZ w64 (both c .gains-at-ends .result .high)))
     ≡ ltZ (gain (start c .args .e) (start c .args .b) (lo (start c .args .t1)))
     (gain (start c .args .e) (start c .args .b) (hi (start c .args .t1)))
 unfolding start both

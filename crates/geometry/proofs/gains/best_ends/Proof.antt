@@ -17,8 +17,11 @@ farthest-requires c κs =
     let s : tie.Start = search in
     let o = s .args .o in
     let k : SFits w32 (c .best-end .result) = sfits-of (c .best-end .ok) in
-    let x : c .best-end .result ≡ bestEnd o (s .args .e) (s .args .b) = c .best-end .ensures in
-    (s .pre .1 .0, rw (toZ-ofZ k, x) (valid-on (s .pre .0) (best-end-on o (s .args .e) (s .args .b) (axis o (s .pre .0)))))
+    let x : c .best-end .result ≡ bestEnd o (s .args .e) (s .args .b) = c .best-end .ensures in (
+      s .pre .1 .0,
+      rw (toZ-ofZ k, x) (valid-on (s .pre .0)
+          (best-end-on o (s .args .e) (s .args .b) (axis o (s .pre .0)))),
+    )
 
 closest-requires : tie.Need-closest-requires
 closest-requires c κs = search needs

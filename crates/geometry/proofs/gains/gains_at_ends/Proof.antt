@@ -89,9 +89,11 @@ returns c =
     let d : tie.After-difference = search in
     let l = squares-low (d .before) in
     let h = squares-high (c .before) in
-    let low-gain : d .difference .result ≡ pos (d .before .before .max-square .result) -ℤ pos (d .before .min-square .result) =
+    let low-gain : d .difference .result ≡ pos (d .before .before .max-square .result) -ℤ pos
+    (d .before .min-square .result) =
     d .difference .ensures in
-    let high-gain : c .difference2 .result ≡ pos (c .before .before .max-square2 .result) -ℤ pos (c .before .min-square2 .result) =
+    let high-gain : c .difference2 .result ≡ pos (c .before .before .max-square2 .result) -ℤ pos
+    (c .before .min-square2 .result) =
     c .difference2 .ensures in (
       toZ-ofZ (sfits-of (d .difference .ok)) ∙ low-gain ∙ cc (l .0, l .1),
       toZ-ofZ (sfits-of (c .difference2 .ok)) ∙ high-gain ∙ cc (h .0, h .1),

@@ -14,7 +14,8 @@ valid-boxes-requires c κs = search needs
 
 -- past the test, the three boxes are valid
 valid : (c : tie.Else1)
-    → (validBox (c .before .before .args .o) && validBox (c .before .before .args .e)) && validBox (c .before .before .args .b)
+    → (validBox (c .before .before .args .o) && validBox (c .before .before .args .e)) && validBox
+    (c .before .before .args .b)
     ≡ true
 valid c = sym (c .before .valid-boxes .ensures) ∙ not-false (c .before .valid-boxes .result) (c .if1 .left)
 

@@ -63,7 +63,8 @@ sums c =
     let fits-y : SFits w64 (c .best-gain2 .result) = sfits-of (c .best-gain2 .ok) in
     let x : toZ w64 (ofZ w64 (first c .best-gain .result)) ≡ g 0 = toZ-ofZ fits-x ∙ first c .best-gain .ensures in
     let y : toZ w64 (ofZ w64 (c .best-gain2 .result)) ≡ g 1 = toZ-ofZ fits-y ∙ c .best-gain2 .ensures in
-    rw (x, y) (sym (margin-sum o e b 2 (search needs) (search needs) (search needs) ∙ ap (λ z. g 0 +ℤ z) (add-none (g 1))))
+    rw (x, y) (sym (margin-sum o e b 2 (search needs) (search needs) (search needs)
+    ∙ ap (λ z. g 0 +ℤ z) (add-none (g 1))))
 
 add-result : tie.Need-add-result
 unfolding start first

@@ -21,7 +21,8 @@ unfolding marginNumber marginCall
 returns c = rw (failed (c .before .valid-boxes .ensures) (c .if1 .taken))
 
 -- past the test, the three boxes are valid
-valid : (c : tie.Else1) → (validBox (c .before .before .args .o) && validBox (c .before .before .args .e)) && validBox (c .before .before .args .b) ≡ true
+valid : (c : tie.Else1) → (validBox (c .before .before .args .o) && validBox (c .before .before .args .e)) && validBox
+    (c .before .before .args .b) ≡ true
 valid c = passed (c .before .valid-boxes .ensures) (c .if1 .left)
 
 margin-within-requires : tie.Need-margin-within-requires

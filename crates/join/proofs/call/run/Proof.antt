@@ -81,7 +81,8 @@ returns c =
     let o : tie.After-count-opened = search in
     let a : tie.After-answer = search in
     let t : tie.After-try-run = search in
-    run-answers (start t .pre) (bytes t) (rw (a .answer .given .1) at (t .try-run .ensures)) (o .count-opened .ensures .0)
+    run-answers (start t .pre) (bytes t) (rw (a .answer .given .1) at (t .try-run .ensures))
+    (o .count-opened .ensures .0)
 
 same-length-5 : tie.Need-same-length-5
 same-length-5 c = search needs

@@ -26,7 +26,8 @@ returns c =
     let told = c .before .before .struct-told .given in
     let x = local-i32 (r .site-in .result .x) (told .0 .1) in
     let y = local-i32 (r .site-in .result .y) (told .1 .0 .1) in
-    let d : c .squared-dist .result ≡ D (s .args .p) (sitePoint (r .site-in .result)) = simp (x, y) at (c .squared-dist .ensures) in
+    let d : c .squared-dist .result ≡ D (s .args .p) (sitePoint (r .site-in .result)) = simp
+    (x, y) at (c .squared-dist .ensures) in
     rw d (ap (sitePlace (s .args .p) (s .args .number)) (r .site-in .ensures))
 
 pub place-in-spec : {M : Type 1} → statement M

@@ -54,7 +54,8 @@ loop-again c =
     let here = getD marks at 0 in
     let b = bit-byte (eqb here 2) in
     let m = bit-small (eqb here 2) in
-    let q : take (at + 1) marks ≡ take at marks ++ here ∷ [] = rw (add-one at) (take-suc marks at 0 (omega (arith, s .pre))) in
+    let q : take (at + 1) marks ≡ take at marks ++ here ∷ [] = rw (add-one at)
+    (take-suc marks at 0 (omega (arith, s .pre))) in
     let more = count-append (λ m. eqb m 2) (take at marks) (here ∷ []) in
     (omega arith, (omega arith, rw (b, q, more) (omega (arith, l .loop .inv .1 .1))))
 

@@ -27,7 +27,8 @@ stop-valid xs ys i e = record { valid = e; axes = refl }
 abbrev Inv-loop : tie.InvT-loop
 Inv-loop f h xs ys k dist₀ site₀ cue₀ marks₀ order keys₀ m i₀ at₀ used₀ dist site cue marks keys i at used =
     (length keys ≡ length keys₀)
-    × StopTurn f h (waiting f h marks₀) (xs ∷ ys ∷ []) k (lent dist₀ site₀ cue₀ marks₀) (lent dist site cue marks) i at used
+    × StopTurn f h (waiting f h marks₀) (xs ∷ ys ∷ []) k (lent dist₀ site₀ cue₀ marks₀)
+    (lent dist site cue marks) i at used
 
 abbrev μ-loop : tie.MeasureT-loop
 μ-loop f h xs ys k dist₀ site₀ cue₀ marks₀ order keys₀ m i₀ at₀ used₀ dist site cue marks keys i at used =
@@ -81,7 +82,12 @@ slice-aggregate-serve-stop : tie.Need-slice-aggregate-serve-stop Inv-loop μ-loo
 slice-aggregate-serve-stop c =
     let l : tie.At-loop Inv-loop μ-loop = search in
     let g = gathering l in
-    omega (arith, few-gathered g, g .gather .kept .1 .1 .1 .0, length-take (g .gather .result) (g .gather .last .1 .1 .1 .0))
+    omega (
+      arith,
+      few-gathered g,
+      g .gather .kept .1 .1 .1 .0,
+      length-take (g .gather .result) (g .gather .last .1 .1 .1 .0),
+    )
 
 slice-aggregate-serve-stop-2 : tie.Need-slice-aggregate-serve-stop-2 Inv-loop μ-loop
 slice-aggregate-serve-stop-2 c = search needs
@@ -103,10 +109,12 @@ serve-stop-requires c κs =
       dir = s .pre .dir;
       tiles = rw (w .1) (waiting-tiles waits′ (s .args .h .tiles));
       rise = rw (w .1) (waiting-rise waits′ (s .args .h .tiles));
-      stop = rw (p .stop-at .ensures) (stop-valid (a .xs .now) (a .ys .now) (l .loop .i) (s .pre .valid (l .loop .i) (b .loop-test .taken)));
+      stop = rw (p .stop-at .ensures) (stop-valid (a .xs .now) (a .ys .now) (l .loop .i)
+          (s .pre .valid (l .loop .i) (b .loop-test .taken)));
       list = turn-ready (s .args .f .now) (s .args .h) tiles (s .args .xs .now ∷ s .args .ys .now ∷ []) (s .args .k) o t
           (b .loop-test .taken) (s .pre .some) (s .pre .long);
-      room = omega (arith, few-gathered g, l .loop .inv .0, length-take (g .gather .result) (g .gather .last .1 .1 .1 .0));
+      room =
+          omega (arith, few-gathered g, l .loop .inv .0, length-take (g .gather .result) (g .gather .last .1 .1 .1 .0));
       marks = omega (arith, s .pre .marks, t .m);
       opens = t .opens;
     }
@@ -164,7 +172,8 @@ returns c =
     let tiles = waiting (a .f .now) (a .h) (a .marks .now) in
     let e = c .enum-told .given .1 in
     rw (ap servingOutcome e)
-    (turn-refused (a .f .now) (a .h) tiles (a .xs .now ∷ a .ys .now ∷ []) (a .k) o (l .loop .inv .1) (b .loop-test .taken)
+    (turn-refused (a .f .now) (a .h) tiles (a .xs .now ∷ a .ys .now ∷ []) (a .k) o (l .loop .inv .1)
+    (b .loop-test .taken)
     (served x) _ _ (ap servingOutcome e))
 
 add-i : tie.Need-add-i Inv-loop μ-loop
@@ -223,7 +232,8 @@ returns-2 c =
     let a = s .args in
     let o = lent (a .dist .now) (a .site .now) (a .cue .now) (a .marks .now) in
     let tiles = waiting (a .f .now) (a .h) (a .marks .now) in
-    turn-ends (a .f .now) (a .h) tiles (a .xs .now ∷ a .ys .now ∷ []) (a .k) o (l .loop .inv .1) (omega (arith, c .loop-test .left))
+    turn-ends (a .f .now) (a .h) tiles (a .xs .now ∷ a .ys .now ∷ []) (a .k) o (l .loop .inv .1)
+    (omega (arith, c .loop-test .left))
 
 pub serve-all-spec : {M : Type 1} → statement M
 serve-all-spec =

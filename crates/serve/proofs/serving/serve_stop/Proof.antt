@@ -21,7 +21,8 @@ use Rattle.serve.proofs.serving.serve_stop.Statement.{statement}
 use Rattle.serve.proofs.serving.serve_stop.Tie as tie
 
 abbrev Inv-loop : tie.InvT-loop
-Inv-loop f h order target keys₀ dist₀ site₀ cue₀ marks₀ at k used₀ from₀ bound₀ keys dist site cue marks used from bound =
+Inv-loop f h order target keys₀ dist₀ site₀ cue₀ marks₀ at k used₀ from₀ bound₀ keys dist site cue marks used from
+    bound =
     (length keys ≡ length keys₀)
     × TileTurn f h order target (lent dist₀ site₀ cue₀ marks₀) keys (lent dist site cue marks) used
     × Passed keys (length order) from bound
@@ -71,8 +72,11 @@ loop-holds c =
     let order = a .order .now in
     let e = k .fill-keys .ensures in
     let keyed = keyed-start f (a .h) (p .dir) (p .stop) order (p .tiles) (a .keys .now) (p .room) (p .rise) in
-    let all = living-start f (a .h) (p .dir) (p .stop) order (p .tiles) (a .keys .now) (p .room) in
-    (refl, turn-starts f (a .h) order (a .target) o (p .list) (rw e keyed) (rw e all) (p .opens), passed-none _ (length order))
+    let all = living-start f (a .h) (p .dir) (p .stop) order (p .tiles) (a .keys .now) (p .room) in (
+      refl,
+      turn-starts f (a .h) order (a .target) o (p .list) (rw e keyed) (rw e all) (p .opens),
+      passed-none _ (length order),
+    )
 
 next-key-requires : tie.Need-next-key-requires Inv-loop μ-loop
 next-key-requires c κs =
@@ -86,7 +90,8 @@ head c = search
 key-left : (c : tie.Else1 Inv-loop μ-loop) → c .before .next-key .result .key < none
 key-left c = omega (arith, c .if1 .left, c .before .next-key .ok)
 
-index-below : (c : tie.Else1 Inv-loop μ-loop) → c .before .next-key .result .at < length (start (head c) .args .order .now)
+index-below : (c : tie.Else1 Inv-loop μ-loop) → c .before .next-key .result .at < length
+    (start (head c) .args .order .now)
 index-below c =
     index-at (head c .loop .inv .1 .keyed) (c .before .next-key .result) (c .before .next-key .ensures) (key-left c)
 
@@ -164,7 +169,8 @@ returns-2 c =
     let o = lent (a .dist .now) (a .site .now) (a .cue .now) (a .marks .now) in
     let n = i .before .next-key in
     let full = sym (c .before .last-ahead .ensures (l .loop .cue)) ∙ c .if2 .taken in
-    turn-full (a .f .now) (a .h) (a .order .now) (a .target) o (l .loop .inv .1) (n .result) (n .ensures) (key-left i) full
+    turn-full (a .f .now) (a .h) (a .order .now) (a .target) o (l .loop .inv .1) (n .result) (n .ensures)
+    (key-left i) full
 
 -- it is not: the tile is taken
 abbrev kept-key : tie.Else2 Inv-loop μ-loop → tie.Else1 Inv-loop μ-loop
@@ -254,7 +260,8 @@ returns-3 c =
     let d = andThen-refused (openingOf (a .f .now) (a .h) t) _ (told servingOutcome (x .take-tile .ensures .0) e) in
     let same = rw d at (slices-taken x) in
     rw (ap servingOutcome e, same)
-    (turn-refused (a .f .now) (a .h) (a .order .now) (a .target) o (l .loop .inv .1) (n .result) (n .ensures) (key-left i)
+    (turn-refused (a .f .now) (a .h) (a .order .now) (a .target) o (l .loop .inv .1) (n .result) (n .ensures)
+    (key-left i)
     (not-full (taken x)) _ _ d)
 
 mul-keys : tie.Need-mul-keys Inv-loop μ-loop

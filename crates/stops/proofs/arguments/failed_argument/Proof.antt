@@ -54,7 +54,12 @@ unfolding arguments cols
 returns-3 c =
     let n : tie.Else2 = search in
     let k : tie.Else1 = search in
-    rw (k-good k, stops-good n, sym (c .before .valid-stops .ensures) ∙ not-true (c .before .valid-stops .result) (c .if3 .taken))
+    rw (
+      k-good k,
+      stops-good n,
+      sym (c .before .valid-stops .ensures)
+          ∙ not-true (c .before .valid-stops .result) (c .if3 .taken),
+    )
 
 mul-n : tie.Need-mul-n
 unfolding cols
@@ -73,7 +78,13 @@ returns-4 c =
     let p : tie.Else3 = search in
     let n : tie.Else2 = search in
     let k : tie.Else1 = search in
-    rw (k-good k, stops-good n, spots-good p, sym (c .before .room .ensures) ∙ not-true (c .before .room .result) (c .if4 .taken))
+    rw (
+      k-good k,
+      stops-good n,
+      spots-good p,
+      sym (c .before .room .ensures)
+          ∙ not-true (c .before .room .result) (c .if4 .taken),
+    )
 
 returns-5 : tie.Need-returns-5
 unfolding arguments cols
@@ -81,7 +92,13 @@ returns-5 c =
     let p : tie.Else3 = search in
     let n : tie.Else2 = search in
     let k : tie.Else1 = search in
-    rw (k-good k, stops-good n, spots-good p, sym (c .before .room .ensures) ∙ not-false (c .before .room .result) (c .if4 .left))
+    rw (
+      k-good k,
+      stops-good n,
+      spots-good p,
+      sym (c .before .room .ensures)
+          ∙ not-false (c .before .room .result) (c .if4 .left),
+    )
 
 pub failed-argument-spec : {M : Type 1} → statement M
 failed-argument-spec =

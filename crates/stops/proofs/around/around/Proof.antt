@@ -25,7 +25,16 @@ returns c =
     let k1 : SFits w32 (c .before .before .greatest .result) = sfits-of (c .before .before .greatest .ok) in
     let k2 : SFits w32 (c .before .least2 .result) = sfits-of (c .before .least2 .ok) in
     let k3 : SFits w32 (c .greatest2 .result) = sfits-of (c .greatest2 .ok) in
-    rw (toZ-ofZ k0, toZ-ofZ k1, toZ-ofZ k2, toZ-ofZ k3, c .before .before .before .least .ensures, c .before .before .greatest .ensures, c .before .least2 .ensures, c .greatest2 .ensures)
+    rw (
+      toZ-ofZ k0,
+      toZ-ofZ k1,
+      toZ-ofZ k2,
+      toZ-ofZ k3,
+      c .before .before .before .least .ensures,
+      c .before .before .greatest .ensures,
+      c .before .least2 .ensures,
+      c .greatest2 .ensures,
+    )
 
 pub around-spec : {M : Type 1} → statement M
 around-spec =

@@ -48,13 +48,17 @@ loop-again c =
     let xs = c .before .before .before .before .before .args .xs .now in
     let x : SFits w32 (getD xs (l .i) (pos 0)) = sfits-of (c .before .greater-arg .given) in
     let k : SFits w32 (c .greater .result) = sfits-of (c .greater .ok) in
-    let e = simp (toZ-ofZ x) at (c .greater .ensures) in
-    (omega arith, rw (toZ-ofZ k, e) (foremost-turn (λ a b. ltZ b a) xs (toZ w32 (l .a)) (l .i) (c .before .before .loop-test .taken) ∙ l .inv .1))
+    let e = simp (toZ-ofZ x) at (c .greater .ensures) in (
+      omega arith,
+      rw (toZ-ofZ k, e) (foremost-turn (λ a b. ltZ b a) xs (toZ w32 (l .a)) (l .i)
+          (c .before .before .loop-test .taken) ∙ l .inv .1),
+    )
 
 returns : tie.Need-returns Inv-loop μ-loop
 returns c =
     let l = c .before .loop in
-    foremost-done (λ a b. ltZ b a) (c .before .before .before .args .xs .now) (toZ w32 (l .a)) (l .i) (c .loop-test .left) ∙ l .inv .1
+    foremost-done (λ a b. ltZ b a) (c .before .before .before .args .xs .now) (toZ w32 (l .a)) (l .i)
+    (c .loop-test .left) ∙ l .inv .1
 
 pub greatest-spec : {M : Type 1} → statement M
 greatest-spec =

@@ -94,7 +94,12 @@ returns-5 c =
     let t3 = c .before .before in
     let t2 = t3 .before .before in
     let t1 = t2 .before .before in
-    sym (rw (passed-head t1, passed-entries t2, passed-padding t3, passed (c .before .sites-inside .ensures) (c .if4 .left)))
+    sym (rw (
+      passed-head t1,
+      passed-entries t2,
+      passed-padding t3,
+      passed (c .before .sites-inside .ensures) (c .if4 .left),
+    ))
 
 pub tile-block-spec : {M : Type 1} → statement M
 tile-block-spec =

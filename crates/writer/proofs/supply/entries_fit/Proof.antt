@@ -37,13 +37,15 @@ loop-less : tie.Need-loop-less Inv-loop μ-loop
 loop-less c = search needs
 
 loop-again : tie.Need-loop-again Inv-loop μ-loop
-loop-again c = below-more _ _ (c .before .before .before .loop .inv) (passed (c .before .entry-fits .ensures) (c .if1 .left))
+loop-again c =
+    below-more _ _ (c .before .before .before .loop .inv) (passed (c .before .entry-fits .ensures) (c .if1 .left))
 
 returns-2 : tie.Need-returns-2 Inv-loop μ-loop
 returns-2 c =
     let l = c .before in
     let a = l .before .before .args in
-    sym (every-holds (entryFits (a .boxes .now) (a .counts .now)) (length (a .counts .now)) (λ i h. l .loop .inv i (omega arith)))
+    sym (every-holds (entryFits (a .boxes .now) (a .counts .now)) (length (a .counts .now))
+    (λ i h. l .loop .inv i (omega arith)))
 
 pub entries-fit-spec : {M : Type 1} → statement M
 entries-fit-spec =

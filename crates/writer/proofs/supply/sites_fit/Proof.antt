@@ -32,7 +32,8 @@ unfolding sitesFit
 returns c =
     let l = c .before .before .before in
     let a = l .before .args in
-    sym (every-fails (λ slot. inside (a .bounds) (pointOf (a .xs .now) (a .ys .now) (a .first + slot))) (a .n) (l .loop .i)
+    sym (every-fails (λ slot. inside (a .bounds) (pointOf (a .xs .now) (a .ys .now) (a .first + slot))) (a .n)
+    (l .loop .i)
     (search needs)
     (failed (c .before .site-fits .ensures) (c .if1 .taken)))
 
@@ -43,7 +44,8 @@ loop-less : tie.Need-loop-less Inv-loop μ-loop
 loop-less c = search needs
 
 loop-again : tie.Need-loop-again Inv-loop μ-loop
-loop-again c = below-more _ _ (c .before .before .before .loop .inv) (passed (c .before .site-fits .ensures) (c .if1 .left))
+loop-again c =
+    below-more _ _ (c .before .before .before .loop .inv) (passed (c .before .site-fits .ensures) (c .if1 .left))
 
 returns-2 : tie.Need-returns-2 Inv-loop μ-loop
 unfolding sitesFit

@@ -56,8 +56,10 @@ returns c =
     let a = l .before .before .args in
     sym (every-fails (tileFits (a .boxes .now) (a .counts .now) (a .xs .now) (a .ys .now)) (length (a .counts .now))
     (l .loop .t) (search needs)
-    (failed (c .before .sites-fit .ensures ∙ tile-test (a .boxes .now) (a .counts .now) (a .xs .now) (a .ys .now) (l .loop .t)
-    (c .before .before .box-of .ensures) (l .loop .inv .0) (c .before .before .before .wide .ensures .0)) (c .if1 .taken)))
+    (failed (c .before .sites-fit .ensures ∙ tile-test (a .boxes .now) (a .counts .now) (a .xs .now) (a .ys .now)
+    (l .loop .t)
+    (c .before .before .box-of .ensures) (l .loop .inv .0) (c .before .before .before .wide .ensures .0))
+    (c .if1 .taken)))
 
 add-first : tie.Need-add-first Inv-loop μ-loop
 add-first c =
@@ -82,11 +84,17 @@ loop-again : tie.Need-loop-again Inv-loop μ-loop
 loop-again c =
     let l = c .before .before .before .before .before .before in
     let a = l .before .before .args in (
-      omega (arith, offset-next (a .counts .now) (l .loop .t), l .loop .inv .0, c .before .before .before .wide .ensures),
+      omega (
+        arith,
+        offset-next (a .counts .now) (l .loop .t),
+        l .loop .inv .0,
+        c .before .before .before .wide .ensures,
+      ),
       search needs,
       below-more _ _ (l .loop .inv .2)
           (passed (c .before .sites-fit .ensures ∙ tile-test (a .boxes .now) (a .counts .now) (a .xs .now) (a .ys .now)
-          (l .loop .t) (c .before .before .box-of .ensures) (l .loop .inv .0) (c .before .before .before .wide .ensures .0))
+          (l .loop .t) (c .before .before .box-of .ensures) (l .loop .inv .0)
+          (c .before .before .before .wide .ensures .0))
           (c .if1 .left)),
     )
 
