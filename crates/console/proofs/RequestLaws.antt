@@ -15,7 +15,7 @@ use Rattle.base.proofs.Tests.{and-both}
 use Rattle.codec.specs.Number.{i32At}
 use Rattle.codec.proofs.Tabulate.{length-tabulate, tabulate-last}
 use Rattle.console.specs.Limits.{maxInput, requestStops}
-use Rattle.console.specs.Request.{stopCount, coordinates, headLength, wellFormed}
+use Rattle.console.specs.Request.{stopsAsked, coordinates, headLength, wellFormed}
 
 -- one more number of a stop, stored after the others
 pub stored-next : (input : List ℕ) (at i : ℕ) (l : List ℤ) (v : ℤ) → i < length l → take i l ≡ coordinates input at i →
@@ -32,13 +32,13 @@ stored-next input at i l v h e q =
 -- ---- a whole request
 pub record Whole (input : List ℕ) : Type 0 where
   pub long : 8 ≤ length input
-  pub few : stopCount input ≤ requestStops
-  pub stops : 8 + 8 * stopCount input ≤ length input
+  pub few : stopsAsked input ≤ requestStops
+  pub stops : 8 + 8 * stopsAsked input ≤ length input
 
 pub whole : (input : List ℕ) → wellFormed input ≡ true → Whole input
 unfolding wellFormed headLength
 whole input e =
-    let n = stopCount input in
+    let n = stopsAsked input in
     let p = and-both (leb 8 (length input) && leb (length input) maxInput)
     (leb n requestStops && leb (8 + 8 * n) (length input)) e in
     let q = and-both (leb 8 (length input)) (leb (length input) maxInput) (p .0) in

@@ -10,8 +10,8 @@ use Rattle.list.specs.Lists.{Lists, Slices, lent}
 use Rattle.blocks.specs.Layout.{maxTiles}
 use Rattle.console.specs.Limits.{requestPlaces}
 use Rattle.console.specs.Line.{refusedLine, countsLine, stopLine}
-use Rattle.console.specs.Text.{bytes}
-use Rattle.console.specs.Request.{kOf, stopCount, xsOf, ysOf, fileOf, wellFormed}
+use Rattle.console.specs.Text.{textBytes}
+use Rattle.console.specs.Request.{kOf, stopsAsked, xsOf, ysOf, fileOf, wellFormed}
 
 -- the program's own slices: room for all places and marks that a request can ask for, so that 14 never comes
 unfoldable pub emptySlices : Slices
@@ -32,4 +32,4 @@ unfoldable pub endText : ℕ → ℕ → End → List ℕ
 endText n k e = answerText n k (e .slices .lists) (e .outcome)
 
 unfoldable pub output : List ℕ → List ℕ
-output input = cond (wellFormed input) (endText (stopCount input) (kOf input) (endOf input)) (bytes "input\n")
+output input = cond (wellFormed input) (endText (stopsAsked input) (kOf input) (endOf input)) (textBytes "input\n")

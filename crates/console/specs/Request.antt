@@ -14,28 +14,28 @@ use Rattle.console.specs.Limits.{maxInput, requestStops}
 unfoldable pub kOf : List ℕ → ℕ
 kOf input = u32At input 0
 
-unfoldable pub stopCount : List ℕ → ℕ
-stopCount input = u32At input 4
+unfoldable pub stopsAsked : List ℕ → ℕ
+stopsAsked input = u32At input 4
 
 -- one number of every stop, the first of them at an index
 unfoldable pub coordinates : List ℕ → ℕ → ℕ → List ℤ
 coordinates input at n = tabulate (λ i. i32At input (at + 8 * i)) 0 n
 
 unfoldable pub xsOf : List ℕ → List ℤ
-xsOf input = coordinates input 8 (stopCount input)
+xsOf input = coordinates input 8 (stopsAsked input)
 
 unfoldable pub ysOf : List ℕ → List ℤ
-ysOf input = coordinates input 12 (stopCount input)
+ysOf input = coordinates input 12 (stopsAsked input)
 
 -- where the stops end and the file starts
 unfoldable pub headLength : ℕ → ℕ
 headLength n = 8 + 8 * n
 
 unfoldable pub fileOf : List ℕ → List ℕ
-fileOf input = drop (headLength (stopCount input)) input
+fileOf input = drop (headLength (stopsAsked input)) input
 
 -- "at most 65,536 bytes"; "Too long, n over 128 (its own limit), or cut before the stops end: it prints `input`"
 unfoldable pub wellFormed : List ℕ → Bool
 wellFormed input =
     (leb 8 (length input) && leb (length input) maxInput)
-    && (leb (stopCount input) requestStops && leb (headLength (stopCount input)) (length input))
+    && (leb (stopsAsked input) requestStops && leb (headLength (stopsAsked input)) (length input))

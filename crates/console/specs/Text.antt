@@ -10,9 +10,9 @@ use lib.ListN.{length}
 use Rattle.codec.specs.Over.{over}
 
 -- a text as bytes: the numbers of its characters
-abbrev pub bytes : String → List ℕ
-bytes nil = []
-bytes (c ∙∷ s) = code c ∷ bytes s
+abbrev pub textBytes : String → List ℕ
+textBytes nil = []
+textBytes (c ∙∷ s) = code c ∷ textBytes s
 
 -- how many digits n has in decimal: one below 10, else one more than n / 10; a number of 64 bits has at most 20
 unfoldable pub widthUpTo : ℕ → ℕ → ℕ

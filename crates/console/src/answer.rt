@@ -9,7 +9,7 @@ ghost use Rattle.list.specs.Lists.{lists};
 ghost use Rattle.console.specs.Inner.Room.{outputRoom, Printable};
 ghost use Rattle.console.specs.Limits.{requestStops};
 ghost use Rattle.console.specs.Output.{answerText, endText, endOf, output, emptySlices};
-ghost use Rattle.console.specs.Request.{stopCount, kOf, wellFormed};
+ghost use Rattle.console.specs.Request.{stopsAsked, kOf, wellFormed};
 ghost use Rattle.console.specs.Text.{Wrote};
 use crate::line::put_counts;
 use crate::line::put_refused;
@@ -80,7 +80,7 @@ fn put_join(file: &[u8], xs: &[i32], ys: &[i32], k: u32, out: &mut [u8]) -> usiz
 fn put_request(input: &[u8], out: &mut [u8]) -> usize
     requires { ⌜ (wellFormed (now input) ≡ true) × (outputRoom ≤ length (now out)) ⌝ }
     ensures text { λ r. ⌜ Wrote (now (out .entry)) 0
-        (endText (stopCount (now (input .entry))) (kOf (now (input .entry))) (endOf (now (input .entry))))
+        (endText (stopsAsked (now (input .entry))) (kOf (now (input .entry))) (endOf (now (input .entry))))
         (now (out .exit)) r ⌝ }
     ensures end { λ r. ⌜ r ≤ outputRoom ⌝ }
 {

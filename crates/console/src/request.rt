@@ -3,7 +3,7 @@ ghost use mathlib.Core.Path.{_≡_};
 ghost use Prim.Native.Nat.{_+_, _*_, _≤_};
 ghost use lib.ListN.{length, take};
 ghost use Rattle.console.specs.Limits.{requestStops};
-ghost use Rattle.console.specs.Request.{stopCount, coordinates, headLength, wellFormed};
+ghost use Rattle.console.specs.Request.{stopsAsked, coordinates, headLength, wellFormed};
 use codec::reading::i32_at;
 use codec::reading::u32_at;
 
@@ -14,7 +14,7 @@ pub const MAX_STOPS: usize = 128;
 
 pub fn stop_count(input: &[u8]) -> usize
     requires { ⌜ 8 ≤ length (now input) ⌝ }
-    ensures { λ r. ⌜ r ≡ stopCount (now (input .entry)) ⌝ }
+    ensures { λ r. ⌜ r ≡ stopsAsked (now (input .entry)) ⌝ }
 {
     u32_at(input, 4) as usize
 }

@@ -48,12 +48,12 @@ offset counts zero = 0
 offset counts (suc t) = offset counts t + countOf counts t
 
 -- "the sum of counts"
-abbrev pub total : List ℕ → ℕ
-total counts = offset counts (length counts)
+abbrev pub siteTotal : List ℕ → ℕ
+siteTotal counts = offset counts (length counts)
 
 -- where site i of the lists is
-abbrev pub pointOf : List ℤ → List ℤ → ℕ → List ℤ
-pointOf xs ys i = getD xs i (pos 0) ∷ getD ys i (pos 0) ∷ []
+abbrev pub suppliedPoint : List ℤ → List ℤ → ℕ → List ℤ
+suppliedPoint xs ys i = getD xs i (pos 0) ∷ getD ys i (pos 0) ∷ []
 
 -- the site of a tile's slot
 abbrev pub siteOf : Supply → ℕ → ℕ → Site

@@ -7,7 +7,7 @@ ghost use Rattle.blocks.specs.Layout.{axes, blockSize, siteSize, maxSites, maxT
 ghost use Rattle.codec.specs.Over.{over};
 ghost use Rattle.codec.specs.Tabulate.{joined};
 ghost use Rattle.encode.specs.Encode.{siteBytes, tileBytes, tileBytesOf, fileLength};
-ghost use Rattle.encode.specs.Supply.{headerOf, countOf, total};
+ghost use Rattle.encode.specs.Supply.{headerOf, countOf, siteTotal};
 use crate::head::put_checksum;
 use crate::head::put_head;
 use crate::lists::header_of;
@@ -84,8 +84,8 @@ pub fn put_tiles(d: &mut [u8], counts: &[u32], xs: &[i32], ys: &[i32], cues: &[u
     requires { ⌜
         (fileLength (headerOf (now counts)) ≤ length (now d)) × (length (now counts) ≤ maxTiles)
         × ((t : ℕ) → t < length (now counts) → countOf (now counts) t ≤ maxSites axes)
-        × (length (now xs) ≡ total (now counts)) × (length (now ys) ≡ total (now counts))
-        × (length (now cues) ≡ total (now counts)) ⌝ }
+        × (length (now xs) ≡ siteTotal (now counts)) × (length (now ys) ≡ siteTotal (now counts))
+        × (length (now cues) ≡ siteTotal (now counts)) ⌝ }
     ensures { λ _. ⌜
         now (d .exit) ≡ over (now (d .entry)) (blockSize * directoryBlocks (headerOf (now (counts .entry))))
         (joined (tileBytesOf (now (counts .entry)) (now (xs .entry)) (now (ys .entry)) (now (cues .entry))) 0

@@ -26,8 +26,8 @@ unfoldable pub blockCheck : List ℕ → ℕ
 blockCheck s = numberOf (blockTests s)
 
 -- "each low x, high x, low y, high y"
-abbrev pub boxOf : ℤ → ℤ → ℤ → ℤ → List (List ℤ)
-boxOf x0 x1 y0 y1 = (x0 ∷ x1 ∷ []) ∷ (y0 ∷ y1 ∷ []) ∷ []
+abbrev pub boxFrom : ℤ → ℤ → ℤ → ℤ → List (List ℤ)
+boxFrom x0 x1 y0 y1 = (x0 ∷ x1 ∷ []) ∷ (y0 ∷ y1 ∷ []) ∷ []
 
 -- "gives a signed 64-bit number, 9,000,000,000,000,000,000 for a bad box"
 abbrev pub badBox : ℤ

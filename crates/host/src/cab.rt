@@ -1,6 +1,6 @@
 // The two calls of the cab's sound host.
 ghost use mathlib.Core.Path.{_≡_};
-ghost use Rattle.host.specs.Cab.{blockCheck, boxOf, marginNumber};
+ghost use Rattle.host.specs.Cab.{blockCheck, boxFrom, marginNumber};
 use blocks::checksum;
 use blocks::layout;
 use geometry::margin::margin_within;
@@ -28,7 +28,7 @@ pub extern "C" fn nearby_block_check(block: &[u8]) -> u32
 
 // A box from its ends: 0 is a low end, 1 a high end.
 pub fn box_of(x0: i32, x1: i32, y0: i32, y1: i32) -> [[i32; 2]; 2]
-    ensures { λ r. ⌜ r ≡ boxOf x0 x1 y0 y1 ⌝ }
+    ensures { λ r. ⌜ r ≡ boxFrom x0 x1 y0 y1 ⌝ }
 {
     [[x0, x1], [y0, y1]]
 }
@@ -58,7 +58,7 @@ pub extern "C" fn nearby_margin(
     by0: i32,
     by1: i32,
 ) -> i64
-    ensures { λ r. ⌜ r ≡ marginNumber (boxOf ox0 ox1 oy0 oy1) (boxOf ex0 ex1 ey0 ey1) (boxOf bx0 bx1 by0 by1) ⌝ }
+    ensures { λ r. ⌜ r ≡ marginNumber (boxFrom ox0 ox1 oy0 oy1) (boxFrom ex0 ex1 ey0 ey1) (boxFrom bx0 bx1 by0 by1) ⌝ }
 {
     let o = box_of(ox0, ox1, oy0, oy1);
     let e = box_of(ex0, ex1, ey0, ey1);

@@ -8,7 +8,7 @@ ghost use Rattle.list.specs.Lists.{lent};
 ghost use Rattle.prune.specs.Prune.{pruneCall, marksAfter};
 ghost use Rattle.tiles.specs.Validate.{validate};
 ghost use Rattle.writer.specs.Write.{writeCall, writeExit};
-ghost use Rattle.host.specs.Cab.{boxOf};
+ghost use Rattle.host.specs.Cab.{boxFrom};
 ghost use Rattle.host.specs.Reports.{joinReport, pruneReport, validateReport, writeReport};
 use crate::cab::box_of;
 use crate::reports;
@@ -53,10 +53,10 @@ pub extern "C" fn nearby_prune(
     marks: &mut [u8],
 ) -> PruneReport
     ensures answer { λ r. ⌜
-        r ≡ pruneReport (pruneCall (now (file .entry)) (boxOf x0 x1 y0 y1) k (now (marks .entry))) ⌝ }
+        r ≡ pruneReport (pruneCall (now (file .entry)) (boxFrom x0 x1 y0 y1) k (now (marks .entry))) ⌝ }
     ensures marks { λ _. ⌜
-        now (marks .exit) ≡ marksAfter (now (file .entry)) (boxOf x0 x1 y0 y1) k (now (marks .entry))
-        (pruneCall (now (file .entry)) (boxOf x0 x1 y0 y1) k (now (marks .entry))) ⌝ }
+        now (marks .exit) ≡ marksAfter (now (file .entry)) (boxFrom x0 x1 y0 y1) k (now (marks .entry))
+        (pruneCall (now (file .entry)) (boxFrom x0 x1 y0 y1) k (now (marks .entry))) ⌝ }
 {
     let o = box_of(x0, x1, y0, y1);
     reports::report_prune(prune_call::prune(file, o, k, marks))

@@ -22,22 +22,22 @@ abbrev pub boxes : List (List (List ℤ))
 boxes = box (pos 0) (pos 10) (pos 0) (pos 0) ∷ box (negℤ (pos 10)) (negℤ (pos 4)) (pos 0) (pos 0) ∷ box (pos 10)
     (pos 12) (pos 0) (pos 0) ∷ []
 
-abbrev pub siteOf : ℤ → ℕ → List Site
-siteOf x cue = record { x = x; y = pos 0; cue = cue } ∷ []
+abbrev pub townSite : ℤ → ℕ → List Site
+townSite x cue = record { x = x; y = pos 0; cue = cue } ∷ []
 
 abbrev pub reading : ℕ → Outcome (List Site)
-reading t = getD (accepted (siteOf (pos 10) 7) ∷ accepted (siteOf (negℤ (pos 10)) 8) ∷ accepted
-    (siteOf (pos 11) 9) ∷ []) t (refused 0 0)
+reading t = getD (accepted (townSite (pos 10) 7) ∷ accepted (townSite (negℤ (pos 10)) 8) ∷ accepted
+    (townSite (pos 11) 9) ∷ []) t (refused 0 0)
 
 -- that town from "stop (0,0)"
 abbrev pub origin : List ℤ
 origin = pos 0 ∷ pos 0 ∷ []
 
-abbrev pub directory : Directory plane
-directory = record { tiles = 3; box = λ t. getD boxes t []; size = λ t. 1 }
+abbrev pub townDirectory : Directory plane
+townDirectory = record { tiles = 3; box = λ t. getD boxes t []; size = λ t. 1 }
 
-abbrev pub answer : ℕ → Run (List (List Place))
-answer k = join directory (box (pos 0) (pos 0) (pos 0) (pos 0)) k reading (origin ∷ [])
+abbrev pub townAnswer : ℕ → Run (List (List Place))
+townAnswer k = join townDirectory (box (pos 0) (pos 0) (pos 0) (pos 0)) k reading (origin ∷ [])
 
 pub data Case : Type 0 where
   by-geometry : geometry.Case → Case
@@ -59,8 +59,8 @@ abbrev pub Says : Case → Type 0
 Says (by-geometry c) = geometry.Says c
 Says (check-of bytes s) = (sync a c : ℕ) → sums (sync ∷ (bytes ++ (a ∷ c ∷ []))) ≡ s
 Says (town-with k l m) =
-    (answer k .outcome ≡ accepted (l ∷ []))
-    × (marks directory (box (pos 0) (pos 0) (pos 0) (pos 0)) k (answer k .openings) ≡ m)
+    (townAnswer k .outcome ≡ accepted (l ∷ []))
+    × (marks townDirectory (box (pos 0) (pos 0) (pos 0) (pos 0)) k (townAnswer k .openings) ≡ m)
 
 abbrev pub AllSay : List Case → Type 0
 AllSay [] = Unit

@@ -34,7 +34,7 @@ use Rattle.codec.proofs.Over.{length-over, getD-run}
 use Rattle.plan.proofs.Measures.{near-bounded}
 use Rattle.search.proofs.Pairs.{lex-less, lex-not-less}
 use Rattle.search.proofs.Sort.{sort-length, skip, stop}
-use Rattle.queue.specs.Inner.Keys.{none, least}
+use Rattle.queue.specs.Inner.Keys.{none, leastKey}
 use Rattle.queue.specs.declared.keys.Least.{Least}
 use Rattle.queue.proofs.Scanning.{least-low, least-here}
 
@@ -119,7 +119,7 @@ module _ {G : Geometry} (E : Directory G) (p : G .Stop) where
   module _ (keys : List ℕ) (a t : ℕ) (ts : List ℕ) (long : a + suc (length ts) ≤ length keys)
       (own : Own keys a (t ∷ ts)) (rise : Strict ltb (t ∷ ts)) where
     abbrev rest : Least
-    rest = least keys (suc a) (length ts)
+    rest = leastKey keys (suc a) (length ts)
 
     abbrev next : ℕ
     next = getD ts (rest .at - suc a) 0
@@ -184,11 +184,11 @@ module _ {G : Geometry} (E : Directory G) (p : G .Stop) where
         rw (from-off keys a t ts off, from-off keys′ a t ts (omega arith), d) ih)
 
   from-first : (keys : List ℕ) (a : ℕ) (ts : List ℕ) → a + length ts ≤ length keys → Own keys a ts → Strict ltb ts
-      → least keys a (length ts) .key < none → First keys a ts (least keys a (length ts))
-  unfolding least
+      → leastKey keys a (length ts) .key < none → First keys a ts (leastKey keys a (length ts))
+  unfolding leastKey
   from-first keys a [] long own rise h = absurd (omega arith)
   from-first keys a (t ∷ ts) long own rise h =
-      let r = least keys (suc a) (length ts) in
+      let r = leastKey keys (suc a) (length ts) in
       let ih : r .key < none → First keys (suc a) ts r =
       from-first keys (suc a) ts (omega arith) (λ i l. rw (shift a i) at (own (suc i) (omega arith))) (rise .1) in
       let k = getD keys a 0 in
@@ -207,12 +207,12 @@ pub record Keyed {G : Geometry} (E : Directory G) (p : G .Stop) (order keys : Li
   pub rise : Strict ltb order
 
 -- no key is left: no tile waits
-pub living-none : (order keys : List ℕ) → none ≤ least keys 0 (length order) .key → living order keys ≡ []
+pub living-none : (order keys : List ℕ) → none ≤ leastKey keys 0 (length order) .key → living order keys ≡ []
 living-none order keys h = from-none keys 0 order
     (λ i l. omega (arith, least-low keys 0 (length order) (0 + i) (omega arith) (omega arith)))
 
 module _ {G : Geometry} {E : Directory G} {p : G .Stop} {order keys : List ℕ} (q : Keyed E p order keys) (r : Least)
-    (e : r ≡ least keys 0 (length order)) (h : r .key < none) where
+    (e : r ≡ leastKey keys 0 (length order)) (h : r .key < none) where
   abbrev keys′ : List ℕ
   keys′ = set keys (r .at) none
 

@@ -10,7 +10,7 @@ ghost use Rattle.plan.specs.FilePlan.{entries};
 ghost use Rattle.plan.specs.Inner.Seam.{ValidStop};
 ghost use Rattle.search.specs.Lists.{All};
 ghost use Rattle.search.specs.Plan.{near};
-ghost use Rattle.queue.specs.Inner.Keys.{least, Passed};
+ghost use Rattle.queue.specs.Inner.Keys.{leastKey, Passed};
 use blocks::header::Header;
 use plan::measure;
 use plan::region::Stop;
@@ -38,8 +38,8 @@ pub struct Least {
 
 // The least of the first m keys, and the first place where it stands, where `found` is that of the keys from `from` on.
 fn earlier_key(keys: &[u64], m: usize, from: usize, found: Least) -> Least
-    requires { ⌜ (m ≤ length (now keys)) × (from ≤ m) × (found ≡ least (now keys) from (m - from)) ⌝ }
-    ensures { λ r. ⌜ r ≡ least (now (keys .entry)) 0 m ⌝ }
+    requires { ⌜ (m ≤ length (now keys)) × (from ≤ m) × (found ≡ leastKey (now keys) from (m - from)) ⌝ }
+    ensures { λ r. ⌜ r ≡ leastKey (now (keys .entry)) 0 m ⌝ }
 {
     let mut at = found.at;
     let mut key = found.key;
@@ -58,7 +58,7 @@ fn earlier_key(keys: &[u64], m: usize, from: usize, found: Least) -> Least
 // just before index `from`: another one like it comes next, and then the other keys need not be looked at.
 pub fn next_key(keys: &[u64], m: usize, from: usize, bound: u64) -> Least
     requires { ⌜ (m ≤ length (now keys)) × Passed (now keys) m from bound ⌝ }
-    ensures { λ r. ⌜ r ≡ least (now (keys .entry)) 0 m ⌝ }
+    ensures { λ r. ⌜ r ≡ leastKey (now (keys .entry)) 0 m ⌝ }
 {
     let mut at: usize = from;
     let mut key: u64 = NONE;

@@ -16,7 +16,7 @@ use Rattle.list.specs.Inner.Keeping.{places, Adds, Ready}
 use Rattle.list.specs.Lists.{Slices, lay, cleared}
 use Rattle.places.specs.declared.tile.Target.{Target}
 use Rattle.plan.specs.FilePlan.{plane, entries, openingOf}
-use Rattle.queue.specs.Inner.Keys.{none, least}
+use Rattle.queue.specs.Inner.Keys.{none, leastKey}
 use Rattle.queue.specs.declared.keys.Least.{Least}
 use Rattle.search.specs.Inner.Cut.{lastAhead}
 use Rattle.search.specs.Inner.Walk.{Trace, cutWalk}
@@ -94,7 +94,7 @@ module _ (f : List ℕ) (h : Header) (order : List ℕ) (g : Target) (o₀ : Sli
         }
 
     -- the next key
-    module _ (r : Least) (s : r ≡ least keys 0 (length order)) where
+    module _ (r : Least) (s : r ≡ leastKey keys 0 (length order)) where
       -- no tile waits
       pub turn-none : none ≤ r .key → StopServed f h whole (g .k) (g .at) o₀ (accepted used) o
       unfolding sort

@@ -20,7 +20,7 @@ use Rattle.codec.specs.Zeros.{zeros}
 use Rattle.codec.specs.Number.{limit16, Bytes, u16At}
 use Rattle.codec.specs.Tabulate.{joined}
 use Rattle.encode.specs.Encode.{entryBytes, siteBytes, directoryBytes, tileBytes}
-use Rattle.encode.specs.Supply.{headerOf, boxOf, countOf, pointOf}
+use Rattle.encode.specs.Supply.{headerOf, boxOf, countOf, suppliedPoint}
 use Rattle.geometry.specs.Box as geometry
 use Rattle.tiles.specs.Accepted.{GoodTileBlock}
 use Rattle.tiles.specs.Tile.{siteOffset, siteIn, sitePoint, tilePadding}
@@ -180,7 +180,7 @@ module _ (xs ys : List ℤ) (cues : List ℕ) (s : List ℕ) (p first n : ℕ) (
   sites-end = omega (arith, length-sites xs ys cues first n)
 
   pub tile-read : Signed xs → Signed ys → Unsigned cues → p < limit16 → (bounds : List (List ℤ)) →
-      ((slot : ℕ) → slot < n → geometry.inside bounds (pointOf xs ys (first + slot)) ≡ true) →
+      ((slot : ℕ) → slot < n → geometry.inside bounds (suppliedPoint xs ys (first + slot)) ≡ true) →
       Holds s 0 (tileBytes xs ys cues p first n) → GoodTileBlock s p bounds n × Sites xs ys cues s first n
   unfolding tileBytes sites tilePadding siteOffset
   tile-read sx sy sc lp bounds inside h =

@@ -16,7 +16,7 @@ use Rattle.blocks.specs.Layout.{axes, countOffset, entriesPerBlock}
 use Rattle.blocks.specs.declared.header.Header.{Header}
 use Rattle.codec.specs.Number.{limit32, limitSigned, Bytes, u32At, i32At}
 use Rattle.codec.specs.Tabulate.{tabulate, joined}
-use Rattle.encode.specs.Supply.{Supply, headerOf, tilesOf, numbersPerBox, boxOf, countOf, offset, total}
+use Rattle.encode.specs.Supply.{Supply, headerOf, tilesOf, numbersPerBox, boxOf, countOf, offset, siteTotal}
 use Rattle.tiles.specs.Accepted.{GoodFile}
 use Rattle.tiles.specs.Tile.{siteIn, siteAt}
 use Rattle.tiles.specs.declared.tile.Site.{Site}
@@ -83,7 +83,7 @@ module _ (f : List ℕ) (h : Header) where
         ∙ sym (count-own t l) in
         length-joined-next part 0 t ∙ omega (arith, e, column-starts t (omega arith))
 
-    column-length : length (column field f h) ≡ total counts
+    column-length : length (column field f h) ≡ siteTotal counts
     unfolding column part
     column-length = column-starts (h .tiles) (omega arith) ∙ ap (offset counts) (sym tiles-own)
 
@@ -214,7 +214,7 @@ module _ (f : List ℕ) (s : Supply) (g : GoodSupply s) (r : Reads f s) where
       ∙ parts (s .boxes) (pos 0) (λ t. numbersPerBox * t) (λ t. numbersPerBox) refl (λ t. omega arith) (g .numbers)
       (λ t l. omega (arith, g .numbers))
 
-  column-only : {A : Type 0} (field : Site → A) (l : List A) (d : A) → length l ≡ total (s .counts) →
+  column-only : {A : Type 0} (field : Site → A) (l : List A) (d : A) → length l ≡ siteTotal (s .counts) →
       ((t slot : ℕ) → t < tilesOf s → slot < countOf (s .counts) t →
       field (siteAt f (headerOf (s .counts)) t slot) ≡ getD l
       (offset (s .counts) t + slot) d) →

@@ -13,7 +13,8 @@ use Rattle.blocks.specs.Layout.{axes, blockSize, maxSites, maxTiles}
 use Rattle.codec.specs.Over.{over}
 use Rattle.codec.specs.Tabulate.{joined}
 use Rattle.encode.specs.Encode.{directoryBytes, tileBytesOf, fileBytes, fileLength}
-use Rattle.encode.specs.Supply.{Supply, headerOf, tilesOf, numbersPerBox, boxOf, countOf, offset, total, pointOf}
+use Rattle.encode.specs.Supply.{Supply, headerOf, tilesOf, numbersPerBox, boxOf, countOf, offset, siteTotal}
+use Rattle.encode.specs.Supply.{suppliedPoint}
 use Rattle.geometry.specs.Box.{validBox, inside}
 use Rattle.base.proofs.Outcomes.{require-accepted}
 use Rattle.base.proofs.Tests.{and-both, both-and}
@@ -45,10 +46,10 @@ lists-good sum x y cue e =
 
 tile-good : (boxes : List ℤ) (counts : List ℕ) (xs ys : List ℤ) (t : ℕ) → tileFits boxes counts xs ys t ≡ true →
     (slot : ℕ) →
-    slot < countOf counts t → inside (boxOf boxes t) (pointOf xs ys (offset counts t + slot)) ≡ true
+    slot < countOf counts t → inside (boxOf boxes t) (suppliedPoint xs ys (offset counts t + slot)) ≡ true
 unfolding tileFits sitesFit
 tile-good boxes counts xs ys t e slot l =
-    every-at (λ i. inside (boxOf boxes t) (pointOf xs ys (offset counts t + i))) (countOf counts t) slot e l
+    every-at (λ i. inside (boxOf boxes t) (suppliedPoint xs ys (offset counts t + i))) (countOf counts t) slot e l
 
 -- test 10 of tile t, by what the code goes by
 pub tile-test : (boxes : List ℤ) (counts : List ℕ) (xs ys : List ℤ) (t : ℕ) {b : List (List ℤ)} {first n : ℕ} →
@@ -70,7 +71,7 @@ module _ (s : Supply) (room : ℕ) where
       let g = require-accepted _ _ _ _ (d .1) in
       let h = require-accepted _ _ _ _ (g .1) in
       let t = tiles-good (tilesOf s) (a .0) in
-      let l = lists-good (total (s .counts)) (length (s .xs)) (length (s .ys)) (length (s .cues)) (d .0) in
+      let l = lists-good (siteTotal (s .counts)) (length (s .xs)) (length (s .ys)) (length (s .cues)) (d .0) in
       let v : (t : ℕ) → t < tilesOf s →
       (validBox (boxOf (s .boxes) t) ≡ true) × (countOf (s .counts) t ≤ maxSites axes) =
       λ t k. entry-good (s .boxes) (s .counts) t
@@ -96,7 +97,7 @@ module _ (s : Supply) (room : ℕ) where
       let v = every-holds (entryFits (s .boxes) (s .counts)) (tilesOf s)
       (λ t k. both-and (g .boxes t k) (le-leb (countOf (s .counts) t) (maxSites axes) (g .counts t k))) in
       let w = every-holds (tileFits (s .boxes) (s .counts) (s .xs) (s .ys)) (tilesOf s)
-      (λ t k. every-holds (λ i. inside (boxOf (s .boxes) t) (pointOf (s .xs) (s .ys) (offset (s .counts) t + i)))
+      (λ t k. every-holds (λ i. inside (boxOf (s .boxes) t) (suppliedPoint (s .xs) (s .ys) (offset (s .counts) t + i)))
       (countOf (s .counts) t)
       (λ slot m. g .inside t slot k m)) in
       rw (
@@ -104,9 +105,9 @@ module _ (s : Supply) (room : ℕ) where
         le-leb (tilesOf s) maxTiles (g .most),
         eq-eqb (length (s .boxes)) (numbersPerBox * tilesOf s) (g .numbers),
         v,
-        eq-eqb (length (s .xs)) (total (s .counts)) (g .xs),
-        eq-eqb (length (s .ys)) (total (s .counts)) (g .ys),
-        eq-eqb (length (s .cues)) (total (s .counts)) (g .cues),
+        eq-eqb (length (s .xs)) (siteTotal (s .counts)) (g .xs),
+        eq-eqb (length (s .ys)) (siteTotal (s .counts)) (g .ys),
+        eq-eqb (length (s .cues)) (siteTotal (s .counts)) (g .cues),
         w,
         le-leb (fileLength (headerOf (s .counts))) room h,
       )

@@ -11,7 +11,8 @@ use Rattle.blocks.specs.Layout.{maxTiles}
 use Rattle.base.specs.Every.{every}
 use Rattle.codec.specs.Over.{over}
 use Rattle.encode.specs.Encode.{fileBytes, fileLength}
-use Rattle.encode.specs.Supply.{Supply, headerOf, tilesOf, numbersPerBox, boxOf, countOf, offset, total, pointOf}
+use Rattle.encode.specs.Supply.{Supply, headerOf, tilesOf, numbersPerBox, boxOf, countOf, offset, siteTotal}
+use Rattle.encode.specs.Supply.{suppliedPoint}
 use Rattle.geometry.specs.Box.{inside}
 use Rattle.writer.specs.declared.write.WriteAnswer.{WriteAnswer}
 use Rattle.writer.specs.declared.write.WriteAnswer.the-variants.{Written, Refused}
@@ -30,7 +31,7 @@ listsFit sum x y cue = (eqb x sum && eqb y sum) && eqb cue sum
 
 -- 10 of n sites of the lists from site i on, and of tile t: "a site outside its box"
 unfoldable pub sitesFit : List (List ℤ) → List ℤ → List ℤ → ℕ → ℕ → Bool
-sitesFit bounds xs ys i n = every (λ slot. inside bounds (pointOf xs ys (i + slot))) n
+sitesFit bounds xs ys i n = every (λ slot. inside bounds (suppliedPoint xs ys (i + slot))) n
 
 unfoldable pub tileFits : List ℤ → List ℕ → List ℤ → List ℤ → ℕ → Bool
 tileFits boxes counts xs ys t = sitesFit (boxOf boxes t) xs ys (offset counts t) (countOf counts t)
@@ -42,7 +43,7 @@ writeTests s room =
     require (tilesFit (tilesOf s)) #tiles 0
     (require (eqb (length (s .boxes)) (numbersPerBox * tilesOf s)) #supply 0
     (require (every (entryFits (s .boxes) (s .counts)) (tilesOf s)) #box 0
-    (require (listsFit (total (s .counts)) (length (s .xs)) (length (s .ys)) (length (s .cues))) #supply 0
+    (require (listsFit (siteTotal (s .counts)) (length (s .xs)) (length (s .ys)) (length (s .cues))) #supply 0
     (require (every (tileFits (s .boxes) (s .counts) (s .xs) (s .ys)) (tilesOf s)) #stray 0
     (require (leb (fileLength (headerOf (s .counts))) room) #short 0
     (accepted tt))))))

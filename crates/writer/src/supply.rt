@@ -5,7 +5,7 @@ ghost use lib.ListN.{length};
 ghost use Rattle.blocks.specs.Layout.{axes, maxSites, maxTiles};
 ghost use Rattle.blocks.specs.Outcome.{numberOutcome};
 ghost use Rattle.base.specs.Every.{every};
-ghost use Rattle.encode.specs.Supply.{supply, numbersPerBox, boxOf, countOf, total, pointOf};
+ghost use Rattle.encode.specs.Supply.{supply, numbersPerBox, boxOf, countOf, siteTotal, suppliedPoint};
 ghost use Rattle.encode.specs.Encode.{fileLength};
 ghost use Rattle.geometry.specs.Box.{inside};
 ghost use Rattle.writer.specs.Write.{tilesFit, entryFits, listsFit, sitesFit, tileFits, writeTests};
@@ -69,7 +69,7 @@ fn sum_of(counts: &[u32]) -> usize
     requires { ⌜
         (length (now counts) ≤ maxTiles)
         × ((t : ℕ) → t < length (now counts) → countOf (now counts) t ≤ maxSites axes) ⌝ }
-    ensures { λ r. ⌜ r ≡ total (now (counts .entry)) ⌝ }
+    ensures { λ r. ⌜ r ≡ siteTotal (now (counts .entry)) ⌝ }
 {
     let mut sum = 0;
     let mut t = 0;
@@ -90,7 +90,7 @@ fn lists_fit(sum: usize, x: usize, y: usize, cue: usize) -> bool
 // Test 10 of site i of the lists.
 fn site_fits(bounds: [[i32; 2]; 2], xs: &[i32], ys: &[i32], i: usize) -> bool
     requires { ⌜ (i < length (now xs)) × (i < length (now ys)) ⌝ }
-    ensures { λ r. ⌜ r ≡ inside bounds (pointOf (now (xs .entry)) (now (ys .entry)) i) ⌝ }
+    ensures { λ r. ⌜ r ≡ inside bounds (suppliedPoint (now (xs .entry)) (now (ys .entry)) i) ⌝ }
 {
     let x = xs[i];
     let y = ys[i];
@@ -115,8 +115,8 @@ fn sites_fit(bounds: [[i32; 2]; 2], xs: &[i32], ys: &[i32], first: usize, n: usi
 // Test 10.
 fn tiles_inside(boxes: &[i32], counts: &[u32], xs: &[i32], ys: &[i32]) -> bool
     requires { ⌜
-        (length (now boxes) ≡ numbersPerBox * length (now counts)) × (length (now xs) ≡ total (now counts))
-        × (length (now ys) ≡ total (now counts)) ⌝ }
+        (length (now boxes) ≡ numbersPerBox * length (now counts)) × (length (now xs) ≡ siteTotal (now counts))
+        × (length (now ys) ≡ siteTotal (now counts)) ⌝ }
     ensures { λ r. ⌜
         r ≡ every (tileFits (now (boxes .entry)) (now (counts .entry)) (now (xs .entry)) (now (ys .entry)))
         (length (now (counts .entry))) ⌝ }

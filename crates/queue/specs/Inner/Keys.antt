@@ -3,7 +3,7 @@
 --   waits             by its mark not pruned, and with sites that rank
 --   spare, Gathers    what gathering leaves in a slice
 --   none              the key of a taken tile
---   lower, least     the least of some keys
+--   lower, leastKey   the least of some keys
 --   Passed            what is known once a key was taken
 use Prim.Native.Nat.{ℕ, zero, suc, _<_, _≤_}
 use mathlib.Core.Bool.{Bool, cond, not, _&&_}
@@ -41,9 +41,9 @@ abbrev pub lower : Least → Least → Least
 lower x y = cond (leb (x .key) (y .key)) x y
 
 -- the least of n keys from index a on, and the first place where it stands; of no key, none
-unfoldable pub least : List ℕ → ℕ → ℕ → Least
-least keys a zero = record { at = a; key = none }
-least keys a (suc n) = lower (record { at = a; key = getD keys a 0 }) (least keys (suc a) n)
+unfoldable pub leastKey : List ℕ → ℕ → ℕ → Least
+leastKey keys a zero = record { at = a; key = none }
+leastKey keys a (suc n) = lower (record { at = a; key = getD keys a 0 }) (leastKey keys (suc a) n)
 
 -- once a tile with the key `bound` was taken just before index `from`: no key is below it, and those before are above
 pub record Passed (keys : List ℕ) (m from bound : ℕ) : Type 0 where

@@ -1,7 +1,7 @@
 use native.Mathlib.Omega.{arith}
 use borrow.Author.Needs.{needs}
 use Rattle.console.specs.Line.{countsLine}
-use Rattle.console.specs.Text.{bytes}
+use Rattle.console.specs.Text.{textBytes}
 use Rattle.console.proofs.LineLaws.{counts-short}
 use Rattle.console.proofs.TextLaws.{then, room-after, digits-32, labelled-32}
 use Rattle.console.proofs.line.put_counts.Statement.{statement}
@@ -24,7 +24,7 @@ put-labelled-requires-2 c κs =
     let a : tie.After-put-labelled = search in
     let room = room-after 53 37 (a .put-labelled .ensures) (s .pre) (omega (
       arith,
-      labelled-32 (bytes "tiles ")
+      labelled-32 (textBytes "tiles ")
           (s .args .tiles) (s .fits .tiles .fits),
     )) in
     omega (arith, room, digits-32 (s .args .opened) (s .fits .opened .fits))
@@ -39,12 +39,12 @@ put-labelled-requires-3 c κs =
     let b : tie.After-put-labelled2 = search in
     let room = room-after 53 37 (a .put-labelled .ensures) (s .pre) (omega (
       arith,
-      labelled-32 (bytes "tiles ")
+      labelled-32 (textBytes "tiles ")
           (s .args .tiles) (s .fits .tiles .fits),
     )) in
     let more = room-after 37 19 (b .put-labelled2 .ensures) room (omega (
       arith,
-      labelled-32 (bytes " opened ")
+      labelled-32 (textBytes " opened ")
           (s .args .opened) (s .fits .opened .fits),
     )) in
     omega (arith, more, digits-32 (s .args .pruned) (s .fits .pruned .fits))
@@ -60,17 +60,17 @@ put-text-requires c κs =
     let d : tie.After-put-labelled3 = search in
     let room = room-after 53 37 (a .put-labelled .ensures) (s .pre) (omega (
       arith,
-      labelled-32 (bytes "tiles ")
+      labelled-32 (textBytes "tiles ")
           (s .args .tiles) (s .fits .tiles .fits),
     )) in
     let more = room-after 37 19 (b .put-labelled2 .ensures) room (omega (
       arith,
-      labelled-32 (bytes " opened ")
+      labelled-32 (textBytes " opened ")
           (s .args .opened) (s .fits .opened .fits),
     )) in
     room-after 19 1 (d .put-labelled3 .ensures) more (omega (
       arith,
-      labelled-32 (bytes " struck ")
+      labelled-32 (textBytes " struck ")
           (s .args .pruned) (s .fits .pruned .fits),
     ))
 

@@ -1,7 +1,7 @@
 use native.Mathlib.Omega.{arith}
 use borrow.Author.Needs.{needs}
 use Rattle.console.specs.Line.{placeText}
-use Rattle.console.specs.Text.{bytes}
+use Rattle.console.specs.Text.{textBytes}
 use Rattle.console.proofs.LineLaws.{distance-short}
 use Rattle.console.proofs.TextLaws.{then, room-after, digits-32, labelled-32}
 use Rattle.console.proofs.line.put_place.Statement.{statement}
@@ -39,7 +39,7 @@ put-labelled-requires-2 c κs =
     )) in
     let more = room-after 22 11 (a .put-labelled .ensures) room (omega (
       arith,
-      labelled-32 (bytes " ")
+      labelled-32 (textBytes " ")
           (s .args .site) (s .fits .site .fits),
     )) in
     omega (arith, more, digits-32 (s .args .cue) (s .fits .cue .fits))

@@ -3,7 +3,7 @@ use mathlib.Core.Path.{_≡_, refl, _∙_}
 use native.Mathlib.Omega.{arith}
 use lib.ListN.{length, getD}
 use borrow.Author.Needs.{needs}
-use Rattle.console.specs.Line.{placesText, placeAt}
+use Rattle.console.specs.Line.{placesText, textAt}
 use Rattle.console.proofs.LineLaws.{place-short}
 use Rattle.console.proofs.TextLaws.{Parts, parts-start, parts-turn, parts-end, same-room}
 use Rattle.console.proofs.line.put_places.Statement.{statement}
@@ -12,7 +12,7 @@ use Rattle.console.proofs.line.put_places.Tie as tie
 abbrev Inv-loop : tie.InvT-loop
 Inv-loop out₀ at dist site cue from used next₀ j₀ out next j =
     (j ≤ used) × (next ≤ at + 44 * j) × (length out ≡ length out₀)
-    × Parts (placeAt dist site cue from) used out₀ at out next j
+    × Parts (textAt dist site cue from) used out₀ at out next j
 
 abbrev μ-loop : tie.MeasureT-loop
 μ-loop out₀ at dist site cue from used next₀ j₀ out next j = used - j
@@ -60,7 +60,7 @@ loop-less : tie.Need-loop-less Inv-loop μ-loop
 loop-less c = search needs
 
 loop-again : tie.Need-loop-again Inv-loop μ-loop
-unfolding placeAt
+unfolding textAt
 loop-again c =
     let s = c .before .before .before .before .before .before .before .before .before .before .before .before .before in
     let l = c .before .before .before .before .before .before .before .before .loop in
@@ -86,7 +86,7 @@ loop-again c =
       omega (arith, short, w .end, l .inv .1),
       same-room w
           ∙ l .inv .2,
-      parts-turn (placeAt (s .args .dist .now) (s .args .site .now) (s .args .cue .now) (s .args .from))
+      parts-turn (textAt (s .args .dist .now) (s .args .site .now) (s .args .cue .now) (s .args .from))
           (s .args .used) (s .args .out .now) (s .args .at) (l .j) (omega arith) (l .inv .3) w,
     )
 
@@ -98,7 +98,7 @@ unfolding placesText
 returns c =
     let s = c .before .before .before .before .before .before in
     let l = c .before .loop in
-    parts-end (placeAt (s .args .dist .now) (s .args .site .now) (s .args .cue .now) (s .args .from)) (s .args .used)
+    parts-end (textAt (s .args .dist .now) (s .args .site .now) (s .args .cue .now) (s .args .from)) (s .args .used)
     (s .args .out .now) (s .args .at) (l .j) (omega arith) (l .inv .3)
 
 pub put-places-spec : {M : Type 1} → statement M

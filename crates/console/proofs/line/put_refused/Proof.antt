@@ -1,7 +1,7 @@
 use native.Mathlib.Omega.{arith}
 use borrow.Author.Needs.{needs}
 use Rattle.console.specs.Line.{refusedLine}
-use Rattle.console.specs.Text.{bytes}
+use Rattle.console.specs.Text.{textBytes}
 use Rattle.console.proofs.LineLaws.{refused-short}
 use Rattle.console.proofs.TextLaws.{then, room-after, digits-32, labelled-32}
 use Rattle.console.proofs.line.put_refused.Statement.{statement}
@@ -23,7 +23,7 @@ put-labelled-requires-2 c κs =
     let s : tie.Start = search in
     let a : tie.After-put-labelled = search in
     let room = room-after 36 18 (a .put-labelled .ensures) (s .pre)
-    (omega (arith, labelled-32 (bytes "refused ") (s .args .number) (s .fits .number .fits))) in
+    (omega (arith, labelled-32 (textBytes "refused ") (s .args .number) (s .fits .number .fits))) in
     omega (arith, room, digits-32 (s .args .block) (s .fits .block .fits))
 
 slice-aggregate-put-text : tie.Need-slice-aggregate-put-text
@@ -35,10 +35,10 @@ put-text-requires c κs =
     let a : tie.After-put-labelled = search in
     let b : tie.After-put-labelled2 = search in
     let room = room-after 36 18 (a .put-labelled .ensures) (s .pre)
-    (omega (arith, labelled-32 (bytes "refused ") (s .args .number) (s .fits .number .fits))) in
+    (omega (arith, labelled-32 (textBytes "refused ") (s .args .number) (s .fits .number .fits))) in
     room-after 18 1 (b .put-labelled2 .ensures) room (omega (
       arith,
-      labelled-32 (bytes " block ")
+      labelled-32 (textBytes " block ")
           (s .args .block) (s .fits .block .fits),
     ))
 

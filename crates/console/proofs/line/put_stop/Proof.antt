@@ -2,7 +2,7 @@ use Prim.Native.Nat.{_+_, _*_}
 use native.Mathlib.Omega.{arith}
 use borrow.Author.Needs.{needs}
 use Rattle.console.specs.Line.{stopLine}
-use Rattle.console.specs.Text.{bytes}
+use Rattle.console.specs.Text.{textBytes}
 use Rattle.console.proofs.LineLaws.{places-short}
 use Rattle.console.proofs.TextLaws.{then, room-after, digits-64, labelled-64}
 use Rattle.console.proofs.line.put_stop.Statement.{statement}
@@ -24,7 +24,7 @@ put-text-requires c κs =
     let s : tie.Start = search in
     let a : tie.After-put-labelled = search in
     let room = room-after (27 + 44 * s .args .used) (2 + 44 * s .args .used) (a .put-labelled .ensures)
-    (omega (arith, s .pre .0)) (omega (arith, labelled-64 (bytes "stop ") (s .args .i) (s .fits .i .fits))) in
+    (omega (arith, s .pre .0)) (omega (arith, labelled-64 (textBytes "stop ") (s .args .i) (s .fits .i .fits))) in
     omega (arith, room)
 
 mul-put-places : tie.Need-mul-put-places
@@ -36,7 +36,7 @@ put-places-requires c κs =
     let a : tie.After-put-labelled = search in
     let t : tie.After-put-text = search in
     let room = room-after (27 + 44 * s .args .used) (2 + 44 * s .args .used) (a .put-labelled .ensures)
-    (omega (arith, s .pre .0)) (omega (arith, labelled-64 (bytes "stop ") (s .args .i) (s .fits .i .fits))) in
+    (omega (arith, s .pre .0)) (omega (arith, labelled-64 (textBytes "stop ") (s .args .i) (s .fits .i .fits))) in
     let more = room-after (2 + 44 * s .args .used) (1 + 44 * s .args .used) (t .put-text .ensures) room (omega arith) in
     (omega (arith, more), s .pre .1)
 
@@ -53,7 +53,7 @@ put-text-requires-2 c κs =
     let n : tie.After-shared-slice-known3 = search in
     let p : tie.After-put-places = search in
     let room = room-after (27 + 44 * s .args .used) (2 + 44 * s .args .used) (a .put-labelled .ensures)
-    (omega (arith, s .pre .0)) (omega (arith, labelled-64 (bytes "stop ") (s .args .i) (s .fits .i .fits))) in
+    (omega (arith, s .pre .0)) (omega (arith, labelled-64 (textBytes "stop ") (s .args .i) (s .fits .i .fits))) in
     let more = room-after (2 + 44 * s .args .used) (1 + 44 * s .args .used) (t .put-text .ensures) room (omega arith) in
     let short = places-short (s .args .dist .now) (s .args .site .now) (s .args .cue .now)
     (λ i. omega (arith, l .shared-slice-known .given i)) (λ i. omega (arith, m .shared-slice-known2 .given i))

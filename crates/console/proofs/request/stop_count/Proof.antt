@@ -1,5 +1,5 @@
 use borrow.Author.Needs.{needs}
-use Rattle.console.specs.Request.{stopCount}
+use Rattle.console.specs.Request.{stopsAsked}
 use Rattle.console.proofs.request.stop_count.Statement.{statement}
 use Rattle.console.proofs.request.stop_count.Tie as tie
 
@@ -10,7 +10,7 @@ cast-result : tie.Need-cast-result
 cast-result c = search needs
 
 returns : tie.Need-returns
-unfolding stopCount
+unfolding stopsAsked
 returns c = c .u32-at .ensures
 
 pub stop-count-spec : {M : Type 1} → statement M

@@ -2,13 +2,13 @@ use Prim.Native.Nat.{_+_, _-_, _≤_}
 use mathlib.Core.Path.{_≡_}
 use native.Mathlib.Omega.{arith}
 use borrow.Author.Needs.{needs}
-use Rattle.queue.specs.Inner.Keys.{least}
+use Rattle.queue.specs.Inner.Keys.{leastKey}
 use Rattle.queue.proofs.Scanning.{earlier-new, earlier-same}
 use Rattle.queue.proofs.keys.earlier_key.Statement.{statement}
 use Rattle.queue.proofs.keys.earlier_key.Tie as tie
 
 abbrev Inv-loop : tie.InvT-loop
-Inv-loop keys m from at₀ key₀ j₀ at key j = (j ≤ from) × (record { at = at; key = key } ≡ least keys j (m - j))
+Inv-loop keys m from at₀ key₀ j₀ at key j = (j ≤ from) × (record { at = at; key = key } ≡ leastKey keys j (m - j))
 
 abbrev μ-loop : tie.MeasureT-loop
 μ-loop keys m from at₀ key₀ j₀ at key j = j

@@ -9,7 +9,7 @@ use borrow.Author.Tests.{eq-eqb, ne-eqb}
 use Rattle.base.specs.Refusal.{accepted, require, #stray, #short}
 use Rattle.base.specs.Every.{every}
 use Rattle.encode.specs.Encode.{fileLength}
-use Rattle.encode.specs.Supply.{supply, headerOf, numbersPerBox, total}
+use Rattle.encode.specs.Supply.{supply, headerOf, numbersPerBox, siteTotal}
 use Rattle.blocks.proofs.TestLaws.{passed, failed}
 use Rattle.base.proofs.Every.{every-at}
 use Rattle.writer.specs.Write.{tilesFit, entryFits, listsFit, tileFits, writeTests}
@@ -35,7 +35,7 @@ pass-3 c = let t : tie.After-entries-fit = search in passed (t .entries-fit .ens
 lists : (c : tie.After-lists-fit) →
     let s : tie.Start = search in
     let a = s .args in
-    c .lists-fit .result ≡ listsFit (total (a .counts .now)) (length (a .xs .now)) (length (a .ys .now))
+    c .lists-fit .result ≡ listsFit (siteTotal (a .counts .now)) (length (a .xs .now)) (length (a .ys .now))
     (length (a .cues .now))
 lists c =
     let s : tie.Start = search in
@@ -47,7 +47,7 @@ lists c =
 pass-4 : (c : tie.Else4) →
     let s : tie.Start = search in
     let a = s .args in
-    listsFit (total (a .counts .now)) (length (a .xs .now)) (length (a .ys .now)) (length (a .cues .now)) ≡ true
+    listsFit (siteTotal (a .counts .now)) (length (a .xs .now)) (length (a .ys .now)) (length (a .cues .now)) ≡ true
 pass-4 c = passed (lists search) (c .if4 .left)
 
 -- what is left of the tests
@@ -119,7 +119,7 @@ tiles-inside-requires c κs =
     let s : tie.Start = search in
     let e : tie.Else2 = search in
     let a = s .args in
-    let l = lists-good (total (a .counts .now)) (length (a .xs .now)) (length (a .ys .now)) (length (a .cues .now))
+    let l = lists-good (siteTotal (a .counts .now)) (length (a .xs .now)) (length (a .ys .now)) (length (a .cues .now))
     (pass-4 c) in
     (e .if2 .left, l .0, l .1)
 
