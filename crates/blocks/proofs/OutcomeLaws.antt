@@ -5,7 +5,8 @@ use native.Mathlib.Nat.{add-zero, not-suc-le-zero}
 use native.Mathlib.Omega.{arith}
 use Rattle.base.specs.Refusal.{Outcome, accepted, refused}
 use Rattle.base.proofs.Outcomes.{andThen-accepted}
-use Rattle.blocks.specs.Outcome.{numberOutcome, inTurn}
+use Rattle.blocks.specs.Inner.Number.{numberOutcome}
+use Rattle.blocks.specs.Outcome.{inTurn}
 
 module _ (n p : ℕ) {o : Outcome Unit} where
   pub number-accepted : numberOutcome n p ≡ o → n ≡ 0 → o ≡ accepted tt

@@ -5,3 +5,4 @@ pub mod Block
 pub mod Directory
 pub mod Accepted
 pub mod Same
+pub mod Inner

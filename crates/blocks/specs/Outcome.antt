@@ -10,11 +10,6 @@ abbrev pub directoryOutcome : DirectoryAnswer → Outcome Header
 directoryOutcome (Accepted h) = accepted h
 directoryOutcome (Refused r) = refused (r .number) (r .block)
 
--- of a call that answers the number of the first test failed by the block at p, or 0
-abbrev pub numberOutcome : ℕ → ℕ → Outcome Unit
-numberOutcome zero p = accepted tt
-numberOutcome (suc n) p = refused (suc n) p
-
 -- n tests in turn, of p and the numbers after it: the first refusal decides
 unfoldable pub inTurn : {A : Type 0} → (ℕ → Outcome A) → ℕ → ℕ → Outcome Unit
 inTurn test p zero = accepted tt

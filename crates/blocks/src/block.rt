@@ -4,7 +4,7 @@ ghost use Prim.Native.Nat.{_+_, _*_, _<_, _≤_};
 ghost use lib.ListN.{length};
 ghost use Rattle.codec.specs.Number.{limit16};
 ghost use Rattle.blocks.specs.Layout.{blockSize};
-ghost use Rattle.blocks.specs.Outcome.{numberOutcome};
+ghost use Rattle.blocks.specs.Inner.Number.{numberOutcome};
 ghost use Rattle.blocks.specs.Block.{blockAt, headerIn, kindDue, blockHead};
 use crate::checksum;
 use crate::header::Header;

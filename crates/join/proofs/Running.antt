@@ -22,7 +22,8 @@ use Rattle.plan.specs.Inner.Seam.{ValidRegion}
 use Rattle.prune.specs.Prune.{pruneMarks}
 use Rattle.queue.specs.Inner.Keys.{waits}
 use Rattle.search.specs.Lists.{range, bit, count, member}
-use Rattle.search.specs.Limits.{maxK, maxPlaces}
+use Rattle.search.specs.Inner.Places.{maxPlaces}
+use Rattle.search.specs.Limits.{maxK}
 use Rattle.search.specs.Plan.{Lawful, ranked}
 use Rattle.search.specs.Pruning.{pruned, prunedCount}
 use Rattle.search.specs.Run.{noPlace, candidate, candidates, queue, join, slices, placesUsed, mark, marks, openedMark}

@@ -2,7 +2,7 @@
 // here is
 // only what an operating system can refuse.
 ghost use lib.ListN.{length};
-ghost use Rattle.nearby.specs.Input.{Within};
+ghost use Rattle.nearby.specs.Inner.Input.{Within};
 use console::answer::ROOM;
 use console::answer::respond;
 use console::request::MAX_INPUT;

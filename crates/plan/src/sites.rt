@@ -4,7 +4,7 @@ ghost use Prim.Native.Nat.{_<_, _≤_};
 ghost use lib.ListN.{length};
 ghost use Rattle.base.specs.Refusal.{accepted, andThen};
 ghost use Rattle.search.specs.Plan.{slots, ranked};
-ghost use Rattle.tiles.specs.Outcome.{openingOutcome};
+ghost use Rattle.tiles.specs.Inner.Opening.{openingOutcome};
 ghost use Rattle.tiles.specs.Tile.{siteIn};
 ghost use Rattle.plan.specs.FilePlan.{entries, openingOf, townOf};
 ghost use Rattle.plan.specs.Inner.Seam.{TileOf, ValidStop, Opens, Sited, BlockOf, sitePlace};

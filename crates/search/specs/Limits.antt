@@ -1,5 +1,5 @@
 -- Document 01, "Numbers given to bad input", 11 and 12: how many places and how many stops a call may ask for.
-use Prim.Native.Nat.{ℕ, _*_}
+use Prim.Native.Nat.{ℕ}
 use mathlib.Core.Bool.{Bool, _&&_}
 use lib.Dec.{leb}
 
@@ -8,10 +8,6 @@ maxK = 64
 
 abbrev pub maxStops : ℕ
 maxStops = 256
-
--- places of a run
-abbrev pub maxPlaces : ℕ
-maxPlaces = maxStops * maxK
 
 -- 11: "k: 0 or over 64"
 unfoldable pub validK : ℕ → Bool

@@ -8,7 +8,7 @@ ghost use Rattle.plan.specs.FilePlan.{openingOf};
 ghost use Rattle.plan.specs.Inner.Seam.{TileOf};
 ghost use Rattle.search.specs.Lists.{count};
 ghost use Rattle.search.specs.Run.{openedMark};
-ghost use Rattle.tiles.specs.Outcome.{openingOutcome};
+ghost use Rattle.tiles.specs.Inner.Opening.{openingOutcome};
 ghost use Rattle.serve.specs.Inner.Marks.{markFrom, OpenedOpen};
 use blocks::header::Header;
 use plan::sites;

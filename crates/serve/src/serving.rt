@@ -6,7 +6,7 @@ ghost use lib.ListN.{length};
 ghost use Rattle.base.specs.Refusal.{accepted, andThen};
 ghost use Rattle.list.specs.Lists.{lent};
 ghost use Rattle.plan.specs.FilePlan.{openingOf};
-ghost use Rattle.tiles.specs.Outcome.{openingOutcome};
+ghost use Rattle.tiles.specs.Inner.Opening.{openingOutcome};
 ghost use Rattle.serve.specs.Inner.Serving.{servingOutcome, TileReady, withSites, afterTile};
 ghost use Rattle.serve.specs.Inner.Serving.{StopReady, StopServed, walkOf, StopsReady, StopsServed, waiting};
 ghost use Rattle.serve.specs.Inner.Serving.{walksOf};

@@ -10,7 +10,8 @@ use lib.ListN.{length}
 use borrow.Author.Tests.{leb-true, eqb-true, eq-eqb}
 use Rattle.base.specs.Lists.{All}
 use Rattle.base.specs.Refusal.{accepted, #k, #stops, #spot, #short}
-use Rattle.search.specs.Limits.{validK, maxK, maxStops, maxPlaces}
+use Rattle.search.specs.Inner.Places.{maxPlaces}
+use Rattle.search.specs.Limits.{validK, maxK, maxStops}
 use Rattle.base.proofs.Every.{every-at}
 use Rattle.base.proofs.Outcomes.{require-accepted}
 use Rattle.base.proofs.Tests.{and-both, by-test}

@@ -7,7 +7,7 @@ ghost use Rattle.base.specs.Every.{every};
 ghost use Rattle.codec.specs.Number.{limit16};
 ghost use Rattle.blocks.specs.Layout.{axes, blockSize, payloadAt, siteSize, maxSites};
 ghost use Rattle.blocks.specs.Directory.{directory, countAt};
-ghost use Rattle.tiles.specs.Outcome.{openingOutcome};
+ghost use Rattle.tiles.specs.Inner.Opening.{openingOutcome};
 ghost use Rattle.tiles.specs.Tile.{siteOffset, siteIn, tilePadding, siteInside, tileBlock, tilePosition};
 ghost use Rattle.tiles.specs.Tile.{openTile, siteAt};
 use base::Refusal;

@@ -22,8 +22,8 @@ use Rattle.plan.specs.FilePlan.{plane, entries, openingOf}
 use Rattle.plan.specs.Inner.Seam.{TileOf, ValidStop}
 use Rattle.queue.specs.Inner.Keys.{waits}
 use Rattle.search.specs.Inner.Cut.{inserts}
+use Rattle.search.specs.Inner.Places.{maxPlaces}
 use Rattle.search.specs.Inner.Walk.{Trace, cutWalk, cutWalks}
-use Rattle.search.specs.Limits.{maxPlaces}
 use Rattle.search.specs.Lists.{range, filter}
 use Rattle.search.specs.Order.{Strict}
 use Rattle.search.specs.Run.{noPlace, rank, tilePlaces, inOrder, slices, openedMark}

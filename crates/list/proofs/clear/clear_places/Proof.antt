@@ -4,31 +4,24 @@ use Rattle.list.proofs.Padding.{clear-lays}
 use Rattle.list.proofs.clear.clear_places.Statement.{statement}
 use Rattle.list.proofs.clear.clear_places.Tie as tie
 
--- src/clear.rt:48:5
 clear64-requires : tie.Need-clear64-requires
 clear64-requires c κs = search needs
 
--- src/clear.rt:49:5
 clear32-requires : tie.Need-clear32-requires
 clear32-requires c κs = search needs
 
--- src/clear.rt:50:5
 clear32-requires-2 : tie.Need-clear32-requires-2
 clear32-requires-2 c κs = search needs
 
--- src/clear.rt:43:1
 same-length : tie.Need-same-length
 same-length c = search needs
 
--- src/clear.rt:43:1
 same-length-2 : tie.Need-same-length-2
 same-length-2 c = search needs
 
--- src/clear.rt:43:1
 same-length-3 : tie.Need-same-length-3
 same-length-3 c = search needs
 
--- src/clear.rt:43:1
 returns : tie.Need-returns
 returns c =
     let a : tie.After-clear64 = search in

@@ -1,6 +1,6 @@
 use mathlib.Core.Path.{ap, sym}
 use borrow.Author.Needs.{needs}
-use Rattle.tiles.specs.Outcome.{openingOutcome}
+use Rattle.tiles.specs.Inner.Opening.{openingOutcome}
 use Rattle.serve.proofs.serving.passed_on.Statement.{statement}
 use Rattle.serve.proofs.serving.passed_on.Tie as tie
 

@@ -4,7 +4,7 @@ use Rattle.base.specs.Refusal.{accepted}
 use lib.ListN.{length}
 use Rattle.plan.specs.FilePlan.{openingOf}
 use Rattle.plan.specs.Inner.Seam.{Opens}
-use Rattle.tiles.specs.Outcome.{openingOutcome}
+use Rattle.tiles.specs.Inner.Opening.{openingOutcome}
 use Rattle.base.proofs.Outcomes.{andThen-accepted, andThen-refused}
 use Rattle.blocks.proofs.OutcomeLaws.{told}
 use Rattle.plan.proofs.Theorems.{opens-own-town}

@@ -4,7 +4,7 @@ use native.Mathlib.Nat.{sub-zero}
 use borrow.Author.Needs.{needs}
 use Rattle.blocks.specs.Outcome.{inTurn}
 use Rattle.blocks.proofs.OutcomeLaws.{turn-refused, turn-accepted, turn-end, told}
-use Rattle.tiles.specs.Outcome.{openingOutcome}
+use Rattle.tiles.specs.Inner.Opening.{openingOutcome}
 use Rattle.tiles.specs.Tile.{openTile}
 use Rattle.tiles.specs.Validate.{openAll}
 use Rattle.tiles.proofs.validate.open_all.Statement.{statement}
