@@ -93,138 +93,149 @@ module _ (f : List ℕ) (h : Header) (order : List ℕ) (cols : List (List ℤ))
       ∙ lay-under (o .lists) at 0 few zeros (omega arith) (omega arith) in
       rw (lists, ap (λ (z : Slices). z .marks) e)
 
-  module _ {o : Slices} {i at used : ℕ} (turn : StopTurn o i at used) where
-    -- no stop is left
-    pub turn-ends : stopCount cols ≤ i → StopsServed h whole k allPlaces o₀ (accepted used) o
-    unfolding rows markAll slices
-    turn-ends l = record {
-      outcome = rw (end .out) (ap accepted (end .last));
-      answered = λ ls q. rw (← (accepted-injective (sym (end .out) ∙ q)), ← (end .laid), lay-nil (o .lists) at, marks);
-      under = turn .under;
-    }
-      where
-        none : rest i ≡ record { asked = []; out = accepted [] }
-        none =
-            let e : stopCount cols - i ≡ 0 = omega arith in
-            rw e (cuts-end (entries f h) k (openingOf f h) (inOrder (entries f h) order))
+-- one turn
+module _ {f : List ℕ} {h : Header} {order : List ℕ} {cols : List (List ℤ)} {k : ℕ} {o₀ o : Slices} {i at used : ℕ}
+    (turn : StopTurn f h order cols k o₀ o i at used) where
+  abbrev W : Trace (List (List Place))
+  W = whole f h order cols k o₀
 
-        end : Ends o at used []
-        end = turn .fine [] (ap (λ w. w .out) none)
+  abbrev R : ℕ → Trace (List (List Place))
+  R j = rest f h order cols k o₀ j
 
-        marks : markAll (o₀ .marks) (whole .asked) ≡ o .marks
-        marks = turn .asked ∙ ap (λ w. markAll (o .marks) (w .asked)) none
+  abbrev N : ℕ
+  N = allPlaces f h order cols k o₀
 
-    -- the stop at i
-    module _ (l : i < stopCount cols) where
-      fits : at + k ≤ allPlaces
-      fits =
-          let a = suc-mul i k in
-          let c = mul-le-mul-right {m = suc i} {n = stopCount cols} k l in
-          omega (arith, turn .place)
+  -- no stop is left
+  pub turn-ends : stopCount cols ≤ i → StopsServed h W k N o₀ (accepted used) o
+  unfolding rows markAll slices
+  turn-ends l = record {
+    outcome = rw (end .out) (ap accepted (end .last));
+    answered = λ ls q. rw (← (accepted-injective (sym (end .out) ∙ q)), ← (end .laid), lay-nil (o .lists) at, marks);
+    under = turn .under;
+  }
+    where
+      none : R i ≡ record { asked = []; out = accepted [] }
+      none =
+          let e : stopCount cols - i ≡ 0 = omega arith in
+          rw e (cuts-end (entries f h) k (openingOf f h) (inOrder (entries f h) order))
 
-      pub turn-ready : 0 < k → Long (o₀ .lists) allPlaces → Ready (o .lists) at 0 k
-      unfolding places tabulate
-      turn-ready some long =
-          let w = fits in
+      end : Ends f h order cols k o₀ o at used []
+      end = turn .fine [] (ap (λ w. w .out) none)
+
+      marks : markAll (o₀ .marks) (W .asked) ≡ o .marks
+      marks = turn .asked ∙ ap (λ w. markAll (o .marks) (w .asked)) none
+
+  -- the stop at i
+  module _ (l : i < stopCount cols) where
+    fits : at + k ≤ N
+    fits =
+        let a = suc-mul i k in
+        let c = mul-le-mul-right {m = suc i} {n = stopCount cols} k l in
+        omega (arith, turn .place)
+
+    pub turn-ready : 0 < k → Long (o₀ .lists) N → Ready (o .lists) at 0 k
+    unfolding places tabulate
+    turn-ready some long =
+        let w = fits in
+        record {
+          some = some;
+          few = omega arith;
+          long = (
+            omega (arith, turn .d, long .0),
+            (omega (arith, turn .s, long .1 .0), omega (arith, turn .c, long .1 .1)),
+          );
+          sorted = tt;
+        }
+
+    module _ {r : Outcome ℕ} {o′ : Slices} (x : StopServed f h (walkOf f h order (stopAt cols i) k) k at o r o′) where
+      abbrev stop : Trace (List Place)
+      stop = walkOf f h order (stopAt cols i) k
+
+      stops-are : rows cols i (stopCount cols - i) ≡ stopAt cols i ∷ rows cols (i + 1) (stopCount cols - (i + 1))
+      unfolding rows
+      stops-are = let e : stopCount cols - i ≡ suc (stopCount cols - (i + 1)) = omega arith in rw (e, add-one i)
+
+      -- it is refused
+      pub turn-refused : (a b : ℕ) → r ≡ refused a b → StopsServed h W k N o₀ (refused a b) o′
+      turn-refused a b e =
+          let q : stop .out ≡ refused a b = lengths (stop .out) (sym (x .outcome) ∙ e) in
+          let w : W .out ≡ refused a b = turn .bad a b (rw stops-are
+          (cuts-refused (entries f h) k (openingOf f h) (inOrder (entries f h) order) (stopAt cols i) _ a b q)) in
           record {
-            some = some;
-            few = omega arith;
-            long = (
-              omega (arith, turn .d, long .0),
-              (omega (arith, turn .s, long .1 .0), omega (arith, turn .c, long .1 .1)),
-            );
-            sorted = tt;
+            outcome = rw w;
+            answered = λ ls z. accepted-refused z w;
+            under = covered f h order cols k o₀ o o′ at fits (x .under) ∙ turn .under;
           }
+        where
+          lengths : (z : Outcome (List Place)) → andThen z (λ l. accepted (length l)) ≡ refused a b → z ≡ refused a b
+          lengths (accepted l) w = accepted-refused refl w
+          lengths (refused n p) w = cc
 
-      module _ {r : Outcome ℕ} {o′ : Slices} (x : StopServed f h (walkOf f h order (stopAt cols i) k) k at o r o′) where
-        abbrev stop : Trace (List Place)
-        stop = walkOf f h order (stopAt cols i) k
+      -- it is served
+      module _ (n : ℕ) (e : r ≡ accepted n) where
+        found : (l : List Place) × (stop .out ≡ accepted l) × (_≡_ {A = Outcome ℕ} (accepted (length l)) (accepted n))
+        found = andThen-accepted (stop .out) (λ l. accepted (length l)) (sym (x .outcome) ∙ e)
 
-        stops-are : rows cols i (stopCount cols - i) ≡ stopAt cols i ∷ rows cols (i + 1) (stopCount cols - (i + 1))
-        unfolding rows
-        stops-are = let e : stopCount cols - i ≡ suc (stopCount cols - (i + 1)) = omega arith in rw (e, add-one i)
+        list : List Place
+        list = found .0
 
-        -- it is refused
-        pub turn-refused : (a b : ℕ) → r ≡ refused a b → StopsServed h whole k allPlaces o₀ (refused a b) o′
-        turn-refused a b e =
-            let q : stop .out ≡ refused a b = lengths (stop .out) (sym (x .outcome) ∙ e) in
-            let w : whole .out ≡ refused a b = turn .bad a b (rw stops-are
-            (cuts-refused (entries f h) k (openingOf f h) (inOrder (entries f h) order) (stopAt cols i) _ a b q)) in
+        came : stop .out ≡ accepted list
+        unfolding list
+        came = found .1
+
+        few : length list ≤ k
+        few = x .few list came
+
+        number : length list ≡ n
+        unfolding list
+        number = accepted-injective (found .2)
+
+        lists-are : o′ .lists ≡ lay (o .lists) at list
+        lists-are = ap (λ z. z .lists) (x .answered list came)
+
+        marks-are : o′ .marks ≡ markAll (o .marks) (stop .asked)
+        marks-are = ap (λ z. z .marks) (x .answered list came)
+
+        rest-is : R i ≡ record {
+          asked = stop .asked ++ R (i + 1) .asked;
+          out = andThen (R (i + 1) .out) (λ ls. accepted (list ∷ ls));
+        }
+        rest-is = rw stops-are
+            (cuts-next (entries f h) k (openingOf f h) (inOrder (entries f h) order) (stopAt cols i) _ list came)
+
+        fine : (ls : List (List Place)) → R (i + 1) .out ≡ accepted ls → Ends f h order cols k o₀ o′ (at + k) n ls
+        fine ls z =
+            let p = turn .fine (list ∷ ls) (ap (λ w. w .out) rest-is ∙ rw z) in
+            let w = fits in
             record {
-              outcome = rw w;
-              answered = λ ls z. accepted-refused z w;
-              under = covered o o′ at fits (x .under) ∙ turn .under;
+              all = p .all;
+              out = p .out;
+              laid = ap (λ y. lay y (at + k) (slices k ls)) lists-are
+                  ∙ stop-laid k (o .lists) at list (λ j a b. turn .clear j a (omega arith)) few ls ∙ p .laid;
+              last = ap (λ (y : ℕ). lastLength y ls) (sym number) ∙ p .last;
             }
-          where
-            lengths : (z : Outcome (List Place)) → andThen z (λ l. accepted (length l)) ≡ refused a b → z ≡ refused a b
-            lengths (accepted l) w = accepted-refused refl w
-            lengths (refused n p) w = cc
 
-        -- it is served
-        module _ (n : ℕ) (e : r ≡ accepted n) where
-          found : (l : List Place) × (stop .out ≡ accepted l) × (_≡_ {A = Outcome ℕ} (accepted (length l)) (accepted n))
-          found = andThen-accepted (stop .out) (λ l. accepted (length l)) (sym (x .outcome) ∙ e)
-
-          list : List Place
-          list = found .0
-
-          came : stop .out ≡ accepted list
-          unfolding list
-          came = found .1
-
-          few : length list ≤ k
-          few = x .few list came
-
-          number : length list ≡ n
-          unfolding list
-          number = accepted-injective (found .2)
-
-          lists-are : o′ .lists ≡ lay (o .lists) at list
-          lists-are = ap (λ z. z .lists) (x .answered list came)
-
-          marks-are : o′ .marks ≡ markAll (o .marks) (stop .asked)
-          marks-are = ap (λ z. z .marks) (x .answered list came)
-
-          rest-is : rest i ≡ record {
-            asked = stop .asked ++ rest (i + 1) .asked;
-            out = andThen (rest (i + 1) .out) (λ ls. accepted (list ∷ ls));
-          }
-          rest-is = rw stops-are
-              (cuts-next (entries f h) k (openingOf f h) (inOrder (entries f h) order) (stopAt cols i) _ list came)
-
-          fine : (ls : List (List Place)) → rest (i + 1) .out ≡ accepted ls → Ends o′ (at + k) n ls
-          fine ls z =
-              let p = turn .fine (list ∷ ls) (ap (λ w. w .out) rest-is ∙ rw z) in
-              let w = fits in
-              record {
-                all = p .all;
-                out = p .out;
-                laid = ap (λ y. lay y (at + k) (slices k ls)) lists-are
-                    ∙ stop-laid k (o .lists) at list (λ j a b. turn .clear j a (omega arith)) few ls ∙ p .laid;
-                last = ap (λ (y : ℕ). lastLength y ls) (sym number) ∙ p .last;
-              }
-
-          pub turn-next : StopTurn o′ (i + 1) (at + k) n
-          turn-next =
-              let q = lay-lengths (o .lists) at list in
-              let u = suc-mul i k in
-              let v : (i + 1) * k ≡ suc i * k = ap (λ (j : ℕ). j * k) (add-one i) in
-              let w = fits in
-              let s = few in
-              record {
-                bound = omega arith;
-                place = omega (arith, turn .place);
-                d = ap (λ z. length (z .dist)) lists-are ∙ q .0 ∙ turn .d;
-                s = ap (λ z. length (z .site)) lists-are ∙ q .1 .0 ∙ turn .s;
-                c = ap (λ z. length (z .cue)) lists-are ∙ q .1 .1 ∙ turn .c;
-                m = ap length marks-are ∙ length-mark-all (o .marks) (stop .asked) ∙ turn .m;
-                clear = rw lists-are
-                    (clear-kept (o .lists) at list at (at + k) allPlaces (omega arith) (omega arith) (turn .clear));
-                opens = x .opens list came;
-                fine = fine;
-                bad = λ a b z. turn .bad a b (ap (λ w. w .out) rest-is ∙ rw z);
-                asked = turn .asked ∙ ap (λ w. markAll (o .marks) (w .asked)) rest-is
-                    ∙ mark-all-append (o .marks) (stop .asked) (rest (i + 1) .asked)
-                    ∙ ap (λ z. markAll z (rest (i + 1) .asked)) (sym marks-are);
-                under = covered o o′ at fits (x .under) ∙ turn .under;
-              }
+        pub turn-next : StopTurn f h order cols k o₀ o′ (i + 1) (at + k) n
+        turn-next =
+            let q = lay-lengths (o .lists) at list in
+            let u = suc-mul i k in
+            let v : (i + 1) * k ≡ suc i * k = ap (λ (j : ℕ). j * k) (add-one i) in
+            let w = fits in
+            let s = few in
+            record {
+              bound = omega arith;
+              place = omega (arith, turn .place);
+              d = ap (λ z. length (z .dist)) lists-are ∙ q .0 ∙ turn .d;
+              s = ap (λ z. length (z .site)) lists-are ∙ q .1 .0 ∙ turn .s;
+              c = ap (λ z. length (z .cue)) lists-are ∙ q .1 .1 ∙ turn .c;
+              m = ap length marks-are ∙ length-mark-all (o .marks) (stop .asked) ∙ turn .m;
+              clear = rw lists-are
+                  (clear-kept (o .lists) at list at (at + k) N (omega arith) (omega arith) (turn .clear));
+              opens = x .opens list came;
+              fine = fine;
+              bad = λ a b z. turn .bad a b (ap (λ w. w .out) rest-is ∙ rw z);
+              asked = turn .asked ∙ ap (λ w. markAll (o .marks) (w .asked)) rest-is
+                  ∙ mark-all-append (o .marks) (stop .asked) (R (i + 1) .asked)
+                  ∙ ap (λ z. markAll z (R (i + 1) .asked)) (sym marks-are);
+              under = covered f h order cols k o₀ o o′ at fits (x .under) ∙ turn .under;
+            }

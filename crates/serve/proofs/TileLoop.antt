@@ -60,128 +60,6 @@ module _ (f : List ℕ) (h : Header) (order : List ℕ) (g : Target) (o₀ : Sli
     pub asked : markAll (o₀ .marks) (whole .asked) ≡ markAll (o .marks) (rest keys (found o used) .asked)
     pub under : over (o .marks) 0 (replicate (h .tiles) 0) ≡ over (o₀ .marks) 0 (replicate (h .tiles) 0)
 
-  module _ {keys : List ℕ} {o : Slices} {used : ℕ} (turn : TileTurn keys o used) where
-    -- the stop's places cover what was written
-    covered : cleared (g .at) (g .k) (h .tiles) o ≡ cleared (g .at) (g .k) (h .tiles) o₀
-    unfolding cleared
-    covered =
-        let n = places-length (o .lists) (g .at) used in
-        let m = length-replicate (g .k) noPlace in
-        let zeros = replicate (g .k) noPlace in
-        let few = turn .ready .few in
-        let lists : lay (o .lists) (g .at) zeros ≡ lay (o₀ .lists) (g .at) zeros =
-        ap (λ z. lay z (g .at) zeros) (turn .laid)
-        ∙ lay-under (o₀ .lists) (g .at) (g .at) (found o used) zeros (omega arith) (omega arith) in
-        rw (lists, turn .under)
-
-    -- the walk ends here, with this list
-    turn-ends : rest keys (found o used) ≡ record { asked = []; out = accepted (found o used) }
-        → StopServed f h whole (g .k) (g .at) o₀ (accepted used) o
-    unfolding markAll
-    turn-ends e =
-        let n = places-length (o .lists) (g .at) used in
-        let answer : whole .out ≡ accepted (found o used) = turn .out ∙ ap (λ w. w .out) e in
-        let same : (l : List Place) → whole .out ≡ accepted l → found o used ≡ l =
-        λ l q. accepted-injective (sym answer ∙ q) in
-        let marks : markAll (o₀ .marks) (whole .asked) ≡ o .marks = turn .asked
-        ∙ ap (λ w. markAll (o .marks) (w .asked)) e in
-        record {
-          outcome = rw answer (ap accepted (sym n));
-          few = λ l q. rw (← (same l q)) (omega (arith, turn .ready .few));
-          answered = λ l q. rw (← (same l q), marks, ← (turn .laid));
-          opens = λ l q. turn .opens;
-          under = covered;
-        }
-
-    -- the next key
-    module _ (r : Least) (s : r ≡ leastKey keys 0 (length order)) where
-      -- no tile waits
-      pub turn-none : none ≤ r .key → StopServed f h whole (g .k) (g .at) o₀ (accepted used) o
-      unfolding sort
-      turn-none e = turn-ends (rw (living-none order keys (rw s at e))
-          (cut-end (entries f h) (g .k) (openingOf f h) (g .stop) (found o used)))
-
-      module _ (below : r .key < none) where
-        abbrev tile : ℕ
-        tile = getD order (r .at) 0
-
-        abbrev others : List ℕ
-        others = inOrder (entries f h) (living order (set keys (r .at) none)) (g .stop)
-
-        key-is : r .key ≡ near (entries f h) (g .stop) tile
-        key-is =
-            let a = rw (← s) at (least-here keys 0 (length order) (rw s at below)) in
-            sym (a .2) ∙ turn .keyed .own (r .at) (omega (arith, a .1)) (omega (arith, a .2))
-
-        waits : inOrder (entries f h) (living order keys) (g .stop) ≡ tile ∷ others
-        waits = living-next (turn .keyed) r s below
-
-        -- the list is full ahead of the next key
-        pub turn-full : lastAhead (g .k) (found o used) (r .key) tile ≡ true
-            → StopServed f h whole (g .k) (g .at) o₀ (accepted used) o
-        turn-full e = turn-ends (rw waits
-            (cut-full (entries f h) (g .k) (openingOf f h) (g .stop) tile others (found o used) (rw (← key-is) e)))
-
-        module _ (free : lastAhead (g .k) (found o used) (r .key) tile ≡ false) where
-          not-full : lastAhead (g .k) (found o used) (near (entries f h) (g .stop) tile) tile ≡ false
-          not-full = rw (← key-is) free
-
-          -- its opening is refused
-          pub turn-refused : (n b : ℕ) → openingOf f h tile ≡ refused n b
-              → StopServed f h whole (g .k) (g .at) o₀ (refused n b) o
-          turn-refused n b e =
-              let q : whole .out ≡ refused n b = turn .out ∙ rw waits
-              (ap (λ w. w .out)
-              (cut-refused (entries f h) (g .k) (openingOf f h) (g .stop) tile others (found o used) n b not-full e)) in
-              record {
-                outcome = rw q;
-                few = λ l w. accepted-refused w q;
-                answered = λ l w. accepted-refused w q;
-                opens = λ l w. accepted-refused w q;
-                under = covered;
-              }
-
-          -- it opens, and the walk goes on
-          module _ (l : List Site) (e : openingOf f h tile ≡ accepted l) (tiles : tile < h .tiles)
-              (marks : h .tiles ≤ length (o .marks)) {n : ℕ}
-              (number : n ≡ length (withSites tile g used l (o .lists))) where
-            abbrev next : Slices
-            next = afterTile tile g used (accepted l) o
-
-            added : Adds (o .lists) (g .at) used (g .k) (tilePlaces plane (g .stop) tile l) n (next .lists)
-            added = record { number = number; laid = refl }
-
-            list-is : found next n ≡ withSites tile g used l (o .lists)
-            list-is = added-list (turn .ready) added
-
-            walk-is : rest keys (found o used) ≡ record {
-              asked = tile ∷ rest (set keys (r .at) none) (found next n) .asked;
-              out = rest (set keys (r .at) none) (found next n) .out;
-            }
-            walk-is = rw (waits, list-is)
-                (cut-opens (entries f h) (g .k) (openingOf f h) (g .stop) tile others (found o used) l not-full e)
-
-            opens-next : OpenedOpen f h (set (o .marks) tile openedMark)
-            opens-next t i q = by-test (eqb t tile)
-                (λ z. rw (eqb-true t tile z, ← (opens-own-town f h tile e)) e)
-                (λ z. turn .opens t i (sym (getD-set-other (o .marks) tile t openedMark 0 (eqb-false t tile z)) ∙ q))
-
-            pub turn-next : TileTurn (set keys (r .at) none) next n
-            unfolding markAll
-            turn-next =
-                let z = length-replicate {A = ℕ} (h .tiles) 0 in
-                record {
-                  ready = added-ready (turn .ready) added;
-                  laid = added-laid (turn .ready) added (o₀ .lists) (turn .laid);
-                  keyed = keyed-next (turn .keyed) r s below;
-                  opens = opens-next;
-                  long = length-set (o .marks) tile openedMark ∙ turn .long;
-                  out = turn .out ∙ ap (λ w. w .out) walk-is;
-                  asked = turn .asked ∙ ap (λ w. markAll (o .marks) (w .asked)) walk-is;
-                  under = over-set (o .marks) tile 0 openedMark (replicate (h .tiles) 0) (omega arith) (omega arith)
-                      ∙ turn .under;
-                }
-
   -- at the start: all tiles wait, with their keys
   pub turn-starts : {keys : List ℕ} → Ready (o₀ .lists) (g .at) 0 (g .k) → Keyed (entries f h) (g .stop) order keys
       → living order keys ≡ order → OpenedOpen f h (o₀ .marks) → TileTurn keys o₀ 0
@@ -199,3 +77,136 @@ module _ (f : List ℕ) (h : Header) (order : List ℕ) (g : Target) (o₀ : Sli
         asked = ap (λ z. markAll (o₀ .marks) (z .asked)) (sym w);
         under = refl;
       }
+
+-- one turn
+module _ {f : List ℕ} {h : Header} {order : List ℕ} {g : Target} {o₀ : Slices} {keys : List ℕ} {o : Slices} {used : ℕ}
+    (turn : TileTurn f h order g o₀ keys o used) where
+  abbrev W : Trace (List Place)
+  W = whole f h order g o₀
+
+  abbrev R : List ℕ → List Place → Trace (List Place)
+  R ks l = rest f h order g o₀ ks l
+
+  abbrev F : Slices → ℕ → List Place
+  F p n = found f h order g o₀ p n
+
+  -- the stop's places cover what was written
+  covered : cleared (g .at) (g .k) (h .tiles) o ≡ cleared (g .at) (g .k) (h .tiles) o₀
+  unfolding cleared
+  covered =
+      let n = places-length (o .lists) (g .at) used in
+      let m = length-replicate (g .k) noPlace in
+      let zeros = replicate (g .k) noPlace in
+      let few = turn .ready .few in
+      let lists : lay (o .lists) (g .at) zeros ≡ lay (o₀ .lists) (g .at) zeros =
+      ap (λ z. lay z (g .at) zeros) (turn .laid)
+      ∙ lay-under (o₀ .lists) (g .at) (g .at) (F o used) zeros (omega arith) (omega arith) in
+      rw (lists, turn .under)
+
+  -- the walk ends here, with this list
+  turn-ends : R keys (F o used) ≡ record { asked = []; out = accepted (F o used) }
+      → StopServed f h W (g .k) (g .at) o₀ (accepted used) o
+  unfolding markAll
+  turn-ends e =
+      let n = places-length (o .lists) (g .at) used in
+      let answer : W .out ≡ accepted (F o used) = turn .out ∙ ap (λ w. w .out) e in
+      let same : (l : List Place) → W .out ≡ accepted l → F o used ≡ l =
+      λ l q. accepted-injective (sym answer ∙ q) in
+      let marks : markAll (o₀ .marks) (W .asked) ≡ o .marks = turn .asked
+      ∙ ap (λ w. markAll (o .marks) (w .asked)) e in
+      record {
+        outcome = rw answer (ap accepted (sym n));
+        few = λ l q. rw (← (same l q)) (omega (arith, turn .ready .few));
+        answered = λ l q. rw (← (same l q), marks, ← (turn .laid));
+        opens = λ l q. turn .opens;
+        under = covered;
+      }
+
+  -- the next key
+  module _ (r : Least) (s : r ≡ leastKey keys 0 (length order)) where
+    -- no tile waits
+    pub turn-none : none ≤ r .key → StopServed f h W (g .k) (g .at) o₀ (accepted used) o
+    unfolding sort
+    turn-none e = turn-ends (rw (living-none order keys (rw s at e))
+        (cut-end (entries f h) (g .k) (openingOf f h) (g .stop) (F o used)))
+
+    module _ (below : r .key < none) where
+      abbrev tile : ℕ
+      tile = getD order (r .at) 0
+
+      abbrev others : List ℕ
+      others = inOrder (entries f h) (living order (set keys (r .at) none)) (g .stop)
+
+      key-is : r .key ≡ near (entries f h) (g .stop) tile
+      key-is =
+          let a = rw (← s) at (least-here keys 0 (length order) (rw s at below)) in
+          sym (a .2) ∙ turn .keyed .own (r .at) (omega (arith, a .1)) (omega (arith, a .2))
+
+      waits : inOrder (entries f h) (living order keys) (g .stop) ≡ tile ∷ others
+      waits = living-next (turn .keyed) r s below
+
+      -- the list is full ahead of the next key
+      pub turn-full : lastAhead (g .k) (F o used) (r .key) tile ≡ true
+          → StopServed f h W (g .k) (g .at) o₀ (accepted used) o
+      turn-full e = turn-ends (rw waits
+          (cut-full (entries f h) (g .k) (openingOf f h) (g .stop) tile others (F o used) (rw (← key-is) e)))
+
+      module _ (free : lastAhead (g .k) (F o used) (r .key) tile ≡ false) where
+        not-full : lastAhead (g .k) (F o used) (near (entries f h) (g .stop) tile) tile ≡ false
+        not-full = rw (← key-is) free
+
+        -- its opening is refused
+        pub turn-refused : (n b : ℕ) → openingOf f h tile ≡ refused n b
+            → StopServed f h W (g .k) (g .at) o₀ (refused n b) o
+        turn-refused n b e =
+            let q : W .out ≡ refused n b = turn .out ∙ rw waits
+            (ap (λ w. w .out)
+            (cut-refused (entries f h) (g .k) (openingOf f h) (g .stop) tile others (F o used) n b not-full e)) in
+            record {
+              outcome = rw q;
+              few = λ l w. accepted-refused w q;
+              answered = λ l w. accepted-refused w q;
+              opens = λ l w. accepted-refused w q;
+              under = covered;
+            }
+
+        -- it opens, and the walk goes on
+        module _ (l : List Site) (e : openingOf f h tile ≡ accepted l) (tiles : tile < h .tiles)
+            (marks : h .tiles ≤ length (o .marks)) {n : ℕ}
+            (number : n ≡ length (withSites tile g used l (o .lists))) where
+          abbrev next : Slices
+          next = afterTile tile g used (accepted l) o
+
+          added : Adds (o .lists) (g .at) used (g .k) (tilePlaces plane (g .stop) tile l) n (next .lists)
+          added = record { number = number; laid = refl }
+
+          list-is : F next n ≡ withSites tile g used l (o .lists)
+          list-is = added-list (turn .ready) added
+
+          walk-is : R keys (F o used) ≡ record {
+            asked = tile ∷ R (set keys (r .at) none) (F next n) .asked;
+            out = R (set keys (r .at) none) (F next n) .out;
+          }
+          walk-is = rw (waits, list-is)
+              (cut-opens (entries f h) (g .k) (openingOf f h) (g .stop) tile others (F o used) l not-full e)
+
+          opens-next : OpenedOpen f h (set (o .marks) tile openedMark)
+          opens-next t i q = by-test (eqb t tile)
+              (λ z. rw (eqb-true t tile z, ← (opens-own-town f h tile e)) e)
+              (λ z. turn .opens t i (sym (getD-set-other (o .marks) tile t openedMark 0 (eqb-false t tile z)) ∙ q))
+
+          pub turn-next : TileTurn f h order g o₀ (set keys (r .at) none) next n
+          unfolding markAll
+          turn-next =
+              let z = length-replicate {A = ℕ} (h .tiles) 0 in
+              record {
+                ready = added-ready (turn .ready) added;
+                laid = added-laid (turn .ready) added (o₀ .lists) (turn .laid);
+                keyed = keyed-next (turn .keyed) r s below;
+                opens = opens-next;
+                long = length-set (o .marks) tile openedMark ∙ turn .long;
+                out = turn .out ∙ ap (λ w. w .out) walk-is;
+                asked = turn .asked ∙ ap (λ w. markAll (o .marks) (w .asked)) walk-is;
+                under = over-set (o .marks) tile 0 openedMark (replicate (h .tiles) 0) (omega arith) (omega arith)
+                    ∙ turn .under;
+              }

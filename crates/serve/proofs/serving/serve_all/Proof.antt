@@ -103,16 +103,13 @@ serve-stop-requires c κs =
     let waits′ = waits (entries (s .args .f .now) (s .args .h)) (s .args .marks .now) in
     let t = l .loop .inv .1 in
     let a = s .args in
-    let o = lent (a .dist .now) (a .site .now) (a .cue .now) (a .marks .now) in
-    let tiles = waiting (a .f .now) (a .h) (a .marks .now) in
     record {
       dir = s .pre .dir;
       tiles = rw (w .1) (waiting-tiles waits′ (s .args .h .tiles));
       rise = rw (w .1) (waiting-rise waits′ (s .args .h .tiles));
       stop = rw (p .stop-at .ensures) (stop-valid (a .xs .now) (a .ys .now) (l .loop .i)
           (s .pre .valid (l .loop .i) (b .loop-test .taken)));
-      list = turn-ready (s .args .f .now) (s .args .h) tiles (s .args .xs .now ∷ s .args .ys .now ∷ []) (s .args .k) o t
-          (b .loop-test .taken) (s .pre .some) (s .pre .long);
+      list = turn-ready t (b .loop-test .taken) (s .pre .some) (s .pre .long);
       room =
           omega (arith, few-gathered g, l .loop .inv .0, length-take (g .gather .result) (g .gather .last .1 .1 .1 .0));
       marks = omega (arith, s .pre .marks, t .m);
@@ -166,15 +163,8 @@ returns : tie.Need-returns Inv-loop μ-loop
 returns c =
     let x : tie.After-serve-stop Inv-loop μ-loop = search in
     let b = turned x in
-    let l = head b in
-    let a = start (gathering l) .args in
-    let o = lent (a .dist .now) (a .site .now) (a .cue .now) (a .marks .now) in
-    let tiles = waiting (a .f .now) (a .h) (a .marks .now) in
-    let e = c .enum-told .given .1 in
-    rw (ap servingOutcome e)
-    (turn-refused (a .f .now) (a .h) tiles (a .xs .now ∷ a .ys .now ∷ []) (a .k) o (l .loop .inv .1)
-    (b .loop-test .taken)
-    (served x) _ _ (ap servingOutcome e))
+    let e = ap servingOutcome (c .enum-told .given .1) in
+    rw e (turn-refused (head b .loop .inv .1) (b .loop-test .taken) (served x) _ _ e)
 
 add-i : tie.Need-add-i Inv-loop μ-loop
 add-i c =
@@ -188,11 +178,7 @@ add-at c =
     let x : tie.After-serve-stop Inv-loop μ-loop = search in
     let b = turned x in
     let s = start (gathering (head b)) in
-    let a = s .args in
-    let o = lent (a .dist .now) (a .site .now) (a .cue .now) (a .marks .now) in
-    let tiles = waiting (a .f .now) (a .h) (a .marks .now) in
-    let ready = turn-ready (a .f .now) (a .h) tiles (a .xs .now ∷ a .ys .now ∷ []) (a .k) o (head b .loop .inv .1)
-    (b .loop-test .taken) (s .pre .some) (s .pre .long) in
+    let ready = turn-ready (head b .loop .inv .1) (b .loop-test .taken) (s .pre .some) (s .pre .long) in
     omega (arith, ready .long .0, s .good .1 .1 .1 .1 .1 .0 .0)
 
 loop-less : tie.Need-loop-less Inv-loop μ-loop
@@ -203,13 +189,9 @@ loop-again c =
     let n : tie.After-answer Inv-loop μ-loop = search in
     let x : tie.After-serve-stop Inv-loop μ-loop = search in
     let b = turned x in
-    let l = head b in
-    let a = start (gathering l) .args in
-    let o = lent (a .dist .now) (a .site .now) (a .cue .now) (a .marks .now) in
-    let tiles = waiting (a .f .now) (a .h) (a .marks .now) in (
-      x .serve-stop .kept .1 .1 .1 .1 .0 ∙ l .loop .inv .0,
-      turn-next (a .f .now) (a .h) tiles (a .xs .now ∷ a .ys .now ∷ []) (a .k) o (l .loop .inv .1) (b .loop-test .taken)
-          (served x) _ (ap servingOutcome (n .answer .given .1)),
+    let t = head b .loop .inv in (
+      x .serve-stop .kept .1 .1 .1 .1 .0 ∙ t .0,
+      turn-next (t .1) (b .loop-test .taken) (served x) _ (ap servingOutcome (n .answer .given .1)),
     )
 
 same-length-5 : tie.Need-same-length-5 Inv-loop μ-loop
@@ -227,13 +209,7 @@ same-length-8 c = search needs
 returns-2 : tie.Need-returns-2 Inv-loop μ-loop
 returns-2 c =
     let l : tie.At-loop Inv-loop μ-loop = search in
-    let g = gathering l in
-    let s = start g in
-    let a = s .args in
-    let o = lent (a .dist .now) (a .site .now) (a .cue .now) (a .marks .now) in
-    let tiles = waiting (a .f .now) (a .h) (a .marks .now) in
-    turn-ends (a .f .now) (a .h) tiles (a .xs .now ∷ a .ys .now ∷ []) (a .k) o (l .loop .inv .1)
-    (omega (arith, c .loop-test .left))
+    turn-ends (l .loop .inv .1) (omega (arith, c .loop-test .left))
 
 pub serve-all-spec : {M : Type 1} → statement M
 serve-all-spec =

@@ -120,10 +120,7 @@ returns : tie.Need-returns Inv-loop μ-loop
 returns c =
     let n : tie.After-next-key Inv-loop μ-loop = search in
     let l : tie.At-loop Inv-loop μ-loop = search in
-    let a = start l .args in
-    let o = lent (a .dist .now) (a .site .now) (a .cue .now) (a .marks .now) in
-    turn-none (a .f .now) (a .h) (a .order .now) (a .target) o (l .loop .inv .1)
-    (n .next-key .result) (n .next-key .ensures) (omega (arith, c .if1 .taken))
+    turn-none (l .loop .inv .1) (n .next-key .result) (n .next-key .ensures) (omega (arith, c .if1 .taken))
 
 mul-t : tie.Need-mul-t Inv-loop μ-loop
 mul-t c =
@@ -165,12 +162,9 @@ returns-2 : tie.Need-returns-2 Inv-loop μ-loop
 returns-2 c =
     let i : tie.Else1 Inv-loop μ-loop = search in
     let l = head i in
-    let a = start l .args in
-    let o = lent (a .dist .now) (a .site .now) (a .cue .now) (a .marks .now) in
     let n = i .before .next-key in
     let full = sym (c .before .last-ahead .ensures (l .loop .cue)) ∙ c .if2 .taken in
-    turn-full (a .f .now) (a .h) (a .order .now) (a .target) o (l .loop .inv .1) (n .result) (n .ensures)
-    (key-left i) full
+    turn-full (l .loop .inv .1) (n .result) (n .ensures) (key-left i) full
 
 -- it is not: the tile is taken
 abbrev kept-key : tie.Else2 Inv-loop μ-loop → tie.Else1 Inv-loop μ-loop
@@ -255,14 +249,11 @@ returns-3 c =
     let a = start l .args in
     let n = i .before .next-key in
     let t = getD (a .order .now) (n .result .at) 0 in
-    let o = lent (a .dist .now) (a .site .now) (a .cue .now) (a .marks .now) in
     let e = c .enum-told .given .1 in
     let d = andThen-refused (openingOf (a .f .now) (a .h) t) _ (told servingOutcome (x .take-tile .ensures .0) e) in
     let same = rw d at (slices-taken x) in
     rw (ap servingOutcome e, same)
-    (turn-refused (a .f .now) (a .h) (a .order .now) (a .target) o (l .loop .inv .1) (n .result) (n .ensures)
-    (key-left i)
-    (not-full (taken x)) _ _ d)
+    (turn-refused (l .loop .inv .1) (n .result) (n .ensures) (key-left i) (not-full (taken x)) _ _ d)
 
 mul-keys : tie.Need-mul-keys Inv-loop μ-loop
 mul-keys c =
@@ -296,14 +287,12 @@ loop-again c =
     let a = start l .args in
     let n = i .before .next-key in
     let t = getD (a .order .now) (n .result .at) 0 in
-    let o = lent (a .dist .now) (a .site .now) (a .cue .now) (a .marks .now) in
     let turn = l .loop .inv .1 in
     let d = andThen-accepted (openingOf (a .f .now) (a .h) t) _
     (told servingOutcome (x .take-tile .ensures .0) (b .answer .given .1)) in
     let same = rw (d .1) at (slices-taken x) in
-    let next = turn-next (a .f .now) (a .h) (a .order .now) (a .target) o turn (n .result) (n .ensures) (key-left i)
-    (not-full (taken x)) (d .0) (d .1) (tile-below i) (omega (arith, start l .pre .marks, turn .long))
-    (sym (accepted-injective (d .2))) in (
+    let next = turn-next turn (n .result) (n .ensures) (key-left i) (not-full (taken x)) (d .0) (d .1) (tile-below i)
+    (omega (arith, start l .pre .marks, turn .long)) (sym (accepted-injective (d .2))) in (
       length-set (l .loop .keys) (n .result .at) none ∙ l .loop .inv .0,
       rw same next,
       passed-next (l .loop .keys) (length (a .order .now)) (n .result) (n .ensures) (key-left i) (turn .keyed .long),
