@@ -13,7 +13,7 @@ use Rattle.base.proofs.Tests.{clash, by-test}
 use Rattle.search.specs.Lists.{range, count, filter, member, All, Distinct}
 use Rattle.search.specs.Plan.{Geometry, Directory}
 use Rattle.search.specs.Pruning.{pruned, prunedCount}
-use Rattle.search.specs.Run.{Place, noPlace, padded, slices, mark, marks}
+use Rattle.search.specs.Run.{Place, noPlace, padded, slices, mark, marks, openedMark, prunedMark}
 use Rattle.search.proofs.Lists.{all-any, all-mem, count-all, count-perm, filter-passes, filter-mem}
 use Rattle.search.proofs.Lists.{filter-distinct, range-mem, range-distinct, member-mem, mem-member}
 use Rattle.search.proofs.Lists.{same-elements}
@@ -76,7 +76,7 @@ module _ {G : Geometry} (E : Directory G) (O : G .Box) (k : ℕ) where
     marks-at t h = getD-map-lt (mark E O k opened) (range 0 tiles) t 0 0 (rw range-length h)
         ∙ ap (mark E O k opened) (range-getD 0 tiles t h ∙ zero-add t)
 
-    pub mark-opened : (t : ℕ) → (mark E O k opened t ≡ 2) ↔ (member t opened ≡ true)
+    pub mark-opened : (t : ℕ) → (mark E O k opened t ≡ openedMark) ↔ (member t opened ≡ true)
     unfolding mark
     mark-opened t = (λ h. sym (two t) ∙ rw h, λ h. rw h)
 
@@ -96,7 +96,7 @@ module _ {G : Geometry} (E : Directory G) (O : G .Box) (k : ℕ) where
           (λ e. rw (e, all-mem (λ u. pruned E O k u ≡ false) unpruned (member-mem t opened e)))
           (λ e. by-test (pruned E O k t) (λ s. rw (e, s)) (λ s. rw (e, s)))
 
-      pub mark-pruned : (t : ℕ) → (mark E O k opened t ≡ 1) ↔ (pruned E O k t ≡ true)
+      pub mark-pruned : (t : ℕ) → (mark E O k opened t ≡ prunedMark) ↔ (pruned E O k t ≡ true)
       unfolding mark
       mark-pruned t = (
         λ h. sym (one t) ∙ rw h,

@@ -14,7 +14,7 @@ use Rattle.search.specs.FullSearch.{firstOf, Fits}
 use Rattle.search.specs.Lists.{count, member, All, Distinct}
 use Rattle.search.specs.Plan.{Geometry, Directory, Lawful, ranked, Town, Agrees}
 use Rattle.search.specs.Pruning.{pruned, prunedCount}
-use Rattle.search.specs.Run.{Reading, Place, Run, Checked, run, join, placesUsed, marks}
+use Rattle.search.specs.Run.{Reading, Place, Run, Checked, run, join, placesUsed, marks, openedMark, prunedMark}
 use Rattle.search.proofs.Answered.{readTown, join-town, some-town, answer-padded, answer-places, answer-used}
 use Rattle.search.proofs.Answered.{opened-changes, changes-opened}
 use Rattle.search.proofs.Lists.{all-map}
@@ -55,13 +55,14 @@ module _ {G : Geometry} (E : Directory G) (O : G .Box) (k : ℕ) where
   same-run read read′ ps h = join-same E O k read read′ ps h
 
   -- "A tile is marked 2 exactly when it was opened"
-  pub marked-2 : (opened : List ℕ) (t : ℕ) → t < tiles → (getD (marks E O k opened) t 0 ≡ 2) ↔ (member t opened ≡ true)
-  marked-2 opened t h = rw (marks-at E O k opened t h) (mark-opened E O k opened t)
+  pub marked-opened : (opened : List ℕ) (t : ℕ) → t < tiles
+      → (getD (marks E O k opened) t 0 ≡ openedMark) ↔ (member t opened ≡ true)
+  marked-opened opened t h = rw (marks-at E O k opened t h) (mark-opened E O k opened t)
 
   -- "and 1 exactly when it is struck"
-  pub marked-1 : (read : Reading G) (ps : List Stop) (t : ℕ) → t < tiles
-      → (getD (marks E O k (join E O k read ps .openings)) t 0 ≡ 1) ↔ (pruned E O k t ≡ true)
-  marked-1 read ps t h = rw (marks-at E O k (join E O k read ps .openings) t h)
+  pub marked-pruned : (read : Reading G) (ps : List Stop) (t : ℕ) → t < tiles
+      → (getD (marks E O k (join E O k read ps .openings)) t 0 ≡ prunedMark) ↔ (pruned E O k t ≡ true)
+  marked-pruned read ps t h = rw (marks-at E O k (join E O k read ps .openings) t h)
       (mark-pruned E O k (join E O k read ps .openings) (never-pruned read ps) t)
 
   -- "Opened and struck equal the marks of that sort"
@@ -100,8 +101,8 @@ module _ {G : Geometry} (E : Directory G) (O : G .Box) (k : ℕ) where
       lists = answer-padded L k read ps hs ls e;
       places = answer-places L k read ps hs ls e;
       opened-exactly = λ g f t. (opened-changes L k read ps hs ls e g f t, changes-opened L k read ps hs ls e g f t);
-      marked-opened = marked-2 (join E O k read ps .openings);
-      marked-pruned = marked-1 read ps;
+      marked-opened = marked-opened (join E O k read ps .openings);
+      marked-pruned = marked-pruned read ps;
       none-pruned = never-pruned read ps;
       count-opened = opened-count read ps;
       count-pruned = pruned-count read ps;
