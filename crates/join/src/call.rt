@@ -93,12 +93,15 @@ fn run(
     let answer = tried.answer;
     let tiles = h.tiles;
     match answer {
-        Serving::Served(used) => JoinAnswer::Joined {
-            used: used as u32,
-            tiles: tiles as u32,
-            opened: count_opened(marks, tiles) as u32,
-            pruned: pruned as u32,
-        },
+        Serving::Served(used) => {
+            let opened = count_opened(marks, tiles);
+            JoinAnswer::Joined {
+                used: used as u32,
+                tiles: tiles as u32,
+                opened: opened as u32,
+                pruned: pruned as u32,
+            }
+        }
         Serving::Refused(r) => {
             clear_places(dist, site, cue, xs.len() * k);
             clear8(marks, tiles);

@@ -27,17 +27,17 @@ few t = tiles-few (start t .args .f .now) (start t .args .h) (start t .pre .dir)
 enum-known-answer : tie.Need-enum-known-answer
 enum-known-answer c = search needs
 
-cast-t25 : tie.Need-cast-t25
-cast-t25 c =
+count-opened-requires : tie.Need-count-opened-requires
+count-opened-requires c κs = search needs
+
+cast-t28 : tie.Need-cast-t28
+cast-t28 c =
     let a : tie.After-answer = search in
     let t : tie.After-try-run = search in
     omega (arith, used-few (start t .pre) (bytes t) (rw (a .answer .given .1) at (t .try-run .ensures)))
 
-cast-t26 : tie.Need-cast-t26
-cast-t26 c = let t : tie.After-try-run = search in omega (arith, few t)
-
-count-opened-requires : tie.Need-count-opened-requires
-count-opened-requires c κs = search needs
+cast-t29 : tie.Need-cast-t29
+cast-t29 c = let t : tie.After-try-run = search in omega (arith, few t)
 
 cast-t30 : tie.Need-cast-t30
 cast-t30 c =
@@ -111,9 +111,9 @@ run-spec =
     (tie.spec
     try-run-requires
     enum-known-answer
-    cast-t25
-    cast-t26
     count-opened-requires
+    cast-t28
+    cast-t29
     cast-t30
     cast-t31
     enum-known-answer-2
