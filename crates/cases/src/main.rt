@@ -1,6 +1,5 @@
 // Runs the geometry cases of document 01 through the public calls: a line for each, `ok` where the call gives what the
-// paper
-// says. The same cases are proved of the definitions in geometry's theorem `cases`; this shows the compiled code.
+// paper says. The same cases are proved of the definitions in geometry's theorem `cases`; this shows the compiled code.
 use geometry::distance;
 use geometry::distance::DistanceAnswer;
 use geometry::margin;

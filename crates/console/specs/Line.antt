@@ -1,6 +1,5 @@
 -- The lines that the program prints (document 01, "Writer, full check, host, program"). "Every printed line ends with a
--- line
--- feed."
+-- line feed."
 use Prim.Native.Nat.{ℕ, zero, suc, _+_, _*_}
 use mathlib.Core.List.{List, _++_}
 use lib.ListN.{getD}
@@ -15,8 +14,8 @@ refusedLine number block =
 -- "The first line has T, opened and struck"
 unfoldable pub countsLine : ℕ → ℕ → ℕ → List ℕ
 countsLine tiles opened pruned =
-    labelled (textBytes "tiles ") tiles ++ labelled (textBytes " opened ") opened ++ labelled
-    (textBytes " struck ") pruned ++ textBytes "\n"
+    labelled (textBytes "tiles ") tiles ++ labelled (textBytes " opened ") opened
+    ++ labelled (textBytes " struck ") pruned ++ textBytes "\n"
 
 -- "places are joined by a semicolon and a space", and a space stands before the first
 abbrev pub separator : ℕ → List ℕ
@@ -35,8 +34,7 @@ unfoldable pub placesText : List ℕ → List ℕ → List ℕ → ℕ → ℕ �
 placesText dist site cue from used = joined (textAt dist site cue from) 0 used
 
 -- "a line for each stop, numbered from 0": "place j of stop i is at i × k + j"; "a stop without places prints `stop 0:`
--- (its own
--- number) alone"
+-- (its own number) alone"
 unfoldable pub stopLine : List ℕ → List ℕ → List ℕ → ℕ → ℕ → ℕ → List ℕ
 stopLine dist site cue k used i =
     labelled (textBytes "stop ") i ++ textBytes ":" ++ placesText dist site cue (i * k) used ++ textBytes "\n"

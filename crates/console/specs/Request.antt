@@ -1,6 +1,5 @@
 -- What the program reads (document 01): "k, n (unsigned, 4 bytes), n stops (x, y, signed, 4 bytes each), all
--- little-endian, then
--- a file".
+-- little-endian, then a file".
 use Prim.Native.Nat.{ℕ, _+_, _*_}
 use mathlib.Core.Bool.{Bool, _&&_}
 use mathlib.Core.List.{List}

@@ -1,6 +1,6 @@
 -- Axis by axis, for n axes: each test is that of every axis, each distance the sum of the axes' squares, the margin the
--- sum
--- of the axes' gains. The code reads a box and a point by index: its proofs are instances of these. Assumes nothing.
+-- sum of the axes' gains. The code reads a box and a point by index: its proofs are instances of these. Assumes
+-- nothing.
 use Prim.Native.Nat.{ℕ, zero, suc, _+_, _<_}
 use mathlib.Core.Bool.{true}
 use mathlib.Core.List.{List, [], _∷_}

@@ -1,6 +1,6 @@
 -- On the line of whole numbers from 0: the square of a distance, and how the difference of two squares goes along the
--- line. With
--- the end points fixed, that difference is linear in the point, so its largest value is at an end. Assumes nothing.
+-- line. With the end points fixed, that difference is linear in the point, so its largest value is at an end. Assumes
+-- nothing.
 use Prim.Native.Nat.{ℕ, _+_, _*_, _≤_}
 use mathlib.Core.Path.{_≡_}
 use native.Mathlib.Decide.{decLe}

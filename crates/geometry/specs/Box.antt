@@ -1,7 +1,6 @@
 -- Coordinates, boxes and points (document 01, head of the paper). Every number is a whole number of centimetres. A box
--- is
--- the list of its axes, each the list of its low and its high end; a point is the list of its coordinates. Everything
--- holds for any number of axes.
+-- is the list of its axes, each the list of its low and its high end; a point is the list of its coordinates.
+-- Everything holds for any number of axes.
 use mathlib.Core.Bool.{Bool, true, false, _&&_}
 use mathlib.Core.List.{List, [], _∷_}
 use lib.IntN.{ℤ, pos, negsuc}

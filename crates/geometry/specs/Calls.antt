@@ -1,6 +1,5 @@
 -- What each public call comes to, for all inputs, and how each answer is read as that outcome (document 01: "Box
--- arithmetic
--- tests boxes (9), then the point (13)", at block 0).
+-- arithmetic tests boxes (9), then the point (13)", at block 0).
 use Prim.Native.Nat.{ℕ}
 use mathlib.Core.Bool.{_&&_}
 use mathlib.Core.List.{List, [], _∷_}

@@ -1,7 +1,6 @@
--- The theorems for the reader: demands 2 and 3 about files, answers and the lent slices.
--- The call is `call::join`, its definition `joinEnd` (specs/Join), what is claimed `Demand3` (specs/Claims). f is the
--- file, cols
--- the stops by columns, on as many axes as the town has.
+-- The theorems for the reader: demands 2 and 3 about files, answers and the lent slices. The call is `call::join`, its
+-- definition `joinEnd` (specs/Join), what is claimed `Demand3` (specs/Claims). f is the file, cols the stops by
+-- columns, on as many axes as the town has.
 use Prim.Native.Nat.{ℕ, suc, _+_, _*_, _<_, _≤_}
 use mathlib.Core.Bool.{true, false}
 use mathlib.Core.List.{List, [], _∷_, map}
@@ -249,8 +248,7 @@ module _ (f : List ℕ) (cols : List (List ℤ)) (k : ℕ) (out : Slices) where
           (opening-checked f (a .h) b) (stopsOf cols) (a .ls) (a .lists) (p .0) (p .1))
 
       -- What a full search gives, as a reader would want it: the town's sites, each once, in their ranking, and every
-      -- site left
-      -- out behind every listed one.
+      -- site left out behind every listed one.
       pub full-search : (town : Town plane) → Agreeing f cols k out h town
           → All (λ p. FullSearch (entries f h) k p town) (stopsOf cols)
       full-search town g =
@@ -263,8 +261,7 @@ module _ (f : List ℕ) (cols : List (List ℤ)) (k : ℕ) (out : Slices) where
     -- ---- demand 2
 
     -- "On a file that passes the full check, each list is the first k sites of the whole town, by distance, then tile,
-    -- then
-    -- slot": the join answers, with these lists
+    -- then slot": the join answers, with these lists
     pub demand-2 : Bytes f → (h : Header) → validate f ≡ accepted h
         → arguments (h .tiles) cols k (lengthsOf out) ≡ accepted tt
         → joinEnd f cols k out ≡ ended f h cols k (runFor f h cols k .openings) out

@@ -19,15 +19,18 @@ use Rattle.tiles.specs.declared.tile.Site.{Site}
 -- "tiles with y 0..0: tile 0 x 0..10, site (10,0) cue 7; tile 1 x -10..-4, site (-10,0) cue 8; tile 2 x 10..12, site
 -- (11,0) cue 9"
 abbrev pub boxes : List (List (List ℤ))
-boxes = box (pos 0) (pos 10) (pos 0) (pos 0) ∷ box (negℤ (pos 10)) (negℤ (pos 4)) (pos 0) (pos 0) ∷ box (pos 10)
-    (pos 12) (pos 0) (pos 0) ∷ []
+boxes =
+    box (pos 0) (pos 10) (pos 0) (pos 0)
+    ∷ box (negℤ (pos 10)) (negℤ (pos 4)) (pos 0) (pos 0)
+    ∷ box (pos 10) (pos 12) (pos 0) (pos 0)
+    ∷ []
 
 abbrev pub townSite : ℤ → ℕ → List Site
 townSite x cue = record { x = x; y = pos 0; cue = cue } ∷ []
 
 abbrev pub reading : ℕ → Outcome (List Site)
-reading t = getD (accepted (townSite (pos 10) 7) ∷ accepted (townSite (negℤ (pos 10)) 8) ∷ accepted
-    (townSite (pos 11) 9) ∷ []) t (refused 0 0)
+reading t =
+    getD (map accepted (townSite (pos 10) 7 ∷ townSite (negℤ (pos 10)) 8 ∷ townSite (pos 11) 9 ∷ [])) t (refused 0 0)
 
 -- that town from "stop (0,0)"
 abbrev pub origin : List ℤ

@@ -44,8 +44,8 @@ module _ (f : List ℕ) (cols : List (List ℤ)) (k : ℕ) (out : Slices) (h : H
     -- "For every stop, the join's list equals what a full search of that town gives: the same distance, site and cue at
     -- each place"
     pub lists : (town : Town plane) → Agreeing town → (i j : ℕ) → i < stopCount cols → j < k
-        → placeAt (left .lists) (i * k + j) ≡ getD
-        (fullSearch (entries f h) k (getD (stopsOf cols) i []) town) j noPlace
+        → placeAt (left .lists) (i * k + j)
+        ≡ getD (fullSearch (entries f h) k (getD (stopsOf cols) i []) town) j noPlace
     -- "A tile was opened exactly when some other filling of it .. changes what the full search gives for at least one
     -- stop"
     pub opened-exactly : (town : Town plane) → Agreeing town → (t : ℕ)
@@ -62,8 +62,7 @@ module _ (f : List ℕ) (cols : List (List ℤ)) (k : ℕ) (out : Slices) (h : H
     pub count-pruned : r .pruned ≡ count (λ m. eqb m prunedMark) (take (h .tiles) (left .marks))
     pub count-used : r .used ≡ placesUsed (entries f h) k
     -- "Any file of the same length, equal to this one in every byte of the directory and of the opened tiles, gets an
-    -- answer with
-    -- the same lists, marks and counts"
+    -- answer with the same lists, marks and counts"
     pub other-files : (g : List ℕ) → SameDirectory f g h
         → All (λ t. blockAt g (tilePosition h t) ≡ blockAt f (tilePosition h t)) opened
         → joinEnd g cols k out ≡ joinEnd f cols k out

@@ -66,8 +66,7 @@ unfoldable pub filled : List Place → List ℕ → Slices → Slices
 filled l m out = record { lists = lay (out .lists) 0 l; marks = over (out .marks) 0 m }
 
 -- the end of a run: its lists, marks and counts, or its refusal. "A refusal by an opening, the first included, leaves
--- the first
--- n × k places and T marks zero"
+-- the first n × k places and T marks zero"
 unfoldable pub ended : List ℕ → Header → List (List ℤ) → ℕ → List ℕ → Slices → Outcome (List (List Place)) → End
 ended f h cols k opened out (accepted ls) = record {
   outcome = accepted (record {

@@ -1,6 +1,5 @@
 -- The theorems of this crate for the reader. Call `insert_place`, definition `lay`: what a call laid is read back,
--- place by
--- place, and every other place is what it was.
+-- place by place, and every other place is what it was.
 use Prim.Native.Nat.{ℕ, _+_, _<_, _≤_}
 use mathlib.Core.List.{List}
 use mathlib.Core.Path.{_≡_}

@@ -67,8 +67,7 @@ fn put_place(dist: &mut [u64], site: &mut [u32], cue: &mut [u32], at: usize, n: 
 }
 
 // Puts x into the used places of a sorted list of at most k from index at on: the number of places used then. A full
-// list whose
-// last place ranks before x stays as it is, and else its last place falls off.
+// list whose last place ranks before x stays as it is, and else its last place falls off.
 pub fn insert_place(
     dist: &mut [u64],
     site: &mut [u32],

@@ -1,6 +1,5 @@
 // The program of document 01: standard input to standard output. All that it computes is `console::answer::respond`;
-// here is
-// only what an operating system can refuse.
+// here is only what an operating system can refuse.
 ghost use lib.ListN.{length};
 ghost use Rattle.nearby.specs.Inner.Input.{Within};
 use console::answer::ROOM;

@@ -1,6 +1,5 @@
 -- The theorems of this crate for the reader: what the search assumes of a geometry, a directory and a reading holds of
--- every file
--- whose directory is accepted, and which bytes of the file decide it.
+-- every file whose directory is accepted, and which bytes of the file decide it.
 use Prim.Native.Nat.{ℕ, _<_}
 use mathlib.Core.Bool.{true}
 use mathlib.Core.List.{List}

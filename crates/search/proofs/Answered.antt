@@ -1,6 +1,5 @@
 -- A run that answers, and a town that agrees with the directory and with what was opened: its lists are the full
--- search's, and
--- what it opened is what another filling can change.
+-- search's, and what it opened is what another filling can change.
 use Prim.Native.Nat.{ℕ, _+_, _*_, _<_}
 use mathlib.Core.Bool.{true, false}
 use mathlib.Core.List.{List, [], _∷_, map, head-eq-of-cons-eq, tail-eq-of-cons-eq, List·Memᴰ, List·Memᴰ·head}

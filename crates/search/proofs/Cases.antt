@@ -1,6 +1,5 @@
 -- Case 12 of document 01 on one axis (the y of its boxes is 0..0; x is moved up by 100), run by the definitions; then
--- the same
--- town for two stops, and with a tile that does not open.
+-- the same town for two stops, and with a tile that does not open.
 use Prim.Native.Nat.{ℕ, _+_, _*_, _-_, max}
 use mathlib.Core.List.{List, [], _∷_}
 use mathlib.Core.Path.{_≡_, refl}

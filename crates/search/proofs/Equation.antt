@@ -1,6 +1,5 @@
 -- The join and the walks of each stop by itself come to the same: a tile opened for an earlier stop has no site ahead
--- of a key
--- that comes before its own, so it counts from where the stop's own walk takes it.
+-- of a key that comes before its own, so it counts from where the stop's own walk takes it.
 use Prim.Native.Nat.{ℕ}
 use mathlib.Core.Bool.{Bool, true, false, cond, _||_, or-false}
 use mathlib.Core.List.{List, [], _∷_, _++_, append-assoc, append-nil, List·Memᴰ·head, List·Permᴰ, Memᴰ·append-right}

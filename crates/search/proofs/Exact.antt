@@ -1,6 +1,5 @@
 -- A tile that a stop's walk asks for has another filling that changes the full search for that stop: fewer than k sites
--- of the
--- town are ahead of its key, so a site at its least distance, with another cue, gets a place.
+-- of the town are ahead of its key, so a site at its least distance, with another cue, gets a place.
 use Prim.Native.Nat.{ℕ, suc, _+_, _*_, _/_, _%_, _≤_, _<_}
 use mathlib.Core.Bool.{true, false}
 use mathlib.Core.List.{List, [], _∷_, _++_, append-assoc, append-nil, append-cancel-left, head-eq-of-cons-eq, List·Memᴰ}

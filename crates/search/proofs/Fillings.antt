@@ -1,6 +1,5 @@
 -- Fillings of a tile: how many of their sites rank, that there is one, and one with another site in a slot. What is
--- known of
--- `ranks` and `ranked` stands here, and nothing else is used.
+-- known of `ranks` and `ranked` stands here, and nothing else is used.
 use Prim.Native.Nat.{ℕ, zero, suc, _<_}
 use mathlib.Core.Bool.{true, false}
 use mathlib.Core.List.{List, _∷_, _++_}

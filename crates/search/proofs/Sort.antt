@@ -1,6 +1,5 @@
 -- Sorting by a test: the sorted list does not depend on the order given, and what stands behind k others does not
--- change
--- the first k.
+-- change the first k.
 use Prim.Native.Nat.{ℕ, zero, suc, _+_, _≤_, _<_}
 use mathlib.Core.Bool.{Bool, true, false}
 use mathlib.Core.List.{List, [], _∷_, _++_, List·Memᴰ, List·Memᴰ·head, List·Memᴰ·tail, List·Permᴰ, List·Permᴰ·nil}

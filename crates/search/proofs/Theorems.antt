@@ -48,8 +48,7 @@ module _ {G : Geometry} (E : Directory G) (O : G .Box) (k : ℕ) where
   opened-once read ps = join-once E O k read ps
 
   -- "Any file .. equal to this one in every byte of the directory and of the opened tiles, gets an answer with the same
-  -- lists,
-  -- marks and counts": the same outcome, lists and openings, of which marks and counts are made
+  -- lists, marks and counts": the same outcome, lists and openings, of which marks and counts are made
   pub same-run : (read read′ : Reading G) (ps : List Stop) → All (λ t. read′ t ≡ read t) (join E O k read ps .openings)
       → join E O k read′ ps ≡ join E O k read ps
   same-run read read′ ps h = join-same E O k read read′ ps h

@@ -25,8 +25,7 @@ pub record FullSearch {G : Geometry} (E : Directory G) (k : ℕ) (p : G .Stop) (
   pub used : length (firstOf E k p g) ≡ placesUsed E k
 
 -- Demand 3 of a run. "Suppose the join answers", with the lists ls. "Take any town that agrees with the directory and
--- the
--- opened tiles, whatever its other tiles hold."
+-- the opened tiles, whatever its other tiles hold."
 module _ {G : Geometry} (E : Directory G) (O : G .Box) (k : ℕ) (read : Reading G) (ps : List (G .Stop)) where
   pub record RunAnswers (ls : List (List Place)) (opened : List ℕ) : Type 0 where
     -- "For every stop, the join's list equals what a full search of that town gives"

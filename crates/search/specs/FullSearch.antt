@@ -44,8 +44,7 @@ module _ {G : Geometry} (E : Directory G) where
     fullSearch p g = padded k (firstOf p g)
 
     -- "some other filling of it, agreeing with the directory and put into that town with nothing else changed, changes
-    -- what
-    -- the full search gives for at least one stop, in a distance, a site or a cue"
+    -- what the full search gives for at least one stop, in a distance, a site or a cue"
     pub record Changes (g : Town G) (ps : List Stop) (t : ℕ) : Type 0 where
       pub filling : List Site
       pub another : filling ≡ g t → ⊥

@@ -138,8 +138,7 @@ module _ {G : Geometry} (E : Directory G) (k : ℕ) where
   answer read p opened = record { openings = opened; outcome = accepted (nearest G k p (contents G read) opened) }
 
   -- One stop, with the tiles that wait, and those opened in the run so far, for this stop or an earlier one. "It ends
-  -- when k
-  -- sites of opened tiles are ahead of the next key .., or no tile remains. A tile not yet opened is opened".
+  -- when k sites of opened tiles are ahead of the next key .., or no tile remains. A tile not yet opened is opened".
   unfoldable pub serve : Reading G → Stop → List ℕ → List ℕ → Run (List Place)
   serve read p [] opened = answer read p opened
   serve read p (t ∷ ts) opened =

@@ -1,6 +1,5 @@
 // What the search compares: pairs of numbers in order, and with them places by rank and against the key of a tile; its
-// limits and
-// marks.
+// limits and marks.
 ghost use mathlib.Core.Path.{_≡_};
 ghost use Rattle.search.specs.Order.{lex};
 ghost use Rattle.search.specs.Limits.{validK};

@@ -116,8 +116,7 @@ fn serve_stop(
 }
 
 // Serves the stops in turn, over the tiles that neither the marks nor the directory rule out: the list of stop i from
-// index
-// i × k on. The places used by the last stop.
+// index i × k on. The places used by the last stop.
 pub fn serve_all(
     f: &[u8],
     h: Header,

@@ -34,8 +34,7 @@ walksFor f h cols k =
     cutWalks (entries f h) k (openingOf f h) (queue (entries f h) (around cols) k) (stopsOf cols)
 
 pub record Attempted (f : List ℕ) (h : Header) (cols : List (List ℤ)) (k : ℕ) (out : Slices) (r : Outcome ℕ)
-    (pruned : ℕ)
-    (out′ : Slices) : Type 0 where
+    (pruned : ℕ) (out′ : Slices) : Type 0 where
   pub counted : pruned ≡ prunedCount (entries f h) (around cols) k
   pub few : pruned ≤ h .tiles
   pub outcome : r ≡ andThen (walksFor f h cols k .out) (λ ls. accepted (lastLength 0 ls))
