@@ -6,10 +6,10 @@ ghost use Rattle.base.specs.Refusal.{accepted, refused};
 ghost use Rattle.base.specs.Every.{every};
 ghost use Rattle.codec.specs.Number.{limit16};
 ghost use Rattle.blocks.specs.Layout.{axes, blockSize, payloadAt, siteSize, maxSites};
-ghost use Rattle.blocks.specs.Directory.{directory, countAt};
+ghost use Rattle.blocks.specs.Directory.{directory};
 ghost use Rattle.tiles.specs.Inner.Opening.{openingOutcome};
 ghost use Rattle.tiles.specs.Tile.{siteOffset, siteIn, tilePadding, siteInside, tileBlock, tilePosition};
-ghost use Rattle.tiles.specs.Tile.{openTile, siteAt};
+ghost use Rattle.tiles.specs.Tile.{openTile};
 use base::Refusal;
 use base::both;
 use blocks::block;
@@ -139,13 +139,4 @@ pub fn open_tile(f: &[u8], h: Header, t: usize) -> Opening
     let bounds = directory::box_at(f, h, t);
     let count = directory::count_at(f, h, t);
     tile_block(block::block_at(f, p), p, bounds, count)
-}
-
-// The site of a slot of tile t, of a file whose directory is accepted.
-pub fn site_at(f: &[u8], h: Header, t: usize, slot: usize) -> Site
-    requires { ⌜ (directory (now f) ≡ accepted h) × (t < h .tiles) × (slot < countAt (now f) t) ⌝ }
-    ensures { λ r. ⌜ r ≡ siteAt (now (f .entry)) h t slot ⌝ }
-{
-    let p = tile_position(f, h, t);
-    site_in(block::block_at(f, p), slot)
 }
