@@ -92,25 +92,6 @@ returns-3 c =
     (put .put-place2 .ensures)
 
 pub insert-place-spec : {M : Type 1} → statement M
-insert-place-spec =
-    tie.close
-    (tie.spec
-    put-place-requires
-    add-result
-    same-length
-    same-length-2
-    same-length-3
-    returns
-    sub-others
-    add-place-at
-    place-at-requires
-    ranks-before-requires
-    same-length-4
-    same-length-5
-    same-length-6
-    returns-2
-    put-place-requires-2
-    same-length-7
-    same-length-8
-    same-length-9
-    returns-3)
+insert-place-spec = tie.close (tie.spec put-place-requires add-result same-length same-length-2 same-length-3 returns
+    sub-others add-place-at place-at-requires ranks-before-requires same-length-4 same-length-5 same-length-6 returns-2
+    put-place-requires-2 same-length-7 same-length-8 same-length-9 returns-3)

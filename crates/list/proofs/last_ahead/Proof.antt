@@ -46,15 +46,5 @@ returns-2 c =
     (s .pre .0) full)
 
 pub last-ahead-spec : {M : Type 1} → statement M
-last-ahead-spec =
-    tie.close
-    (tie.spec
-    returns
-    sub-last
-    add-last
-    mul-t11
-    shared-slice-read-t13
-    mul-t14
-    shared-slice-read-t16
-    ahead-of-key-requires
-    returns-2)
+last-ahead-spec = tie.close (tie.spec returns sub-last add-last mul-t11 shared-slice-read-t13 mul-t14
+    shared-slice-read-t16 ahead-of-key-requires returns-2)

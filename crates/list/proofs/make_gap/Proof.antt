@@ -90,30 +90,7 @@ returns-2 : tie.Need-returns-2 Inv-loop μ-loop
 returns-2 c = let g = c .before .loop .inv in (g .few, gap-bottom g (c .loop-test .left))
 
 pub make-gap-spec : {M : Type 1} → statement M
-make-gap-spec =
-    tie.close
-    (tie.spec
-    Inv-loop
-    μ-loop
-    loop-holds
-    add-i
-    sub-place-at
-    place-at-requires
-    ranks-before-requires
-    same-length
-    same-length-2
-    same-length-3
-    returns
-    mul-dist
-    slice-write-dist
-    mul-site
-    slice-write-site
-    mul-cue
-    slice-write-cue
-    sub-left
-    loop-less
-    loop-again
-    same-length-4
-    same-length-5
-    same-length-6
+make-gap-spec = tie.close (tie.spec Inv-loop μ-loop loop-holds add-i sub-place-at place-at-requires
+    ranks-before-requires same-length same-length-2 same-length-3 returns mul-dist slice-write-dist mul-site
+    slice-write-site mul-cue slice-write-cue sub-left loop-less loop-again same-length-4 same-length-5 same-length-6
     returns-2)

@@ -63,23 +63,7 @@ returns-3 : tie.Need-returns-3
 returns-3 c = search needs
 
 pub main-spec : {M : Type 1} → statement M
-main-spec =
-    tie.close
-    (tie.spec
-    slice-aggregate-read-all
-    read-all-requires
-    enum-known-read
-    enum-told
-    slice-aggregate-write-all
-    write-all-requires
-    returns
-    array-share-prefix-input
-    slice-aggregate-respond
-    respond-requires
-    array-share-prefix-out
-    slice-aggregate-write-all-2
-    write-all-requires-2
-    slice-aggregate-write-all-3
-    write-all-requires-3
-    returns-2
-    returns-3)
+main-spec = tie.close (tie.spec slice-aggregate-read-all read-all-requires enum-known-read enum-told
+    slice-aggregate-write-all write-all-requires returns array-share-prefix-input slice-aggregate-respond
+    respond-requires array-share-prefix-out slice-aggregate-write-all-2 write-all-requires-2 slice-aggregate-write-all-3
+    write-all-requires-3 returns-2 returns-3)

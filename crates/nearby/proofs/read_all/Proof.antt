@@ -88,24 +88,6 @@ returns-3 : tie.Need-returns-3 Inv-loop μ-loop
 returns-3 c = search needs
 
 pub read-all-spec : {M : Type 1} → statement M
-read-all-spec =
-    tie.close
-    (tie.spec
-    Inv-loop
-    μ-loop
-    loop-holds
-    sub-read-some
-    part-read-some-start
-    part-read-some-end
-    read-some-requires
-    enum-known-more
-    enum-told
-    same-length
-    returns
-    same-length-2
-    returns-2
-    add-done
-    loop-less
-    loop-again
-    same-length-3
-    returns-3)
+read-all-spec = tie.close (tie.spec Inv-loop μ-loop loop-holds sub-read-some part-read-some-start part-read-some-end
+    read-some-requires enum-known-more enum-told same-length returns same-length-2 returns-2 add-done loop-less
+    loop-again same-length-3 returns-3)

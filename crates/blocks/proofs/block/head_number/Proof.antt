@@ -53,15 +53,5 @@ returns-5 c = rw (
 )
 
 pub head-number-spec : {M : Type 1} → statement M
-head-number-spec =
-    tie.close
-    (tie.spec
-    shared-slice-read-if1
-    returns
-    agrees-requires
-    returns-2
-    kind-due-requires
-    returns-3
-    u16-at-requires
-    returns-4
-    returns-5)
+head-number-spec = tie.close (tie.spec shared-slice-read-if1 returns agrees-requires returns-2 kind-due-requires
+    returns-3 u16-at-requires returns-4 returns-5)

@@ -34,14 +34,5 @@ returns c = simp (
 )
 
 pub agrees-spec : {M : Type 1} → statement M
-agrees-spec =
-    tie.close
-    (tie.spec
-    sums-of-requires
-    shared-slice-read-wide
-    wide-requires
-    add-wide
-    shared-slice-read-wide-2
-    wide-requires-2
-    both-requires
-    returns)
+agrees-spec = tie.close (tie.spec sums-of-requires shared-slice-read-wide wide-requires add-wide
+    shared-slice-read-wide-2 wide-requires-2 both-requires returns)

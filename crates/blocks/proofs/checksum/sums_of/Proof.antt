@@ -54,17 +54,5 @@ returns c =
     ∙ l .loop .inv .3
 
 pub sums-of-spec : {M : Type 1} → statement M
-sums-of-spec =
-    tie.close
-    (tie.spec
-    Inv-loop
-    μ-loop
-    loop-holds
-    shared-slice-read-wide
-    wide-requires
-    add-a
-    add-c
-    add-i
-    loop-less
-    loop-again
-    returns)
+sums-of-spec = tie.close (tie.spec Inv-loop μ-loop loop-holds shared-slice-read-wide wide-requires add-a add-c add-i
+    loop-less loop-again returns)

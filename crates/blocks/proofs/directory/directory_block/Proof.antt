@@ -160,24 +160,7 @@ returns-6 c =
     ))
 
 pub directory-block-spec : {M : Type 1} → statement M
-directory-block-spec =
-    tie.close
-    (tie.spec
-    head-number-requires
-    refused-requires
-    returns
-    header-in-requires
-    tiles-due-requires
-    refused-requires-2
-    returns-2
-    entries-due-requires
-    u16-at-requires
-    refused-requires-3
-    returns-3
-    directory-padding-requires
-    refused-requires-4
-    returns-4
-    entries-valid-requires
-    refused-requires-5
-    returns-5
+directory-block-spec = tie.close (tie.spec head-number-requires refused-requires returns header-in-requires
+    tiles-due-requires refused-requires-2 returns-2 entries-due-requires u16-at-requires refused-requires-3 returns-3
+    directory-padding-requires refused-requires-4 returns-4 entries-valid-requires refused-requires-5 returns-5
     returns-6)

@@ -33,13 +33,5 @@ returns c = simp (
 )
 
 pub directory-padding-spec : {M : Type 1} → statement M
-directory-padding-spec =
-    tie.close
-    (tie.spec
-    entry-offset-requires
-    zeros-requires
-    entries-zero-requires
-    both-requires
-    zeros-requires-2
-    both-requires-2
-    returns)
+directory-padding-spec = tie.close (tie.spec entry-offset-requires zeros-requires entries-zero-requires both-requires
+    zeros-requires-2 both-requires-2 returns)

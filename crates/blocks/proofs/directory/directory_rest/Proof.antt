@@ -72,18 +72,5 @@ returns-2 c =
     ∙ turn-end (directoryBlockAt (s .args .f .now)) (l .loop .p) (d .directory-blocks .result) (search needs)))
 
 pub directory-rest-spec : {M : Type 1} → statement M
-directory-rest-spec =
-    tie.close
-    (tie.spec
-    Inv-loop
-    μ-loop
-    directory-blocks-requires
-    loop-holds
-    directory-block-at-requires
-    enum-told
-    enum-told-2
-    returns
-    add-p
-    loop-less
-    loop-again
-    returns-2)
+directory-rest-spec = tie.close (tie.spec Inv-loop μ-loop directory-blocks-requires loop-holds
+    directory-block-at-requires enum-told enum-told-2 returns add-p loop-less loop-again returns-2)

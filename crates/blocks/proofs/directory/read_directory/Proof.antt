@@ -75,17 +75,5 @@ returns-3 c =
     c .directory-rest .ensures ∙ sym (rw (due search, first, first-block _ _ first (header search) .0))
 
 pub read-directory-spec : {M : Type 1} → statement M
-read-directory-spec =
-    tie.close
-    (tie.spec
-    length-due-requires
-    refused-requires
-    returns
-    block-at-requires
-    header-in-requires
-    directory-block-at-requires
-    enum-told
-    enum-told-2
-    returns-2
-    directory-rest-requires
-    returns-3)
+read-directory-spec = tie.close (tie.spec length-due-requires refused-requires returns block-at-requires
+    header-in-requires directory-block-at-requires enum-told enum-told-2 returns-2 directory-rest-requires returns-3)

@@ -27,12 +27,5 @@ returns c =
     simp (c .both3 .ensures, b .both2 .ensures, a .both .ensures, d .directory-blocks .ensures .0)
 
 pub tiles-due-spec : {M : Type 1} → statement M
-tiles-due-spec =
-    tie.close
-    (tie.spec
-    both-requires
-    directory-blocks-requires
-    add-both
-    both-requires-2
-    both-requires-3
+tiles-due-spec = tie.close (tie.spec both-requires directory-blocks-requires add-both both-requires-2 both-requires-3
     returns)

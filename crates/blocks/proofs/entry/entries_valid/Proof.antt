@@ -46,15 +46,5 @@ returns-2 c =
     sym (every-holds (entryValid (a .s .now)) (a .n) (λ j h. l .loop .inv j (omega arith)))
 
 pub entries-valid-spec : {M : Type 1} → statement M
-entries-valid-spec =
-    tie.close
-    (tie.spec
-    Inv-loop
-    μ-loop
-    loop-holds
-    entry-valid-requires
-    returns
-    add-i
-    loop-less
-    loop-again
-    returns-2)
+entries-valid-spec = tie.close (tie.spec Inv-loop μ-loop loop-holds entry-valid-requires returns add-i loop-less
+    loop-again returns-2)

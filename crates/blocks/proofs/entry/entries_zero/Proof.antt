@@ -46,15 +46,5 @@ returns-2 c =
     sym (every-holds (entryZero (a .s .now)) (a .n) (λ j h. l .loop .inv j (omega arith)))
 
 pub entries-zero-spec : {M : Type 1} → statement M
-entries-zero-spec =
-    tie.close
-    (tie.spec
-    Inv-loop
-    μ-loop
-    loop-holds
-    entry-zero-requires
-    returns
-    add-i
-    loop-less
-    loop-again
-    returns-2)
+entries-zero-spec = tie.close (tie.spec Inv-loop μ-loop loop-holds entry-zero-requires returns add-i loop-less
+    loop-again returns-2)

@@ -49,15 +49,5 @@ returns c =
     (simp (a .ensures, b .ensures, g .ensures, d .ensures, o .entry-offset .ensures .0))
 
 pub entry-box-spec : {M : Type 1} → statement M
-entry-box-spec =
-    tie.close
-    (tie.spec
-    entry-offset-requires
-    i32-at-requires
-    add-i32-at
-    i32-at-requires-2
-    add-i32-at-2
-    i32-at-requires-3
-    add-i32-at-3
-    i32-at-requires-4
-    returns)
+entry-box-spec = tie.close (tie.spec entry-offset-requires i32-at-requires add-i32-at i32-at-requires-2 add-i32-at-2
+    i32-at-requires-3 add-i32-at-3 i32-at-requires-4 returns)

@@ -29,14 +29,5 @@ unfolding u32At
 returns c = search needs
 
 pub u32-at-spec : {M : Type 1} → statement M
-u32-at-spec =
-    tie.close
-    (tie.spec
-    u16-at-requires
-    cast-low
-    add-u16-at
-    u16-at-requires-2
-    cast-high
-    mul-result
-    add-result
+u32-at-spec = tie.close (tie.spec u16-at-requires cast-low add-u16-at u16-at-requires-2 cast-high mul-result add-result
     returns)

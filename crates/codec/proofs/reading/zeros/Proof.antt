@@ -42,15 +42,5 @@ returns-2 c =
     sym (zeros-hold (a .s .now) (a .from) (a .to) (λ j h k. l .loop .inv .1 j (omega arith) k))
 
 pub zeros-spec : {M : Type 1} → statement M
-zeros-spec =
-    tie.close
-    (tie.spec
-    Inv-loop
-    μ-loop
-    loop-holds
-    shared-slice-read-if1
-    returns
-    add-i
-    loop-less
-    loop-again
+zeros-spec = tie.close (tie.spec Inv-loop μ-loop loop-holds shared-slice-read-if1 returns add-i loop-less loop-again
     returns-2)

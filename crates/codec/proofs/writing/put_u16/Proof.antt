@@ -34,13 +34,5 @@ returns c =
     (c .before .before .put-u82 .ensures) refl
 
 pub put-u16-spec : {M : Type 1} → statement M
-put-u16-spec =
-    tie.close
-    (tie.spec
-    cast-put-u8
-    put-u8-requires
-    add-put-u8
-    cast-put-u8-2
-    put-u8-requires-2
-    same-length
+put-u16-spec = tie.close (tie.spec cast-put-u8 put-u8-requires add-put-u8 cast-put-u8-2 put-u8-requires-2 same-length
     returns)

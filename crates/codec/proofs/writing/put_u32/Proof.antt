@@ -60,19 +60,5 @@ returns c =
     also (a .d .now) (a .at) (a .at + 3) (x ++ y ++ z) w g (c .before .before .put-u84 .ensures) refl
 
 pub put-u32-spec : {M : Type 1} → statement M
-put-u32-spec =
-    tie.close
-    (tie.spec
-    cast-put-u8
-    put-u8-requires
-    add-put-u8
-    cast-put-u8-2
-    put-u8-requires-2
-    add-put-u8-2
-    cast-put-u8-3
-    put-u8-requires-3
-    add-put-u8-3
-    cast-put-u8-4
-    put-u8-requires-4
-    same-length
-    returns)
+put-u32-spec = tie.close (tie.spec cast-put-u8 put-u8-requires add-put-u8 cast-put-u8-2 put-u8-requires-2 add-put-u8-2
+    cast-put-u8-3 put-u8-requires-3 add-put-u8-3 cast-put-u8-4 put-u8-requires-4 same-length returns)

@@ -45,15 +45,5 @@ returns c = fill-end (c .before .loop .d) (c .before .loop .i) (c .before .befor
     ∙ c .before .loop .inv .3
 
 pub put-zeros-spec : {M : Type 1} → statement M
-put-zeros-spec =
-    tie.close
-    (tie.spec
-    Inv-loop
-    μ-loop
-    loop-holds
-    slice-write-d
-    add-i
-    loop-less
-    loop-again
-    same-length
+put-zeros-spec = tie.close (tie.spec Inv-loop μ-loop loop-holds slice-write-d add-i loop-less loop-again same-length
     returns)

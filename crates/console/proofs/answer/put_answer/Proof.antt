@@ -58,16 +58,5 @@ returns-2 c =
     rw (c .before .before .before .before .before .answer2 .given .1) (end .0, omega (arith, end .1))
 
 pub put-answer-spec : {M : Type 1} → statement M
-put-answer-spec =
-    tie.close
-    (tie.spec
-    enum-known-answer
-    put-counts-requires
-    cast-put-stops
-    put-stops-requires
-    enum-known-answer-2
-    put-refused-requires
-    same-length
-    returns
-    same-length-2
-    returns-2)
+put-answer-spec = tie.close (tie.spec enum-known-answer put-counts-requires cast-put-stops put-stops-requires
+    enum-known-answer-2 put-refused-requires same-length returns same-length-2 returns-2)

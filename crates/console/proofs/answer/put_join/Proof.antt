@@ -51,17 +51,6 @@ returns c =
     (rw (sym (j .join .ensures)) (end .0), end .1)
 
 pub put-join-spec : {M : Type 1} → statement M
-put-join-spec =
-    tie.close
-    (tie.spec
-    slice-aggregate-join
-    slice-aggregate-join-2
-    slice-aggregate-join-3
-    slice-aggregate-join-4
-    join-requires
-    slice-aggregate-put-answer
-    slice-aggregate-put-answer-2
-    slice-aggregate-put-answer-3
-    put-answer-requires
-    same-length
-    returns)
+put-join-spec = tie.close (tie.spec slice-aggregate-join slice-aggregate-join-2 slice-aggregate-join-3
+    slice-aggregate-join-4 join-requires slice-aggregate-put-answer slice-aggregate-put-answer-2
+    slice-aggregate-put-answer-3 put-answer-requires same-length returns)

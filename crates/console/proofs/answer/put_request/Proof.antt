@@ -133,23 +133,7 @@ returns c =
     (text, end .1)
 
 pub put-request-spec : {M : Type 1} → statement M
-put-request-spec =
-    tie.close
-    (tie.spec
-    stop-count-requires
-    u32-at-requires
-    slice-aggregate-read-coordinates
-    read-coordinates-requires
-    slice-aggregate-read-coordinates-2
-    read-coordinates-requires-2
-    head-length-requires
-    sub-put-join
-    part-put-join-start
-    part-put-join-end
-    array-share-prefix-xs
-    slice-aggregate-put-join
-    array-share-prefix-ys
-    slice-aggregate-put-join-2
-    put-join-requires
-    same-length
-    returns)
+put-request-spec = tie.close (tie.spec stop-count-requires u32-at-requires slice-aggregate-read-coordinates
+    read-coordinates-requires slice-aggregate-read-coordinates-2 read-coordinates-requires-2 head-length-requires
+    sub-put-join part-put-join-start part-put-join-end array-share-prefix-xs slice-aggregate-put-join
+    array-share-prefix-ys slice-aggregate-put-join-2 put-join-requires same-length returns)

@@ -44,12 +44,5 @@ returns-2 c =
     )
 
 pub respond-spec : {M : Type 1} → statement M
-respond-spec =
-    tie.close
-    (tie.spec
-    well-formed-requires
-    put-request-requires
-    returns
-    slice-aggregate-put-text
-    put-text-requires
-    returns-2)
+respond-spec = tie.close (tie.spec well-formed-requires put-request-requires returns slice-aggregate-put-text
+    put-text-requires returns-2)

@@ -33,14 +33,5 @@ returns-2 c = rw (separator-later (c .before .before .before .before .before .be
     (c .before .before .before .before .before .if1 .left)) (c .before .before .put-labelled2 .ensures)
 
 pub put-distance-spec : {M : Type 1} → statement M
-put-distance-spec =
-    tie.close
-    (tie.spec
-    slice-aggregate-put-labelled
-    put-labelled-requires
-    same-length
-    returns
-    slice-aggregate-put-labelled-2
-    put-labelled-requires-2
-    same-length-2
-    returns-2)
+put-distance-spec = tie.close (tie.spec slice-aggregate-put-labelled put-labelled-requires same-length returns
+    slice-aggregate-put-labelled-2 put-labelled-requires-2 same-length-2 returns-2)

@@ -56,13 +56,5 @@ returns c =
     then (then (e .put-distance .ensures) (a .put-labelled .ensures)) (b .put-labelled2 .ensures)
 
 pub put-place-spec : {M : Type 1} → statement M
-put-place-spec =
-    tie.close
-    (tie.spec
-    put-distance-requires
-    slice-aggregate-put-labelled
-    put-labelled-requires
-    slice-aggregate-put-labelled-2
-    put-labelled-requires-2
-    same-length
-    returns)
+put-place-spec = tie.close (tie.spec put-distance-requires slice-aggregate-put-labelled put-labelled-requires
+    slice-aggregate-put-labelled-2 put-labelled-requires-2 same-length returns)

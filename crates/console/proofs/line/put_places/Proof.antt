@@ -102,24 +102,6 @@ returns c =
     (s .args .out .now) (s .args .at) (l .j) (omega arith) (l .inv .3)
 
 pub put-places-spec : {M : Type 1} → statement M
-put-places-spec =
-    tie.close
-    (tie.spec
-    Inv-loop
-    μ-loop
-    loop-holds
-    add-put-place
-    mul-put-place
-    shared-slice-read-put-place
-    add-put-place-2
-    mul-put-place-2
-    shared-slice-read-put-place-2
-    add-put-place-3
-    mul-put-place-3
-    shared-slice-read-put-place-3
-    put-place-requires
-    add-j
-    loop-less
-    loop-again
-    same-length
-    returns)
+put-places-spec = tie.close (tie.spec Inv-loop μ-loop loop-holds add-put-place mul-put-place shared-slice-read-put-place
+    add-put-place-2 mul-put-place-2 shared-slice-read-put-place-2 add-put-place-3 mul-put-place-3
+    shared-slice-read-put-place-3 put-place-requires add-j loop-less loop-again same-length returns)

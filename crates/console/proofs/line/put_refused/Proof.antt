@@ -63,14 +63,5 @@ returns c =
     )
 
 pub put-refused-spec : {M : Type 1} → statement M
-put-refused-spec =
-    tie.close
-    (tie.spec
-    slice-aggregate-put-labelled
-    put-labelled-requires
-    slice-aggregate-put-labelled-2
-    put-labelled-requires-2
-    slice-aggregate-put-text
-    put-text-requires
-    same-length
-    returns)
+put-refused-spec = tie.close (tie.spec slice-aggregate-put-labelled put-labelled-requires slice-aggregate-put-labelled-2
+    put-labelled-requires-2 slice-aggregate-put-text put-text-requires same-length returns)

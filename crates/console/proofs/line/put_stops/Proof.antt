@@ -72,15 +72,5 @@ returns c =
     (parts-end lines (a .n) (a .out .now) (a .at) (l .i) (omega arith) (l .inv .3), omega (arith, l .inv .0, l .inv .1))
 
 pub put-stops-spec : {M : Type 1} → statement M
-put-stops-spec =
-    tie.close
-    (tie.spec
-    Inv-loop
-    μ-loop
-    loop-holds
-    put-stop-requires
-    add-i
-    loop-less
-    loop-again
-    same-length
+put-stops-spec = tie.close (tie.spec Inv-loop μ-loop loop-holds put-stop-requires add-i loop-less loop-again same-length
     returns)

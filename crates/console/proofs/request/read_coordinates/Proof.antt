@@ -64,19 +64,5 @@ returns c =
     rw all at (l .inv .2)
 
 pub read-coordinates-spec : {M : Type 1} → statement M
-read-coordinates-spec =
-    tie.close
-    (tie.spec
-    Inv-loop
-    μ-loop
-    loop-holds
-    mul-i32-at
-    add-i32-at
-    i32-at-requires
-    mul-t10
-    slice-set-from-out
-    add-i
-    loop-less
-    loop-again
-    same-length
-    returns)
+read-coordinates-spec = tie.close (tie.spec Inv-loop μ-loop loop-holds mul-i32-at add-i32-at i32-at-requires mul-t10
+    slice-set-from-out add-i loop-less loop-again same-length returns)

@@ -57,18 +57,5 @@ returns c =
     digits-end (l .out) (c .before .before .args .at) (l .rest) ∙ rw i at (l .inv .2)
 
 pub put-digits-spec : {M : Type 1} → statement M
-put-digits-spec =
-    tie.close
-    (tie.spec
-    Inv-loop
-    μ-loop
-    loop-holds
-    sub-i
-    cast-out
-    add-out
-    add-out-2
-    slice-write-out
-    loop-less
-    loop-again
-    same-length
-    returns)
+put-digits-spec = tie.close (tie.spec Inv-loop μ-loop loop-holds sub-i cast-out add-out add-out-2 slice-write-out
+    loop-less loop-again same-length returns)

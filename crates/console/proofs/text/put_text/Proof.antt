@@ -55,18 +55,5 @@ returns c =
     record { content = copy-end (l .out) (a .text .now) (a .at + l .i) (l .i) (omega arith) ∙ l .inv .2; end = refl }
 
 pub put-text-spec : {M : Type 1} → statement M
-put-text-spec =
-    tie.close
-    (tie.spec
-    Inv-loop
-    μ-loop
-    loop-holds
-    shared-slice-read-out
-    add-out
-    slice-write-out
-    add-i
-    loop-less
-    loop-again
-    add-result
-    same-length
-    returns)
+put-text-spec = tie.close (tie.spec Inv-loop μ-loop loop-holds shared-slice-read-out add-out slice-write-out add-i
+    loop-less loop-again add-result same-length returns)

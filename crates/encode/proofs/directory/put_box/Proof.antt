@@ -87,27 +87,7 @@ returns c =
     at (c .before .before .put-i324 .ensures))
 
 pub put-box-spec : {M : Type 1} → statement M
-put-box-spec =
-    tie.close
-    (tie.spec
-    mul-b
-    mul-put-i32
-    shared-slice-copy-out-put-i32
-    put-i32-requires
-    add-put-i32
-    add-put-i32-2
-    mul-put-i32-2
-    shared-slice-copy-out-put-i32-2
-    put-i32-requires-2
-    add-put-i32-3
-    add-put-i32-4
-    mul-put-i32-3
-    shared-slice-copy-out-put-i32-3
-    put-i32-requires-3
-    add-put-i32-5
-    add-put-i32-6
-    mul-put-i32-4
-    shared-slice-copy-out-put-i32-4
-    put-i32-requires-4
-    same-length
-    returns)
+put-box-spec = tie.close (tie.spec mul-b mul-put-i32 shared-slice-copy-out-put-i32 put-i32-requires add-put-i32
+    add-put-i32-2 mul-put-i32-2 shared-slice-copy-out-put-i32-2 put-i32-requires-2 add-put-i32-3 add-put-i32-4
+    mul-put-i32-3 shared-slice-copy-out-put-i32-3 put-i32-requires-3 add-put-i32-5 add-put-i32-6 mul-put-i32-4
+    shared-slice-copy-out-put-i32-4 put-i32-requires-4 same-length returns)

@@ -84,18 +84,5 @@ returns c =
     ∙ l .loop .inv .2
 
 pub put-directory-spec : {M : Type 1} → statement M
-put-directory-spec =
-    tie.close
-    (tie.spec
-    Inv-loop
-    μ-loop
-    header-of-requires
-    directory-blocks-requires
-    loop-holds
-    put-directory-block-requires
-    add-p
-    sub-left
-    loop-less
-    loop-again
-    same-length
-    returns)
+put-directory-spec = tie.close (tie.spec Inv-loop μ-loop header-of-requires directory-blocks-requires loop-holds
+    put-directory-block-requires add-p sub-left loop-less loop-again same-length returns)

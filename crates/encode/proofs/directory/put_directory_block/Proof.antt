@@ -106,23 +106,6 @@ returns c =
     (e .entries-due .ensures .0 ∙ ap (λ h. entriesDue h (a .p)) (k .header-of .ensures .0))
 
 pub put-directory-block-spec : {M : Type 1} → statement M
-put-directory-block-spec =
-    tie.close
-    (tie.spec
-    mul-at
-    header-of-requires
-    entries-due-requires
-    entry-offset-requires
-    put-head-requires
-    add-put-zeros
-    add-put-zeros-2
-    put-zeros-requires
-    add-put-entries
-    mul-put-entries
-    put-entries-requires
-    add-put-zeros-3
-    add-put-zeros-4
-    put-zeros-requires-2
-    put-checksum-requires
-    same-length
-    returns)
+put-directory-block-spec = tie.close (tie.spec mul-at header-of-requires entries-due-requires entry-offset-requires
+    put-head-requires add-put-zeros add-put-zeros-2 put-zeros-requires add-put-entries mul-put-entries
+    put-entries-requires add-put-zeros-3 add-put-zeros-4 put-zeros-requires-2 put-checksum-requires same-length returns)

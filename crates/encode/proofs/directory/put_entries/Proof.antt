@@ -68,17 +68,5 @@ returns c =
     (search needs) ∙ l .loop .inv .4
 
 pub put-entries-spec : {M : Type 1} → statement M
-put-entries-spec =
-    tie.close
-    (tie.spec
-    Inv-loop
-    μ-loop
-    loop-holds
-    put-entry-requires
-    add-at
-    add-t
-    sub-left
-    loop-less
-    loop-again
-    same-length
-    returns)
+put-entries-spec = tie.close (tie.spec Inv-loop μ-loop loop-holds put-entry-requires add-at add-t sub-left loop-less
+    loop-again same-length returns)

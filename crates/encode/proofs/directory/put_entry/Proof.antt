@@ -50,17 +50,5 @@ returns c =
     (c .before .before .put-zeros .ensures)
 
 pub put-entry-spec : {M : Type 1} → statement M
-put-entry-spec =
-    tie.close
-    (tie.spec
-    put-box-requires
-    add-put-u16
-    mul-wide
-    shared-slice-read-wide
-    wide-requires
-    put-u16-requires
-    add-put-zeros
-    add-put-zeros-2
-    put-zeros-requires
-    same-length
-    returns)
+put-entry-spec = tie.close (tie.spec put-box-requires add-put-u16 mul-wide shared-slice-read-wide wide-requires
+    put-u16-requires add-put-zeros add-put-zeros-2 put-zeros-requires same-length returns)

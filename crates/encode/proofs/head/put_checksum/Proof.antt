@@ -65,20 +65,6 @@ returns c =
     (c₁ .put-u8 .ensures) (c .before .before .put-u82 .ensures)
 
 pub put-checksum-spec : {M : Type 1} → statement M
-put-checksum-spec =
-    tie.close
-    (tie.spec
-    add-end
-    sub-sums-of
-    part-sums-of-start
-    part-sums-of-end
-    sums-of-requires
-    add-put-u8
-    low-requires
-    put-u8-requires
-    add-put-u8-2
-    add-put-u8-3
-    low-requires-2
-    put-u8-requires-2
-    same-length
+put-checksum-spec = tie.close (tie.spec add-end sub-sums-of part-sums-of-start part-sums-of-end sums-of-requires
+    add-put-u8 low-requires put-u8-requires add-put-u8-2 add-put-u8-3 low-requires-2 put-u8-requires-2 same-length
     returns)

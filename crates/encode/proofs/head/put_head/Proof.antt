@@ -44,17 +44,5 @@ returns c =
     (c₂ .put-u16 .ensures) (c₁ .put-u162 .ensures) (c .before .before .put-u163 .ensures)
 
 pub put-head-spec : {M : Type 1} → statement M
-put-head-spec =
-    tie.close
-    (tie.spec
-    put-u8-requires
-    add-put-u8
-    put-u8-requires-2
-    add-put-u16
-    put-u16-requires
-    add-put-u16-2
-    put-u16-requires-2
-    add-put-u16-3
-    put-u16-requires-3
-    same-length
-    returns)
+put-head-spec = tie.close (tie.spec put-u8-requires add-put-u8 put-u8-requires-2 add-put-u16 put-u16-requires
+    add-put-u16-2 put-u16-requires-2 add-put-u16-3 put-u16-requires-3 same-length returns)

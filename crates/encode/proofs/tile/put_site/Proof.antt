@@ -55,19 +55,6 @@ returns c =
     (c .before .before .put-u32 .ensures)
 
 pub put-site-spec : {M : Type 1} → statement M
-put-site-spec =
-    tie.close
-    (tie.spec
-    mul-put-i32
-    shared-slice-copy-out-put-i32
-    put-i32-requires
-    add-put-i32
-    mul-put-i32-2
-    shared-slice-copy-out-put-i32-2
-    put-i32-requires-2
-    add-put-u32
-    mul-put-u32
-    shared-slice-read-put-u32
-    put-u32-requires
-    same-length
-    returns)
+put-site-spec = tie.close (tie.spec mul-put-i32 shared-slice-copy-out-put-i32 put-i32-requires add-put-i32 mul-put-i32-2
+    shared-slice-copy-out-put-i32-2 put-i32-requires-2 add-put-u32 mul-put-u32 shared-slice-read-put-u32
+    put-u32-requires same-length returns)

@@ -69,17 +69,5 @@ returns c =
     (search needs) ∙ l .loop .inv .5
 
 pub put-sites-spec : {M : Type 1} → statement M
-put-sites-spec =
-    tie.close
-    (tie.spec
-    Inv-loop
-    μ-loop
-    loop-holds
-    put-site-requires
-    add-at
-    add-i
-    sub-left
-    loop-less
-    loop-again
-    same-length
-    returns)
+put-sites-spec = tie.close (tie.spec Inv-loop μ-loop loop-holds put-site-requires add-at add-i sub-left loop-less
+    loop-again same-length returns)

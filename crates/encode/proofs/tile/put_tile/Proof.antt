@@ -67,20 +67,6 @@ returns c =
     (c .before .before .put-checksum .ensures)
 
 pub put-tile-spec : {M : Type 1} → statement M
-put-tile-spec =
-    tie.close
-    (tie.spec
-    mul-at
-    site-offset-requires
-    put-head-requires
-    add-put-zeros
-    add-put-zeros-2
-    put-zeros-requires
-    add-put-sites
-    put-sites-requires
-    add-put-zeros-3
-    add-put-zeros-4
-    put-zeros-requires-2
-    put-checksum-requires
-    same-length
-    returns)
+put-tile-spec = tie.close (tie.spec mul-at site-offset-requires put-head-requires add-put-zeros add-put-zeros-2
+    put-zeros-requires add-put-sites put-sites-requires add-put-zeros-3 add-put-zeros-4 put-zeros-requires-2
+    put-checksum-requires same-length returns)

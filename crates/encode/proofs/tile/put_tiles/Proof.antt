@@ -140,22 +140,6 @@ returns c =
     (length (a .counts .now) - l .loop .t) (search needs) ∙ l .loop .inv .4
 
 pub put-tiles-spec : {M : Type 1} → statement M
-put-tiles-spec =
-    tie.close
-    (tie.spec
-    Inv-loop
-    μ-loop
-    header-of-requires
-    directory-blocks-requires
-    loop-holds
-    mul-wide
-    shared-slice-read-wide
-    wide-requires
-    put-tile-requires
-    add-first
-    add-p
-    add-t
-    loop-less
-    loop-again
-    same-length
+put-tiles-spec = tie.close (tie.spec Inv-loop μ-loop header-of-requires directory-blocks-requires loop-holds mul-wide
+    shared-slice-read-wide wide-requires put-tile-requires add-first add-p add-t loop-less loop-again same-length
     returns)

@@ -67,14 +67,5 @@ returns-2 c =
     )
 
 pub max-square-spec : {M : Type 1} → statement M
-max-square-spec =
-    tie.close
-    (tie.spec
-    array-copy-out-a
-    sub-a
-    array-copy-out-b
-    sub-b
-    squared-requires
-    squared-requires-2
-    returns
-    returns-2)
+max-square-spec = tie.close (tie.spec array-copy-out-a sub-a array-copy-out-b sub-b squared-requires squared-requires-2
+    returns returns-2)

@@ -29,11 +29,5 @@ returns c =
     (sym (corner-2 (s .args .t1) (s .args .c) (search needs)))
 
 pub corner-spec : {M : Type 1} → statement M
-corner-spec =
-    tie.close
-    (tie.spec
-    array-copy-out-end-at
-    end-at-requires
-    array-copy-out-end-at-2
-    end-at-requires-2
+corner-spec = tie.close (tie.spec array-copy-out-end-at end-at-requires array-copy-out-end-at-2 end-at-requires-2
     returns)

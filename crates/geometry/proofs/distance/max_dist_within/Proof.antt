@@ -75,14 +75,5 @@ unfolding start first
 returns c = omega (arith, sums c)
 
 pub max-dist-within-spec : {M : Type 1} → statement M
-max-dist-within-spec =
-    tie.close
-    (tie.spec
-    array-copy-out-max-square
-    array-copy-out-max-square-2
-    max-square-requires
-    array-copy-out-max-square-3
-    array-copy-out-max-square-4
-    max-square-requires-2
-    add-result
-    returns)
+max-dist-within-spec = tie.close (tie.spec array-copy-out-max-square array-copy-out-max-square-2 max-square-requires
+    array-copy-out-max-square-3 array-copy-out-max-square-4 max-square-requires-2 add-result returns)

@@ -50,14 +50,5 @@ returns-3 c =
     rw (box-valid (c .before .before .before), point-valid (c .before)) (ap accepted (c .min-dist-within .ensures))
 
 pub min-dist-spec : {M : Type 1} → statement M
-min-dist-spec =
-    tie.close
-    (tie.spec
-    valid-box-requires
-    refused-requires
-    returns
-    valid-point-requires
-    refused-requires-2
-    returns-2
-    min-dist-within-requires
-    returns-3)
+min-dist-spec = tie.close (tie.spec valid-box-requires refused-requires returns valid-point-requires refused-requires-2
+    returns-2 min-dist-within-requires returns-3)

@@ -80,14 +80,5 @@ unfolding start first
 returns c = omega (arith, sums c)
 
 pub min-dist-within-spec : {M : Type 1} → statement M
-min-dist-within-spec =
-    tie.close
-    (tie.spec
-    array-copy-out-min-square
-    array-copy-out-min-square-2
-    min-square-requires
-    array-copy-out-min-square-3
-    array-copy-out-min-square-4
-    min-square-requires-2
-    add-result
-    returns)
+min-dist-within-spec = tie.close (tie.spec array-copy-out-min-square array-copy-out-min-square-2 min-square-requires
+    array-copy-out-min-square-3 array-copy-out-min-square-4 min-square-requires-2 add-result returns)

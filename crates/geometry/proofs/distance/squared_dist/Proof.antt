@@ -76,14 +76,5 @@ unfolding start first
 returns c = omega (arith, sums c)
 
 pub squared-dist-spec : {M : Type 1} → statement M
-squared-dist-spec =
-    tie.close
-    (tie.spec
-    array-copy-out-square
-    array-copy-out-square-2
-    square-requires
-    array-copy-out-square-3
-    array-copy-out-square-4
-    square-requires-2
-    add-result
-    returns)
+squared-dist-spec = tie.close (tie.spec array-copy-out-square array-copy-out-square-2 square-requires
+    array-copy-out-square-3 array-copy-out-square-4 square-requires-2 add-result returns)

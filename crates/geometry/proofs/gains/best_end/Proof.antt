@@ -57,11 +57,5 @@ returns-2 c =
     toZ-ofZ (limited-fits (axis (s .args .t1) (s .pre .0) .low)) ∙ rw (sym (tested t) ∙ c .before .if1 .left)
 
 pub best-end-spec : {M : Type 1} → statement M
-best-end-spec =
-    tie.close
-    (tie.spec
-    gains-at-ends-requires
-    array-copy-out-result
-    array-copy-out-result-2
-    returns
+best-end-spec = tie.close (tie.spec gains-at-ends-requires array-copy-out-result array-copy-out-result-2 returns
     returns-2)

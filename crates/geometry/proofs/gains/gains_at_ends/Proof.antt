@@ -100,15 +100,5 @@ returns c =
     )
 
 pub gains-at-ends-spec : {M : Type 1} → statement M
-gains-at-ends-spec =
-    tie.close
-    (tie.spec
-    array-copy-out-l
-    array-copy-out-h
-    max-square-requires
-    min-square-requires
-    difference-requires
-    max-square-requires-2
-    min-square-requires-2
-    difference-requires-2
-    returns)
+gains-at-ends-spec = tie.close (tie.spec array-copy-out-l array-copy-out-h max-square-requires min-square-requires
+    difference-requires max-square-requires-2 min-square-requires-2 difference-requires-2 returns)

@@ -49,14 +49,5 @@ returns c =
     )
 
 pub inside-spec : {M : Type 1} → statement M
-inside-spec =
-    tie.close
-    (tie.spec
-    array-copy-out-on-axis
-    array-copy-out-on-axis-2
-    on-axis-requires
-    array-copy-out-on-axis-3
-    array-copy-out-on-axis-4
-    on-axis-requires-2
-    both-requires
-    returns)
+inside-spec = tie.close (tie.spec array-copy-out-on-axis array-copy-out-on-axis-2 on-axis-requires
+    array-copy-out-on-axis-3 array-copy-out-on-axis-4 on-axis-requires-2 both-requires returns)

@@ -32,12 +32,5 @@ returns c =
     )
 
 pub valid-box-spec : {M : Type 1} → statement M
-valid-box-spec =
-    tie.close
-    (tie.spec
-    array-copy-out-valid-axis
-    valid-axis-requires
-    array-copy-out-valid-axis-2
-    valid-axis-requires-2
-    both-requires
-    returns)
+valid-box-spec = tie.close (tie.spec array-copy-out-valid-axis valid-axis-requires array-copy-out-valid-axis-2
+    valid-axis-requires-2 both-requires returns)

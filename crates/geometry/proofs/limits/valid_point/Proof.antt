@@ -42,12 +42,5 @@ returns c =
     )
 
 pub valid-point-spec : {M : Type 1} → statement M
-valid-point-spec =
-    tie.close
-    (tie.spec
-    array-copy-out-within-limits
-    within-limits-requires
-    array-copy-out-within-limits-2
-    within-limits-requires-2
-    both-requires
-    returns)
+valid-point-spec = tie.close (tie.spec array-copy-out-within-limits within-limits-requires
+    array-copy-out-within-limits-2 within-limits-requires-2 both-requires returns)

@@ -67,16 +67,6 @@ returns c =
     (toZ-ofZ (sfits-of (c .struct-told6 .given .1 .1 .0 .1)) ∙ y .best-ends2 .ensures .1 .1)
 
 pub margin-points-spec : {M : Type 1} → statement M
-margin-points-spec =
-    tie.close
-    (tie.spec
-    margin-within-requires
-    array-copy-out-best-ends
-    array-copy-out-best-ends-2
-    array-copy-out-best-ends-3
-    best-ends-requires
-    array-copy-out-best-ends-4
-    array-copy-out-best-ends-5
-    array-copy-out-best-ends-6
-    best-ends-requires-2
-    returns)
+margin-points-spec = tie.close (tie.spec margin-within-requires array-copy-out-best-ends array-copy-out-best-ends-2
+    array-copy-out-best-ends-3 best-ends-requires array-copy-out-best-ends-4 array-copy-out-best-ends-5
+    array-copy-out-best-ends-6 best-ends-requires-2 returns)

@@ -82,16 +82,6 @@ unfolding start first
 returns c = toZ-ofZ (add-result c) ∙ sums c
 
 pub margin-within-spec : {M : Type 1} → statement M
-margin-within-spec =
-    tie.close
-    (tie.spec
-    array-copy-out-best-gain
-    array-copy-out-best-gain-2
-    array-copy-out-best-gain-3
-    best-gain-requires
-    array-copy-out-best-gain-4
-    array-copy-out-best-gain-5
-    array-copy-out-best-gain-6
-    best-gain-requires-2
-    add-result
-    returns)
+margin-within-spec = tie.close (tie.spec array-copy-out-best-gain array-copy-out-best-gain-2 array-copy-out-best-gain-3
+    best-gain-requires array-copy-out-best-gain-4 array-copy-out-best-gain-5 array-copy-out-best-gain-6
+    best-gain-requires-2 add-result returns)

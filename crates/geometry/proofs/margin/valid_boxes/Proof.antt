@@ -26,12 +26,5 @@ returns c =
     simp (c .both2 .ensures, b .valid-box3 .ensures, oe .both .ensures, e .valid-box2 .ensures, o .valid-box .ensures)
 
 pub valid-boxes-spec : {M : Type 1} → statement M
-valid-boxes-spec =
-    tie.close
-    (tie.spec
-    valid-box-requires
-    valid-box-requires-2
-    both-requires
-    valid-box-requires-3
-    both-requires-2
-    returns)
+valid-boxes-spec = tie.close (tie.spec valid-box-requires valid-box-requires-2 both-requires valid-box-requires-3
+    both-requires-2 returns)

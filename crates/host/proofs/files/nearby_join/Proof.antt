@@ -29,13 +29,5 @@ returns c =
     (c .report-join .ensures ∙ ap (λ e. joinReport (e .outcome)) end, ap (λ e. e .slices) end)
 
 pub nearby-join-spec : {M : Type 1} → statement M
-nearby-join-spec =
-    tie.close
-    (tie.spec
-    join-requires
-    report-join-requires
-    same-length
-    same-length-2
-    same-length-3
-    same-length-4
-    returns)
+nearby-join-spec = tie.close (tie.spec join-requires report-join-requires same-length same-length-2 same-length-3
+    same-length-4 returns)

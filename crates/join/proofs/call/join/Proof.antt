@@ -49,16 +49,5 @@ returns-2 c =
     (told directoryOutcome (d .read-directory .ensures) (r .r .given .1)) refl
 
 pub join-spec : {M : Type 1} → statement M
-join-spec =
-    tie.close
-    (tie.spec
-    read-directory-requires
-    enum-known-h
-    join-accepted-requires
-    enum-known-r
-    same-length
-    same-length-2
-    same-length-3
-    same-length-4
-    returns
-    returns-2)
+join-spec = tie.close (tie.spec read-directory-requires enum-known-h join-accepted-requires enum-known-r same-length
+    same-length-2 same-length-3 same-length-4 returns returns-2)

@@ -68,15 +68,5 @@ returns-2 c =
     r .run .ensures ∙ sym (tests-pass (s .args .f .now) (cols s) (s .args .k) (out s) (s .pre) (good i))
 
 pub join-accepted-spec : {M : Type 1} → statement M
-join-accepted-spec =
-    tie.close
-    (tie.spec
-    failed-argument-requires
-    refused-requires
-    returns
-    run-requires
-    same-length
-    same-length-2
-    same-length-3
-    same-length-4
-    returns-2)
+join-accepted-spec = tie.close (tie.spec failed-argument-requires refused-requires returns run-requires same-length
+    same-length-2 same-length-3 same-length-4 returns-2)

@@ -106,27 +106,6 @@ returns-2 c =
     (m .clear8 .ensures)
 
 pub run-spec : {M : Type 1} → statement M
-run-spec =
-    tie.close
-    (tie.spec
-    try-run-requires
-    enum-known-answer
-    count-opened-requires
-    cast-t28
-    cast-t29
-    cast-t30
-    cast-t31
-    enum-known-answer-2
-    mul-clear-places
-    clear-places-requires
-    clear8-requires
-    same-length
-    same-length-2
-    same-length-3
-    same-length-4
-    returns
-    same-length-5
-    same-length-6
-    same-length-7
-    same-length-8
-    returns-2)
+run-spec = tie.close (tie.spec try-run-requires enum-known-answer count-opened-requires cast-t28 cast-t29 cast-t30
+    cast-t31 enum-known-answer-2 mul-clear-places clear-places-requires clear8-requires same-length same-length-2
+    same-length-3 same-length-4 returns same-length-5 same-length-6 same-length-7 same-length-8 returns-2)

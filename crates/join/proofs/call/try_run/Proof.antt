@@ -73,16 +73,5 @@ returns c =
     attempted (s .pre) (begins m) counted (m .mark-pruned .ensures .0 .1) (v .serve-all .ensures)
 
 pub try-run-spec : {M : Type 1} → statement M
-try-run-spec =
-    tie.close
-    (tie.spec
-    mul-clear-places
-    clear-places-requires
-    around-requires
-    mark-pruned-requires
-    serve-all-requires
-    same-length
-    same-length-2
-    same-length-3
-    same-length-4
-    returns)
+try-run-spec = tie.close (tie.spec mul-clear-places clear-places-requires around-requires mark-pruned-requires
+    serve-all-requires same-length same-length-2 same-length-3 same-length-4 returns)

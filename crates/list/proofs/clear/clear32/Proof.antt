@@ -35,16 +35,5 @@ returns : tie.Need-returns Inv-loop μ-loop
 returns c = clearing-done (c .before .loop .inv) (c .loop-test .left)
 
 pub clear32-spec : {M : Type 1} → statement M
-clear32-spec =
-    tie.close
-    (tie.spec
-    Inv-loop
-    μ-loop
-    loop-holds
-    mul-d
-    slice-write-d
-    add-i
-    loop-less
-    loop-again
-    same-length
+clear32-spec = tie.close (tie.spec Inv-loop μ-loop loop-holds mul-d slice-write-d add-i loop-less loop-again same-length
     returns)

@@ -32,15 +32,5 @@ returns : tie.Need-returns Inv-loop μ-loop
 returns c = clearing-done (c .before .loop .inv) (c .loop-test .left)
 
 pub clear8-spec : {M : Type 1} → statement M
-clear8-spec =
-    tie.close
-    (tie.spec
-    Inv-loop
-    μ-loop
-    loop-holds
-    slice-write-d
-    add-i
-    loop-less
-    loop-again
-    same-length
+clear8-spec = tie.close (tie.spec Inv-loop μ-loop loop-holds slice-write-d add-i loop-less loop-again same-length
     returns)

@@ -32,13 +32,5 @@ returns c =
     rw (a .clear64 .ensures, b .clear32 .ensures, d .clear322 .ensures) (clear-lays o (s .args .n))
 
 pub clear-places-spec : {M : Type 1} → statement M
-clear-places-spec =
-    tie.close
-    (tie.spec
-    clear64-requires
-    clear32-requires
-    clear32-requires-2
-    same-length
-    same-length-2
-    same-length-3
-    returns)
+clear-places-spec = tie.close (tie.spec clear64-requires clear32-requires clear32-requires-2 same-length same-length-2
+    same-length-3 returns)

@@ -75,22 +75,6 @@ returns : tie.Need-returns Inv-loop μ-loop
 returns c = adding-done (c .before .loop .inv) (c .loop-test .left)
 
 pub add-sites-spec : {M : Type 1} → statement M
-add-sites-spec =
-    tie.close
-    (tie.spec
-    Inv-loop
-    μ-loop
-    next-slot-requires
-    loop-holds
-    cast-number
-    add-number
-    place-in-requires
-    insert-place-requires
-    add-next-slot
-    next-slot-requires-2
-    loop-less
-    loop-again
-    same-length
-    same-length-2
-    same-length-3
-    returns)
+add-sites-spec = tie.close (tie.spec Inv-loop μ-loop next-slot-requires loop-holds cast-number add-number
+    place-in-requires insert-place-requires add-next-slot next-slot-requires-2 loop-less loop-again same-length
+    same-length-2 same-length-3 returns)

@@ -44,15 +44,5 @@ returns c =
     rw (n .count .ensures .0, b .block-of .ensures .own) at (added .add-sites .ensures)
 
 pub add-tile-spec : {M : Type 1} → statement M
-add-tile-spec =
-    tie.close
-    (tie.spec
-    count-requires
-    cast-first
-    mul-first
-    block-of-requires
-    add-sites-requires
-    same-length
-    same-length-2
-    same-length-3
-    returns)
+add-tile-spec = tie.close (tie.spec count-requires cast-first mul-first block-of-requires add-sites-requires same-length
+    same-length-2 same-length-3 returns)

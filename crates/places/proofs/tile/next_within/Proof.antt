@@ -50,15 +50,5 @@ returns-2 : tie.Need-returns-2 Inv-loop μ-loop
 returns-2 c = let l : tie.At-loop Inv-loop μ-loop = search in l .loop .inv
 
 pub next-within-spec : {M : Type 1} → statement M
-next-within-spec =
-    tie.close
-    (tie.spec
-    Inv-loop
-    μ-loop
-    loop-holds
-    place-in-requires
-    returns
-    add-i
-    loop-less
-    loop-again
+next-within-spec = tie.close (tie.spec Inv-loop μ-loop loop-holds place-in-requires returns add-i loop-less loop-again
     returns-2)

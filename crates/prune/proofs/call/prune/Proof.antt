@@ -35,13 +35,5 @@ returns-2 c =
     rw (told directoryOutcome (d .read-directory .ensures) (r .r .given .1)) (refl, refl)
 
 pub prune-spec : {M : Type 1} → statement M
-prune-spec =
-    tie.close
-    (tie.spec
-    read-directory-requires
-    enum-known-h
-    prune-accepted-requires
-    enum-known-r
-    same-length
-    returns
-    returns-2)
+prune-spec = tie.close (tie.spec read-directory-requires enum-known-h prune-accepted-requires enum-known-r same-length
+    returns returns-2)

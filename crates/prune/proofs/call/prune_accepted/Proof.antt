@@ -100,19 +100,6 @@ returns-4 c =
     rw (s .pre, good-k k, good-box o, le-leb _ _ (i .if3 .left)) (rw (e .0 .0), rw (s .pre) (e .1))
 
 pub prune-accepted-spec : {M : Type 1} → statement M
-prune-accepted-spec =
-    tie.close
-    (tie.spec
-    valid-k-requires
-    refused-requires
-    returns
-    valid-box-requires
-    refused-requires-2
-    returns-2
-    refused-requires-3
-    returns-3
-    mark-pruned-requires
-    cast-tiles
-    cast-pruned
-    same-length
+prune-accepted-spec = tie.close (tie.spec valid-k-requires refused-requires returns valid-box-requires
+    refused-requires-2 returns-2 refused-requires-3 returns-3 mark-pruned-requires cast-tiles cast-pruned same-length
     returns-4)

@@ -70,20 +70,5 @@ returns c =
     and-comm true (l .loop .all) ∙ rw none at (l .loop .inv .1)
 
 pub below-spec : {M : Type 1} → statement M
-below-spec =
-    tie.close
-    (tie.spec
-    Inv-loop
-    μ-loop
-    loop-holds
-    sub-c
-    mul-both
-    add-both
-    mul-both-2
-    shared-slice-read-both
-    mul-both-3
-    array-read-both
-    both-requires
-    loop-less
-    loop-again
-    returns)
+below-spec = tie.close (tie.spec Inv-loop μ-loop loop-holds sub-c mul-both add-both mul-both-2 shared-slice-read-both
+    mul-both-3 array-read-both both-requires loop-less loop-again returns)

@@ -50,16 +50,5 @@ returns-2 c =
     record { after = i .0; within = i .1; none = i .2; below = λ u. absurd (omega arith) }
 
 pub next-below-spec : {M : Type 1} → statement M
-next-below-spec =
-    tie.close
-    (tie.spec
-    Inv-loop
-    μ-loop
-    loop-holds
-    mul-if1
-    shared-slice-read-if1
-    returns
-    add-e
-    loop-less
-    loop-again
-    returns-2)
+next-below-spec = tie.close (tie.spec Inv-loop μ-loop loop-holds mul-if1 shared-slice-read-if1 returns add-e loop-less
+    loop-again returns-2)

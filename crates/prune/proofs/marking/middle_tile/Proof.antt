@@ -60,21 +60,5 @@ returns : tie.Need-returns Inv-loop μ-loop
 returns c = search needs
 
 pub middle-tile-spec : {M : Type 1} → statement M
-middle-tile-spec =
-    tie.close
-    (tie.spec
-    Inv-loop
-    μ-loop
-    sub-opposite
-    mul-opposite
-    loop-holds
-    mul-both
-    shared-slice-read-both
-    add-both
-    mul-both-2
-    shared-slice-read-both-2
-    add-both-2
-    add-t
-    loop-less
-    loop-again
-    returns)
+middle-tile-spec = tie.close (tie.spec Inv-loop μ-loop sub-opposite mul-opposite loop-holds mul-both
+    shared-slice-read-both add-both mul-both-2 shared-slice-read-both-2 add-both-2 add-t loop-less loop-again returns)

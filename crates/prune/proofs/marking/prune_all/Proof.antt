@@ -103,19 +103,5 @@ returns c =
     )
 
 pub prune-all-spec : {M : Type 1} → statement M
-prune-all-spec =
-    tie.close
-    (tie.spec
-    Inv-loop
-    μ-loop
-    middle-tile-requires
-    loop-holds
-    prune-tile-requires
-    slice-write-marks
-    cast-count
-    add-count
-    add-t
-    loop-less
-    loop-again
-    same-length
-    returns)
+prune-all-spec = tie.close (tie.spec Inv-loop μ-loop middle-tile-requires loop-holds prune-tile-requires
+    slice-write-marks cast-count add-count add-t loop-less loop-again same-length returns)

@@ -117,20 +117,6 @@ returns-2 c =
     ap (leb (s .args .k)) (omega (arith, l .loop .inv .3, t))
 
 pub reaches-among-spec : {M : Type 1} → statement M
-reaches-among-spec =
-    tie.close
-    (tie.spec
-    Inv-loop
-    μ-loop
-    array-read-next-below
-    next-below-requires
-    loop-holds
-    weight-requires
-    add-sum
-    returns
-    add-next-below
-    array-read-next-below-2
-    next-below-requires-2
-    loop-less
-    loop-again
+reaches-among-spec = tie.close (tie.spec Inv-loop μ-loop array-read-next-below next-below-requires loop-holds
+    weight-requires add-sum returns add-next-below array-read-next-below-2 next-below-requires-2 loop-less loop-again
     returns-2)

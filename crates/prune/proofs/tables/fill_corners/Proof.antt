@@ -59,16 +59,5 @@ returns c =
     rw n at (l .loop .inv .1)
 
 pub fill-corners-spec : {M : Type 1} → statement M
-fill-corners-spec =
-    tie.close
-    (tie.spec
-    Inv-loop
-    μ-loop
-    loop-holds
-    corner-of-requires
-    fill-far-requires
-    add-c
-    loop-less
-    loop-again
-    same-length
-    returns)
+fill-corners-spec = tie.close (tie.spec Inv-loop μ-loop loop-holds corner-of-requires fill-far-requires add-c loop-less
+    loop-again same-length returns)

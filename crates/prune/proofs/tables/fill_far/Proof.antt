@@ -77,19 +77,5 @@ returns c =
     part-done g (s .args .c * maxTiles) (l .loop .far) (l .loop .t) (s .args .h .tiles) (search needs) ∙ l .loop .inv .2
 
 pub fill-far-spec : {M : Type 1} → statement M
-fill-far-spec =
-    tie.close
-    (tie.spec
-    Inv-loop
-    μ-loop
-    mul-first
-    loop-holds
-    far-requires
-    add-far
-    mul-far
-    slice-write-far
-    add-t
-    loop-less
-    loop-again
-    same-length
-    returns)
+fill-far-spec = tie.close (tie.spec Inv-loop μ-loop mul-first loop-holds far-requires add-far mul-far slice-write-far
+    add-t loop-less loop-again same-length returns)

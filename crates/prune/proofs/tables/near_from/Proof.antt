@@ -63,17 +63,5 @@ returns c =
     fill-done g (l .loop .near) (l .loop .c) cornerCount (search needs) ∙ l .loop .inv .2
 
 pub near-from-spec : {M : Type 1} → statement M
-near-from-spec =
-    tie.close
-    (tie.spec
-    Inv-loop
-    μ-loop
-    loop-holds
-    corner-of-requires
-    near-requires
-    mul-near
-    array-write-near
-    add-c
-    loop-less
-    loop-again
-    returns)
+near-from-spec = tie.close (tie.spec Inv-loop μ-loop loop-holds corner-of-requires near-requires mul-near
+    array-write-near add-c loop-less loop-again returns)

@@ -58,19 +58,5 @@ returns : tie.Need-returns Inv-loop μ-loop
 returns c = gathering-done (c .before .loop .inv) (c .loop-test .left)
 
 pub gather-spec : {M : Type 1} → statement M
-gather-spec =
-    tie.close
-    (tie.spec
-    Inv-loop
-    μ-loop
-    loop-holds
-    mul-order
-    slice-write-order
-    waits-requires
-    cast-m
-    add-m
-    add-t
-    loop-less
-    loop-again
-    same-length
-    returns)
+gather-spec = tie.close (tie.spec Inv-loop μ-loop loop-holds mul-order slice-write-order waits-requires cast-m add-m
+    add-t loop-less loop-again same-length returns)

@@ -67,19 +67,5 @@ returns c =
     rw all at (rw first at (l .loop .inv .1))
 
 pub earlier-key-spec : {M : Type 1} → statement M
-earlier-key-spec =
-    tie.close
-    (tie.spec
-    Inv-loop
-    μ-loop
-    loop-holds
-    sub-j
-    mul-if1
-    shared-slice-read-if1
-    mul-key
-    shared-slice-read-key
-    loop-less
-    loop-again
-    loop-less-2
-    loop-again-2
-    returns)
+earlier-key-spec = tie.close (tie.spec Inv-loop μ-loop loop-holds sub-j mul-if1 shared-slice-read-if1 mul-key
+    shared-slice-read-key loop-less loop-again loop-less-2 loop-again-2 returns)

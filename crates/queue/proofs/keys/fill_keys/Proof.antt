@@ -72,19 +72,5 @@ returns c =
     fill-done g (a .order .now) (l .loop .keys) (l .loop .j) (omega arith) ∙ l .loop .inv .2
 
 pub fill-keys-spec : {M : Type 1} → statement M
-fill-keys-spec =
-    tie.close
-    (tie.spec
-    Inv-loop
-    μ-loop
-    loop-holds
-    mul-near
-    shared-slice-read-near
-    near-requires
-    mul-keys
-    slice-write-keys
-    add-j
-    loop-less
-    loop-again
-    same-length
-    returns)
+fill-keys-spec = tie.close (tie.spec Inv-loop μ-loop loop-holds mul-near shared-slice-read-near near-requires mul-keys
+    slice-write-keys add-j loop-less loop-again same-length returns)

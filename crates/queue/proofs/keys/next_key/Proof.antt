@@ -78,21 +78,5 @@ returns-2 : tie.Need-returns-2 Inv-loop μ-loop
 returns-2 c = c .earlier-key .ensures
 
 pub next-key-spec : {M : Type 1} → statement M
-next-key-spec =
-    tie.close
-    (tie.spec
-    Inv-loop
-    μ-loop
-    loop-holds
-    mul-if1
-    shared-slice-read-if1
-    returns
-    mul-if2
-    shared-slice-read-if2
-    mul-key
-    shared-slice-read-key
-    add-j
-    loop-less
-    loop-again
-    earlier-key-requires
-    returns-2)
+next-key-spec = tie.close (tie.spec Inv-loop μ-loop loop-holds mul-if1 shared-slice-read-if1 returns mul-if2
+    shared-slice-read-if2 mul-key shared-slice-read-key add-j loop-less loop-again earlier-key-requires returns-2)

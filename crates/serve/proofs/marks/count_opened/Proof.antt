@@ -67,16 +67,5 @@ returns c =
     (rw e at (l .inv .1 .1), omega arith)
 
 pub count-opened-spec : {M : Type 1} → statement M
-count-opened-spec =
-    tie.close
-    (tie.spec
-    Inv-loop
-    μ-loop
-    loop-holds
-    shared-slice-read-opened
-    cast-opened
-    add-opened
-    add-t
-    loop-less
-    loop-again
-    returns)
+count-opened-spec = tie.close (tie.spec Inv-loop μ-loop loop-holds shared-slice-read-opened cast-opened add-opened add-t
+    loop-less loop-again returns)

@@ -62,16 +62,5 @@ returns-3 c =
     rw (a .1) (ap openingOutcome (c .enum-told .given .1) ∙ sym (a .2), refl)
 
 pub open-once-spec : {M : Type 1} → statement M
-open-once-spec =
-    tie.close
-    (tie.spec
-    slice-read-if1
-    count-requires
-    returns
-    open-tile-requires
-    enum-told
-    enum-told-2
-    returns-2
-    slice-write-marks
-    same-length
-    returns-3)
+open-once-spec = tie.close (tie.spec slice-read-if1 count-requires returns open-tile-requires enum-told enum-told-2
+    returns-2 slice-write-marks same-length returns-3)

@@ -299,41 +299,8 @@ loop-again c =
     )
 
 pub serve-stop-spec : {M : Type 1} → statement M
-serve-stop-spec =
-    tie.close
-    (tie.spec
-    Inv-loop
-    μ-loop
-    fill-keys-requires
-    loop-holds
-    next-key-requires
-    same-length
-    same-length-2
-    same-length-3
-    same-length-4
-    same-length-5
-    returns
-    mul-t
-    shared-slice-read-t
-    cast-last-ahead
-    last-ahead-requires
-    same-length-6
-    same-length-7
-    same-length-8
-    same-length-9
-    same-length-10
-    returns-2
-    take-tile-requires
-    enum-known-answer
-    enum-told
-    same-length-11
-    same-length-12
-    same-length-13
-    same-length-14
-    same-length-15
-    returns-3
-    mul-keys
-    slice-write-keys
-    add-from
-    loop-less
-    loop-again)
+serve-stop-spec = tie.close (tie.spec Inv-loop μ-loop fill-keys-requires loop-holds next-key-requires same-length
+    same-length-2 same-length-3 same-length-4 same-length-5 returns mul-t shared-slice-read-t cast-last-ahead
+    last-ahead-requires same-length-6 same-length-7 same-length-8 same-length-9 same-length-10 returns-2
+    take-tile-requires enum-known-answer enum-told same-length-11 same-length-12 same-length-13 same-length-14
+    same-length-15 returns-3 mul-keys slice-write-keys add-from loop-less loop-again)

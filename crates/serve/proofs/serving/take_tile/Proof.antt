@@ -76,18 +76,5 @@ returns-2 c =
     rw e (ap accepted (added .number), rw (m, added .laid))
 
 pub take-tile-spec : {M : Type 1} → statement M
-take-tile-spec =
-    tie.close
-    (tie.spec
-    open-once-requires
-    enum-told
-    enum-told-2
-    passed-on-requires
-    same-length
-    returns
-    add-tile-requires
-    same-length-2
-    same-length-3
-    same-length-4
-    same-length-5
-    returns-2)
+take-tile-spec = tie.close (tie.spec open-once-requires enum-told enum-told-2 passed-on-requires same-length returns
+    add-tile-requires same-length-2 same-length-3 same-length-4 same-length-5 returns-2)

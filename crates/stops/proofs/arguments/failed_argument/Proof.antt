@@ -101,16 +101,5 @@ returns-5 c =
     )
 
 pub failed-argument-spec : {M : Type 1} → statement M
-failed-argument-spec =
-    tie.close
-    (tie.spec
-    valid-k-requires
-    returns
-    stops-due-requires
-    returns-2
-    valid-stops-requires
-    returns-3
-    mul-n
-    room-requires
-    returns-4
-    returns-5)
+failed-argument-spec = tie.close (tie.spec valid-k-requires returns stops-due-requires returns-2 valid-stops-requires
+    returns-3 mul-n room-requires returns-4 returns-5)

@@ -61,17 +61,5 @@ returns c =
     (c .loop-test .left) ∙ l .inv .1
 
 pub greatest-spec : {M : Type 1} → statement M
-greatest-spec =
-    tie.close
-    (tie.spec
-    Inv-loop
-    μ-loop
-    shared-slice-copy-out-a
-    loop-holds
-    mul-greater
-    shared-slice-copy-out-greater
-    greater-requires
-    add-i
-    loop-less
-    loop-again
-    returns)
+greatest-spec = tie.close (tie.spec Inv-loop μ-loop shared-slice-copy-out-a loop-holds mul-greater
+    shared-slice-copy-out-greater greater-requires add-i loop-less loop-again returns)

@@ -61,17 +61,5 @@ returns c =
     ∙ l .inv .1
 
 pub least-spec : {M : Type 1} → statement M
-least-spec =
-    tie.close
-    (tie.spec
-    Inv-loop
-    μ-loop
-    shared-slice-copy-out-a
-    loop-holds
-    mul-lesser
-    shared-slice-copy-out-lesser
-    lesser-requires
-    add-i
-    loop-less
-    loop-again
-    returns)
+least-spec = tie.close (tie.spec Inv-loop μ-loop shared-slice-copy-out-a loop-holds mul-lesser
+    shared-slice-copy-out-lesser lesser-requires add-i loop-less loop-again returns)

@@ -72,16 +72,5 @@ returns-2 c =
     sym (every-holds (validStop (cols xs (s .args .ys .now))) (length xs) (λ j h. l .loop .inv .1 j (omega arith)))
 
 pub valid-stops-spec : {M : Type 1} → statement M
-valid-stops-spec =
-    tie.close
-    (tie.spec
-    Inv-loop
-    μ-loop
-    loop-holds
-    stop-at-requires
-    valid-point-requires
-    returns
-    add-i
-    loop-less
-    loop-again
-    returns-2)
+valid-stops-spec = tie.close (tie.spec Inv-loop μ-loop loop-holds stop-at-requires valid-point-requires returns add-i
+    loop-less loop-again returns-2)

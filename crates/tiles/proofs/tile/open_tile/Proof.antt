@@ -35,12 +35,5 @@ returns c = c .tile-block .ensures ∙ rw (
 )
 
 pub open-tile-spec : {M : Type 1} → statement M
-open-tile-spec =
-    tie.close
-    (tie.spec
-    tile-position-requires
-    box-at-requires
-    count-at-requires
-    block-at-requires
-    tile-block-requires
-    returns)
+open-tile-spec = tie.close (tie.spec tile-position-requires box-at-requires count-at-requires block-at-requires
+    tile-block-requires returns)

@@ -38,13 +38,5 @@ returns c =
     ))
 
 pub site-in-spec : {M : Type 1} → statement M
-site-in-spec =
-    tie.close
-    (tie.spec
-    site-offset-requires
-    i32-at-requires
-    add-i32-at
-    i32-at-requires-2
-    add-u32-at
-    u32-at-requires
-    returns)
+site-in-spec = tie.close (tie.spec site-offset-requires i32-at-requires add-i32-at i32-at-requires-2 add-u32-at
+    u32-at-requires returns)

@@ -46,15 +46,5 @@ returns-2 c =
     sym (every-holds (siteInside (a .bounds) (a .s .now)) (a .n) (λ j h. l .loop .inv j (omega arith)))
 
 pub sites-inside-spec : {M : Type 1} → statement M
-sites-inside-spec =
-    tie.close
-    (tie.spec
-    Inv-loop
-    μ-loop
-    loop-holds
-    site-inside-requires
-    returns
-    add-i
-    loop-less
-    loop-again
-    returns-2)
+sites-inside-spec = tie.close (tie.spec Inv-loop μ-loop loop-holds site-inside-requires returns add-i loop-less
+    loop-again returns-2)

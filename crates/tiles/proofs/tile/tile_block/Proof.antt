@@ -102,19 +102,6 @@ returns-5 c =
     ))
 
 pub tile-block-spec : {M : Type 1} → statement M
-tile-block-spec =
-    tie.close
-    (tie.spec
-    head-number-requires
-    refused-requires
-    returns
-    u16-at-requires
-    refused-requires-2
-    returns-2
-    tile-padding-requires
-    refused-requires-3
-    returns-3
-    sites-inside-requires
-    refused-requires-4
-    returns-4
+tile-block-spec = tie.close (tie.spec head-number-requires refused-requires returns u16-at-requires refused-requires-2
+    returns-2 tile-padding-requires refused-requires-3 returns-3 sites-inside-requires refused-requires-4 returns-4
     returns-5)

@@ -62,17 +62,5 @@ returns-2 c =
     ∙ turn-end (openTile (s .args .f .now) (s .args .h)) (l .loop .t) (s .args .h .tiles) (search needs)))
 
 pub open-all-spec : {M : Type 1} → statement M
-open-all-spec =
-    tie.close
-    (tie.spec
-    Inv-loop
-    μ-loop
-    loop-holds
-    open-tile-requires
-    enum-told
-    add-t
-    loop-less
-    loop-again
-    enum-known-r
-    returns
-    returns-2)
+open-all-spec = tie.close (tie.spec Inv-loop μ-loop loop-holds open-tile-requires enum-told add-t loop-less loop-again
+    enum-known-r returns returns-2)

@@ -36,12 +36,5 @@ returns-2 c =
     sym (rw (told directoryOutcome (d .read-directory .ensures) (r .r .given .1)))
 
 pub validate-spec : {M : Type 1} → statement M
-validate-spec =
-    tie.close
-    (tie.spec
-    read-directory-requires
-    enum-known-h
-    open-all-requires
-    enum-known-r
-    returns
+validate-spec = tie.close (tie.spec read-directory-requires enum-known-h open-all-requires enum-known-r returns
     returns-2)

@@ -59,19 +59,6 @@ returns c =
     )
 
 pub box-of-spec : {M : Type 1} → statement M
-box-of-spec =
-    tie.close
-    (tie.spec
-    mul-b
-    mul-low-x
-    shared-slice-copy-out-low-x
-    add-low-y
-    mul-low-y
-    shared-slice-copy-out-low-y
-    add-high-x
-    mul-high-x
-    shared-slice-copy-out-high-x
-    add-high-y
-    mul-high-y
-    shared-slice-copy-out-high-y
-    returns)
+box-of-spec = tie.close (tie.spec mul-b mul-low-x shared-slice-copy-out-low-x add-low-y mul-low-y
+    shared-slice-copy-out-low-y add-high-x mul-high-x shared-slice-copy-out-high-x add-high-y mul-high-y
+    shared-slice-copy-out-high-y returns)

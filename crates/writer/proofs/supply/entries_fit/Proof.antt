@@ -48,15 +48,5 @@ returns-2 c =
     (λ i h. l .loop .inv i (omega arith)))
 
 pub entries-fit-spec : {M : Type 1} → statement M
-entries-fit-spec =
-    tie.close
-    (tie.spec
-    Inv-loop
-    μ-loop
-    loop-holds
-    entry-fits-requires
-    returns
-    add-t
-    loop-less
-    loop-again
+entries-fit-spec = tie.close (tie.spec Inv-loop μ-loop loop-holds entry-fits-requires returns add-t loop-less loop-again
     returns-2)

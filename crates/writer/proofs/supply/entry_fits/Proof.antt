@@ -31,13 +31,5 @@ returns c = simp (
 )
 
 pub entry-fits-spec : {M : Type 1} → statement M
-entry-fits-spec =
-    tie.close
-    (tie.spec
-    box-of-requires
-    valid-box-requires
-    mul-wide
-    shared-slice-read-wide
-    wide-requires
-    both-requires
-    returns)
+entry-fits-spec = tie.close (tie.spec box-of-requires valid-box-requires mul-wide shared-slice-read-wide wide-requires
+    both-requires returns)

@@ -143,21 +143,6 @@ returns-7 : tie.Need-returns-7
 returns-7 c = rw (after-4 search, pass-5 search, passed (fits search) (c .if6 .left))
 
 pub failed-test-spec : {M : Type 1} → statement M
-failed-test-spec =
-    tie.close
-    (tie.spec
-    tiles-fit-requires
-    returns
-    mul-if2
-    returns-2
-    entries-fit-requires
-    returns-3
-    sum-of-requires
-    lists-fit-requires
-    returns-4
-    tiles-inside-requires
-    header-of-requires
-    file-length-requires
-    returns-5
-    returns-6
-    returns-7)
+failed-test-spec = tie.close (tie.spec tiles-fit-requires returns mul-if2 returns-2 entries-fit-requires returns-3
+    sum-of-requires lists-fit-requires returns-4 tiles-inside-requires header-of-requires file-length-requires returns-5
+    returns-6 returns-7)

@@ -56,16 +56,5 @@ returns-2 c =
     (λ i h. l .loop .inv i (omega arith)))
 
 pub sites-fit-spec : {M : Type 1} → statement M
-sites-fit-spec =
-    tie.close
-    (tie.spec
-    Inv-loop
-    μ-loop
-    loop-holds
-    add-site-fits
-    site-fits-requires
-    returns
-    add-i
-    loop-less
-    loop-again
-    returns-2)
+sites-fit-spec = tie.close (tie.spec Inv-loop μ-loop loop-holds add-site-fits site-fits-requires returns add-i loop-less
+    loop-again returns-2)

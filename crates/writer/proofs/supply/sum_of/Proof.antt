@@ -59,17 +59,5 @@ returns c =
     l .loop .inv .0 ∙ ap (offset (a .counts .now)) e
 
 pub sum-of-spec : {M : Type 1} → statement M
-sum-of-spec =
-    tie.close
-    (tie.spec
-    Inv-loop
-    μ-loop
-    loop-holds
-    mul-wide
-    shared-slice-read-wide
-    wide-requires
-    add-sum
-    add-t
-    loop-less
-    loop-again
-    returns)
+sum-of-spec = tie.close (tie.spec Inv-loop μ-loop loop-holds mul-wide shared-slice-read-wide wide-requires add-sum add-t
+    loop-less loop-again returns)

@@ -106,20 +106,5 @@ returns-2 c =
     (λ i h. l .loop .inv .2 i (omega arith)))
 
 pub tiles-inside-spec : {M : Type 1} → statement M
-tiles-inside-spec =
-    tie.close
-    (tie.spec
-    Inv-loop
-    μ-loop
-    loop-holds
-    mul-wide
-    shared-slice-read-wide
-    wide-requires
-    box-of-requires
-    sites-fit-requires
-    returns
-    add-first
-    add-t
-    loop-less
-    loop-again
-    returns-2)
+tiles-inside-spec = tie.close (tie.spec Inv-loop μ-loop loop-holds mul-wide shared-slice-read-wide wide-requires
+    box-of-requires sites-fit-requires returns add-first add-t loop-less loop-again returns-2)

@@ -85,14 +85,5 @@ returns-2 c =
     )
 
 pub write-spec : {M : Type 1} → statement M
-write-spec =
-    tie.close
-    (tie.spec
-    failed-test-requires
-    returns
-    put-directory-requires
-    put-tiles-requires
-    header-of-requires
-    file-length-requires
-    same-length
-    returns-2)
+write-spec = tie.close (tie.spec failed-test-requires returns put-directory-requires put-tiles-requires
+    header-of-requires file-length-requires same-length returns-2)
