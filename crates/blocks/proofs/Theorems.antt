@@ -1,11 +1,11 @@
 -- The theorems of this crate for the reader. Assumes nothing.
 use Prim.Native.Nat.{ℕ, min, _+_, _-_, _*_, _/_, _<_, _≤_}
 use mathlib.Core.Bool.{true}
-use mathlib.Core.List.{List, [], _∷_, _++_}
-use mathlib.Core.Path.{_≡_, refl, sym, ap, _∙_}
+use mathlib.Core.List.{List}
+use mathlib.Core.Path.{_≡_, sym, ap, _∙_}
 use native.Mathlib.Omega.{arith}
 use lib.Dec.{lit<}
-use lib.ListN.{getD, length, take, drop, replicate, length-take, length-drop}
+use lib.ListN.{getD, length, take, drop, length-take, length-drop}
 use lib.Seq.{slice, getD-take, getD-drop, ext-getD}
 use borrow.Author.Tests.{eqb-true}
 use Rattle.base.specs.Refusal.{accepted, require, andThen, #length}
@@ -14,7 +14,7 @@ use Rattle.base.proofs.Outcomes.{andThen-same}
 use Rattle.base.proofs.Tests.{and-both}
 use Rattle.blocks.specs.Accepted.{GoodDirectory}
 use Rattle.blocks.specs.Block.{blockAt, headerIn}
-use Rattle.blocks.specs.Checksum.{sumsFrom, sums, checkAgrees}
+use Rattle.blocks.specs.Checksum.{sums, checkAgrees}
 use Rattle.blocks.specs.Directory.{directoryBlocks, directoryBlockAt, lengthDue, directoryRest, directory, boxAt}
 use Rattle.blocks.specs.Directory.{countAt}
 use Rattle.blocks.specs.Layout.{axes, blockSize, checkAt, entriesPerBlock, maxSites}
@@ -23,15 +23,6 @@ use Rattle.blocks.specs.declared.header.Header.{Header}
 use Rattle.blocks.proofs.ChecksumLaws.{sums-small}
 use Rattle.blocks.proofs.DirectoryLaws as laws
 use Rattle.blocks.proofs.OutcomeLaws.{turns-same}
-
--- "Twelve cases", 9 to 11, whatever byte 0 and the stored check are
-pub cases-9-to-11 : (sync a c : ℕ) →
-    let block : List ℕ → List ℕ = λ bytes. sync ∷ (bytes ++ (a ∷ c ∷ [])) in
-    (sums (block (replicate 509 0)) ≡ record { a = 0; c = 0 })
-    × (sums (block (1 ∷ replicate 508 0)) ≡ record { a = 1; c = 254 })
-    × (sums (block (replicate 508 0 ++ (1 ∷ []))) ≡ record { a = 1; c = 1 })
-unfolding sums sumsFrom
-cases-9-to-11 sync a c = (refl, refl, refl)
 
 -- "a stored 255 never agrees"
 pub stored-255 : (s : List ℕ) → checkAgrees s ≡ true → (getD s checkAt 0 < 255) × (getD s (checkAt + 1) 0 < 255)

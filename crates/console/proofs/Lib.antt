@@ -3,3 +3,4 @@ pub mod TextLaws
 pub mod LineLaws
 pub mod RequestLaws
 pub mod AnswerLaws
+pub mod Cases

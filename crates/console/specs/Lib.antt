@@ -4,3 +4,4 @@ pub mod Line
 pub mod Request
 pub mod Output
 pub mod Inner
+pub mod Cases

@@ -1,5 +1,5 @@
--- The theorems of box arithmetic, over any number of axes: near and far, corners, the box around points, the margin,
--- closer and the cases. docs/PROOF.md lists each beside its sentence. Assumes nothing.
+-- The theorems of box arithmetic, over any number of axes: near and far, corners, the box around points, the margin
+-- and closer. docs/PROOF.md lists each beside its sentence. Assumes nothing.
 use Prim.Native.Nat.{ℕ, _+_, _*_, _<_, _≤_}
 use mathlib.Core.Bool.{Bool, true, false}
 use mathlib.Core.List.{List}
@@ -16,12 +16,11 @@ use Rattle.base.specs.Every.{every}
 use Rattle.base.specs.Lists.{All}
 use Rattle.geometry.specs.Around.{row, points, around, SmallestAround}
 use Rattle.geometry.specs.Box.{validBox, validPoint, inside}
-use Rattle.geometry.specs.Cases.{table, AllSay}
 use Rattle.geometry.specs.Claims.{axisBound, Least, Largest, LargestDifference}
 use Rattle.geometry.specs.Corners.{corner, corners}
-use Rattle.geometry.specs.Distance.{gap, square, D, closest, farthest, closestPoint, farthestPoint}
+use Rattle.geometry.specs.Distance.{D, closestPoint, farthestPoint}
 use Rattle.geometry.specs.Distance.{minDist, maxDist}
-use Rattle.geometry.specs.Margin.{gain, bestEnd, bestPoint, difference, reachedFrom, reached, margin, closer}
+use Rattle.geometry.specs.Margin.{bestPoint, difference, reachedFrom, reached, margin, closer}
 use Rattle.base.proofs.Every.{every-at, every-holds}
 use Rattle.base.proofs.Tests.{true-T, by-test, iff-eq}
 use Rattle.geometry.proofs.AllAxes.{in-box, in-test, in-valid, in-length, lowest-point, over, within, within-box}
@@ -219,9 +218,3 @@ closer-transitive o a b c vo va vb vc sa sb sc p q =
     let l = closer-exact o a b vo va vb sa sb .0 p x y (m .0) i j (in-test (m .1)) in
     let r = closer-exact o b c vo vb vc sb sc .0 q x (m .0) z i (in-test (m .1)) k in
     omega arith)
-
--- cases 1 to 8
-pub cases : AllSay table
-unfolding margin reached reachedFrom difference bestPoint bestEnd gain closestPoint farthestPoint closest farthest D
-    square gap minDist maxDist
-cases = (refl, (refl, (refl, (refl, (refl, (refl, ((refl, refl), ((refl, refl), tt))))))))

@@ -6,4 +6,3 @@ pub mod Axes
 pub mod Around
 pub mod Calls
 pub mod Claims
-pub mod Cases

@@ -1,4 +1,3 @@
 pub mod Running
 pub mod Calling
 pub mod Theorems
-pub mod Cases

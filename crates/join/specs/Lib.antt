@@ -1,4 +1,3 @@
 pub mod Join
 pub mod Claims
-pub mod Cases
 pub mod Inner

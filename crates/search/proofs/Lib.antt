@@ -19,6 +19,5 @@ pub mod Ranking
 pub mod Answered
 pub mod SameEntries
 pub mod Theorems
-pub mod Cases
 -- for the code of the join
 pub mod Cut

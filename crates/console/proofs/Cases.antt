@@ -1,0 +1,83 @@
+-- "The twelve cases form a table, proved of the definitions by a lone statement."
+use mathlib.Core.Path.{refl}
+use Rattle.base.specs.Every.{every}
+use Rattle.geometry.specs.Box.{withinLimits, validAxis, validBox, validPoint, onAxis, inside}
+use Rattle.geometry.specs.Distance.{gap, square, D, closest, farthest, closestPoint, farthestPoint, minDist, maxDist}
+use Rattle.geometry.specs.Margin.{gain, bestEnd, bestPoint, difference, reachedFrom, reached, margin, closer}
+use Rattle.geometry.specs.Around.{row, rows, points, foremost, least, greatest, around}
+use Rattle.codec.specs.Bytes.{bytes, bytes16, bytes32, bits, bytesSigned}
+use Rattle.codec.specs.Number.{u16At, u32At, signed, i32At}
+use Rattle.codec.specs.Zeros.{zeros}
+use Rattle.codec.specs.Tabulate.{tabulate, joined}
+use Rattle.codec.specs.Over.{over}
+use Rattle.blocks.specs.Checksum.{sumsFrom, sums, checkAgrees}
+use Rattle.blocks.specs.Block.{blockAt, kindDue, blockHead}
+use Rattle.blocks.specs.Directory.{directoryBlocks, entriesDue, entryOffset, entryBox, entryCount, entryZero, tilesDue}
+use Rattle.blocks.specs.Directory.{directoryPadding, entryValid, directoryBlock, directoryBlockAt, lengthDue}
+use Rattle.blocks.specs.Directory.{directoryRest, directory, boxAt, countAt}
+use Rattle.blocks.specs.Outcome.{inTurn}
+use Rattle.tiles.specs.Tile.{siteOffset, siteIn, tilePadding, siteInside, tileBlock, tilePosition, openTile, siteAt}
+use Rattle.tiles.specs.Tile.{sitesAt}
+use Rattle.encode.specs.Supply.{offset}
+use Rattle.encode.specs.Encode.{headBytes, checkBytes, bodyBytes, blockBytes, boxBytes, entryBytes, siteBytes}
+use Rattle.encode.specs.Encode.{directoryBytes, tileBytes, tileBytesOf, fileBytes}
+use Rattle.search.specs.Lists.{count, total, filter, member}
+use Rattle.search.specs.Order.{lex, insert, sort}
+use Rattle.search.specs.Plan.{ranks, ranked}
+use Rattle.search.specs.Pruning.{pruned, prunedCount}
+use Rattle.search.specs.Run.{rank, aheadOf, listing, placesOf, nearest, contents, opening, byKey, ahead, candidate}
+use Rattle.search.specs.Run.{queue, follow, enough, serve, run, placesUsed, join, padded, slices, mark, marks}
+use Rattle.search.specs.Limits.{validK}
+use Rattle.stops.specs.Stops.{validStop}
+use Rattle.stops.specs.Arguments.{equalColumns, stopsDue, stopsValid, room, arguments}
+use Rattle.list.specs.Lists.{lay, cleared}
+use Rattle.plan.specs.FilePlan.{openingOf}
+use Rattle.join.specs.Join.{runFor, tests, filled, ended, runEnd, joinFrom, joinEnd}
+use Rattle.console.specs.Text.{widthUpTo, width, digits, decimal, labelled}
+use Rattle.console.specs.Line.{refusedLine, countsLine, placeText, textAt, placesText, stopLine}
+use Rattle.console.specs.Request.{kOf, stopsAsked, coordinates, xsOf, ysOf, headLength, fileOf, wellFormed}
+use Rattle.console.specs.Output.{emptySlices, answerText, endOf, endText, output}
+use Rattle.console.specs.Cases.{table, AllSay}
+
+pub twelve-cases : AllSay table
+unfolding every withinLimits validAxis validBox validPoint onAxis inside gap square D closest farthest closestPoint
+    farthestPoint minDist maxDist gain bestEnd bestPoint difference reachedFrom reached margin closer row rows points
+    foremost least greatest around bytes bytes16 bytes32 bits bytesSigned u16At u32At signed i32At zeros tabulate
+    joined over sumsFrom sums checkAgrees blockAt kindDue blockHead directoryBlocks entriesDue entryOffset entryBox
+    entryCount entryZero tilesDue directoryPadding entryValid directoryBlock directoryBlockAt lengthDue directoryRest
+    directory boxAt countAt inTurn siteOffset siteIn tilePadding siteInside tileBlock tilePosition openTile siteAt
+    sitesAt offset headBytes checkBytes bodyBytes blockBytes boxBytes entryBytes siteBytes directoryBytes tileBytes
+    tileBytesOf fileBytes count total filter member lex insert sort ranks ranked pruned prunedCount rank aheadOf
+    listing placesOf nearest contents opening byKey ahead candidate queue follow enough serve run placesUsed join
+    padded slices mark marks validK validStop equalColumns stopsDue stopsValid room arguments lay cleared openingOf
+    runFor tests filled ended runEnd joinFrom joinEnd widthUpTo width digits decimal labelled refusedLine countsLine
+    placeText textAt placesText stopLine kOf stopsAsked coordinates xsOf ysOf headLength fileOf wellFormed emptySlices
+    answerText endOf endText output
+twelve-cases = (
+  refl,
+  (
+    refl,
+    (
+      refl,
+      (
+        refl,
+        (
+          refl,
+          (
+            refl,
+            (
+              (refl, refl),
+              (
+                (refl, refl),
+                (
+                  (λ sync a c. refl),
+                  ((λ sync a c. refl), ((λ sync a c. refl), ((refl, refl), ((refl, refl), tt)))),
+                ),
+              ),
+            ),
+          ),
+        ),
+      ),
+    ),
+  ),
+)
