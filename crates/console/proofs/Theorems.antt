@@ -5,8 +5,12 @@ use mathlib.Core.Path.{_≡_, refl, _∙_}
 use native.Mathlib.Nat.{pow-suc}
 use native.Mathlib.Omega.{arith}
 use lib.Dec.{ltb}
-use borrow.Author.Tests.{ltb-true}
-use Rattle.base.proofs.Tests.{cond-ind}
+use lib.ListN.{length, getD, length-append, List·getD-append}
+use borrow.Author.Tests.{ltb-true, ltb-false}
+use Rattle.base.specs.Lists.{All}
+use Rattle.base.proofs.Tests.{cond-ind, by-test}
+use Rattle.search.proofs.Lists.{all-append}
+use Rattle.console.specs.Claims.{Digit, InDecimal}
 use Rattle.console.specs.Text.{widthUpTo, width, digits, decimal, valueFrom}
 
 value-last : (a : ℕ) (l : List ℕ) (c : ℕ) → valueFrom a (l ++ c ∷ []) ≡ 10 * valueFrom a l + (c - 48)
@@ -32,7 +36,54 @@ width-enough (suc more) n h = cond-ind (ltb n 10) 1 (suc (widthUpTo more (n / 10
       pow-suc 10 (widthUpTo more (n / 10)),
     ))
 
--- a printed number reads as itself: every number of 64 bits is below 10^20
-pub decimal-exact : (n : ℕ) → n < 10 ^ 20 → valueFrom 0 (decimal n) ≡ n
+-- ---- digits only, without a leading zero
+
+last-digit : (n : ℕ) → Digit (48 + n % 10)
+last-digit n = (omega arith, omega arith)
+
+all-digits : (w n : ℕ) → All Digit (digits w n)
+unfolding digits
+all-digits zero n = tt
+all-digits (suc w) n = all-append Digit (digits w (n / 10)) _ (all-digits w (n / 10)) (last-digit n, tt)
+
+some-width : (more n : ℕ) → 0 < widthUpTo more n
+unfolding widthUpTo
+some-width zero n = omega arith
+some-width (suc more) n =
+    cond-ind (ltb n 10) 1 (suc (widthUpTo more (n / 10))) (λ w. 0 < w) (λ e. omega arith) (λ e. omega arith)
+
+length-digits : (w n : ℕ) → length (digits w n) ≡ w
+unfolding digits
+length-digits zero n = refl
+length-digits (suc w) n =
+    let e = length-digits w (n / 10) in
+    length-append (digits w (n / 10)) _ ∙ omega arith
+
+-- of a number that is not 0
+first-digit : (more n : ℕ) → 0 < n → n < 10 ^ suc more → 48 < getD (digits (widthUpTo more n) n) 0 0
+unfolding widthUpTo digits
+first-digit zero n some small = omega arith
+first-digit (suc more) n some small =
+    let w = widthUpTo more (n / 10) in
+    cond-ind (ltb n 10) 1 (suc w) (λ v. 48 < getD (digits v n) 0 0)
+    (λ e. omega (arith, ltb-true n 10 e))
+    (λ e.
+    let rest = digits w (n / 10) in
+    let long = length-digits w (n / 10) in
+    let first = List·getD-append rest ((48 + n % 10) ∷ []) 0 0 (omega (arith, some-width more (n / 10))) in
+    rw first (first-digit more (n / 10) (omega (arith, ltb-false n 10 e)) (omega (arith, small, pow-suc 10 (suc more)))))
+
+zero-alone : length (decimal 0) ≡ 1
+unfolding decimal width widthUpTo digits
+zero-alone = refl
+
+-- "in decimal": every number of 64 bits is below 10^20
+pub decimal-exact : (n : ℕ) → n < 10 ^ 20 → InDecimal n (decimal n)
 unfolding decimal width
-decimal-exact n h = value-digits (widthUpTo 19 n) n (width-enough 19 n h)
+decimal-exact n h = record {
+  value = value-digits (widthUpTo 19 n) n (width-enough 19 n h);
+  digits = all-digits (widthUpTo 19 n) n;
+  leading = λ long. by-test (ltb 0 n)
+      (λ e. first-digit 19 n (ltb-true 0 n e) h)
+      (λ e. let none : n ≡ 0 = omega (arith, ltb-false 0 n e) in absurd (omega (arith, zero-alone, rw none at long)));
+}

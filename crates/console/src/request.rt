@@ -1,7 +1,8 @@
 // What the program reads: k, n, n stops, then a file.
+ghost use mathlib.Core.List.{_++_};
 ghost use mathlib.Core.Path.{_≡_};
 ghost use Prim.Native.Nat.{_+_, _*_, _≤_};
-ghost use lib.ListN.{length, take};
+ghost use lib.ListN.{length, drop};
 ghost use Rattle.console.specs.Limits.{requestStops};
 ghost use Rattle.console.specs.Request.{stopsAsked, coordinates, headLength, wellFormed};
 use codec::reading::i32_at;
@@ -43,10 +44,10 @@ pub fn well_formed(input: &[u8]) -> bool
     head_length(n) <= input.len()
 }
 
-// One number of each of n stops, the first of them at an index.
+// One number of each of n stops, the first of them at an index, to the front of a slice.
 pub fn read_coordinates(input: &[u8], at: usize, n: usize, out: &mut [i32])
     requires { ⌜ (at + 8 * n ≤ length (now input) + 4) × (n ≤ length (now out)) ⌝ }
-    ensures { λ _. ⌜ take n (now (out .exit)) ≡ coordinates (now (input .entry)) at n ⌝ }
+    ensures { λ _. ⌜ now (out .exit) ≡ coordinates (now (input .entry)) at n ++ drop n (now (out .entry)) ⌝ }
 {
     let mut i = 0;
     while i < n {

@@ -4,8 +4,8 @@ use mathlib.Core.Path.{_≡_, sym, ap, _∙_}
 use lib.ListN.{length, take}
 use borrow.Author.Needs.{needs}
 use Rattle.console.specs.Output.{endOf}
-use Rattle.console.specs.Request.{xsOf, ysOf, fileOf, kOf, headLength}
-use Rattle.console.proofs.RequestLaws.{Whole, whole, length-coordinates, rest-all}
+use Rattle.console.specs.Request.{coordinates, xsOf, ysOf, fileOf, kOf, headLength}
+use Rattle.console.proofs.RequestLaws.{Whole, whole, length-coordinates, stored-all, rest-all}
 use Rattle.console.proofs.answer.put_request.Statement.{statement}
 use Rattle.console.proofs.answer.put_request.Tie as tie
 
@@ -64,20 +64,23 @@ part-put-join-end : tie.Need-part-put-join-end
 part-put-join-end c = search needs
 
 -- each array has the coordinates of n stops at its front
+xs-read : (c : tie.After-read-coordinates) → (let n : tie.After-stop-count = search in let s : tie.Start = search in
+    take (n .stop-count .result) (c .read-coordinates .last .1 .1 .1 .0)
+    ≡ coordinates (s .args .input .now) 8 (n .stop-count .result))
+xs-read c = stored-all _ 8 _ _ _ (c .read-coordinates .ensures)
+
+ys-read : (c : tie.After-read-coordinates2) → (let n : tie.After-stop-count = search in let s : tie.Start = search in
+    take (n .stop-count .result) (c .read-coordinates2 .last .1 .1 .1 .0)
+    ≡ coordinates (s .args .input .now) 12 (n .stop-count .result))
+ys-read c = stored-all _ 12 _ _ _ (c .read-coordinates2 .ensures)
+
 xs-length : (c : tie.After-read-coordinates) → (let n : tie.After-stop-count = search in
     n .stop-count .result ≡ length (take (n .stop-count .result) (c .read-coordinates .last .1 .1 .1 .0)))
-xs-length c =
-    let n : tie.After-stop-count = search in
-    let s : tie.Start = search in
-    sym (ap length (c .read-coordinates .ensures) ∙ length-coordinates (s .args .input .now) 8 (n .stop-count .result))
+xs-length c = sym (ap length (xs-read c) ∙ length-coordinates _ 8 _)
 
 ys-length : (c : tie.After-read-coordinates2) → (let n : tie.After-stop-count = search in
     n .stop-count .result ≡ length (take (n .stop-count .result) (c .read-coordinates2 .last .1 .1 .1 .0)))
-ys-length c =
-    let n : tie.After-stop-count = search in
-    let s : tie.Start = search in
-    sym (ap length (c .read-coordinates2 .ensures)
-    ∙ length-coordinates (s .args .input .now) 12 (n .stop-count .result))
+ys-length c = sym (ap length (ys-read c) ∙ length-coordinates _ 12 _)
 
 array-share-prefix-xs : tie.Need-array-share-prefix-xs
 array-share-prefix-xs c =
@@ -122,8 +125,8 @@ returns c =
     let input = s .args .input .now in
     let end = p .put-join .ensures in
     let text = rw (
-      x .read-coordinates .ensures,
-      y .read-coordinates2 .ensures,
+      xs-read x,
+      ys-read y,
       length-coordinates input 8 (n .stop-count .result),
       rest-all input (l .head-length .result),
       l .head-length .ensures,

@@ -1,7 +1,8 @@
 use Prim.Native.Nat.{_-_, _≤_}
+use mathlib.Core.List.{_++_}
 use mathlib.Core.Path.{_≡_, refl}
 use native.Mathlib.Omega.{arith}
-use lib.ListN.{length, take, length-set}
+use lib.ListN.{length, drop, length-set}
 use mir.Facts.{toZ-ofZ}
 use mir.Syntax.{w32}
 use mir.Val.{SFits}
@@ -13,7 +14,7 @@ use Rattle.console.proofs.request.read_coordinates.Statement.{statement
 use Rattle.console.proofs.request.read_coordinates.Tie as tie
 
 abbrev Inv-loop : tie.InvT-loop
-Inv-loop input at n out₀ i₀ out i = (i ≤ n) × (length out ≡ length out₀) × (take i out ≡ coordinates input at i)
+Inv-loop input at n out₀ i₀ out i = (i ≤ n) × (length out ≡ length out₀) × (out ≡ coordinates input at i ++ drop i out₀)
 
 abbrev μ-loop : tie.MeasureT-loop
 μ-loop input at n out₀ i₀ out i = n - i
@@ -50,8 +51,8 @@ loop-again c =
     let fits : SFits w32 (c .i32-at .result) = sfits-of (c .i32-at .ok) in (
       omega arith,
       simp length-set (l .inv .1),
-      rw (toZ-ofZ fits) (stored-next (s .args .input .now) (s .args .at) (l .i) (l .out) (c .i32-at .result)
-          (omega (arith, s .pre .1, l .inv .1)) (l .inv .2) (c .i32-at .ensures)),
+      rw (toZ-ofZ fits, c .i32-at .ensures) (stored-next (s .args .input .now) (s .args .at) (l .i) (s .args .out .now)
+          (l .out) (omega (arith, s .pre .1)) (l .inv .2)),
     )
 
 same-length : tie.Need-same-length Inv-loop μ-loop
