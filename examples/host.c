@@ -42,7 +42,7 @@ int main(int argc, char **argv) {
     size_t length = load(argv[1]);
     printf("blocks %zu bad %u\n", length / NEARBY_BLOCK_SIZE, check_blocks(length));
     struct nearby_validated whole = nearby_validate(file, length);
-    printf("full check: number %" PRIu32 " block %" PRIu32 " tiles %zu\n", whole.number, whole.block, whole.tiles);
+    printf("full check: number %" PRIu32 " block %" PRIu32 " tiles %" PRIu32 "\n", whole.number, whole.block, whole.tiles);
 
     /* The box of the cab's stretch of track, a crossing, and a depot behind it: is the crossing nearer from all of the track? */
     int64_t margin = nearby_margin(0, 1000, 0, 0, 2000, 3000, 0, 0, 6000, 7000, 0, 0);

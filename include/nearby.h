@@ -107,7 +107,7 @@ struct nearby_pruned nearby_prune(const uint8_t *file, size_t file_len,
 struct nearby_validated {
     uint32_t number;
     uint32_t block;
-    size_t tiles;
+    uint32_t tiles;
 };
 
 /* The full check: the directory, then every tile in order. Gives T or the first refusal: NEARBY_LENGTH; of each directory

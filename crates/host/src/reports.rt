@@ -1,5 +1,9 @@
 // The answers as C gets them, by value: the number 0 and the values, or the number and block of the refusal and zeros.
 ghost use mathlib.Core.Path.{_≡_};
+ghost use Prim.Native.Nat.{_≤_};
+ghost use Rattle.base.specs.Refusal.{accepted};
+ghost use Rattle.blocks.specs.Layout.{maxTiles};
+ghost use Rattle.blocks.specs.declared.header.Header.{Header};
 ghost use Rattle.join.specs.Join.{joinOutcome};
 ghost use Rattle.prune.specs.Prune.{pruneOutcome};
 ghost use Rattle.tiles.specs.Outcome.{validationOutcome};
@@ -32,7 +36,7 @@ pub struct PruneReport {
 pub struct ValidateReport {
     pub number: u32,
     pub block: u32,
-    pub tiles: usize,
+    pub tiles: u32,
 }
 
 #[repr(C)]
@@ -90,13 +94,14 @@ pub fn report_prune(answer: PruneAnswer) -> PruneReport
 }
 
 pub fn report_validate(answer: Validation) -> ValidateReport
+    requires { ⌜ ((h : Header) → validationOutcome answer ≡ accepted h → h .tiles ≤ maxTiles) ⌝ }
     ensures { λ r. ⌜ r ≡ validateReport (validationOutcome answer) ⌝ }
 {
     match answer {
         Validation::Valid(h) => ValidateReport {
             number: 0,
             block: 0,
-            tiles: h.tiles,
+            tiles: h.tiles as u32,
         },
         Validation::Refused(r) => ValidateReport {
             number: r.number,

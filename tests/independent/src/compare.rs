@@ -177,7 +177,7 @@ pub fn prune(
 pub fn validate(file: &[u8], tally: &mut Tally) -> Result<Result<usize, Refusal>, Failure> {
     let result = full_check(file);
     let due = match result {
-        Ok(tiles) => Validated { number: 0, block: 0, tiles },
+        Ok(tiles) => Validated { number: 0, block: 0, tiles: tiles as u32 },
         Err(r) => Validated { number: r.number, block: r.block, tiles: 0 },
     };
     let got = host::validate(file);

@@ -27,7 +27,7 @@ struct CPruned {
 pub struct Validated {
     pub number: u32,
     pub block: u32,
-    pub tiles: usize,
+    pub tiles: u32,
 }
 
 /// What nearby_write gives.
