@@ -30,9 +30,9 @@ use Rattle.search.specs.Run.{noPlace, candidate, candidates, queue, join, slice
 use Rattle.search.specs.Run.{prunedMark}
 use Rattle.search.specs.declared.Place.{Place}
 use Rattle.serve.specs.Inner.Marks.{markAll}
-use Rattle.serve.specs.Inner.Serving.{lastLength, waiting, walksOf, StopsReady, StopsServed}
+use Rattle.serve.specs.Inner.Serving.{lastLength, waiting, walksOf, StopsReady, afterStops}
 use Rattle.stops.specs.Stops.{stopCount, stopsOf, validStop}
-use Rattle.base.proofs.Outcomes.{andThen-accepted, accepted-injective, accepted-refused}
+use Rattle.base.proofs.Outcomes.{andThen-accepted, andThen-refused, accepted-injective}
 use Rattle.codec.proofs.Over.{over-under, over-eq, length-over}
 use Rattle.geometry.proofs.Around.{all-rows}
 use Rattle.geometry.proofs.Theorems.{around-smallest}
@@ -57,11 +57,6 @@ last-of : (n m : ℕ) (ls : List (List Place)) → 0 < length ls → All (λ l. 
 last-of n m [] h a = absurd (omega arith)
 last-of n m (l ∷ []) h a = a .0
 last-of n m (l ∷ k ∷ ls) h a = last-of n (length l) (k ∷ ls) (omega arith) (a .1)
-
-refused-from : {A : Type 0} (o : Outcome A) (g : A → ℕ) {x y : ℕ} → refused x y ≡ andThen o (λ a. accepted (g a))
-    → o ≡ refused x y
-refused-from (accepted a) g e = accepted-refused {o = accepted (g a)} refl (sym e)
-refused-from (refused x y) g e = cc
 
 same-end : {used u tiles opened o p q : ℕ} {out out′ : Slices} → used ≡ u → opened ≡ o → p ≡ q → out ≡ out′
     → _≡_ {A = End}
@@ -179,20 +174,23 @@ module _ {f : List ℕ} {h : Header} {cols : List (List ℤ)} {k : ℕ} {out : S
       lay-under (out .lists) 0 0 (replicate n noPlace) (slices k ls) (omega arith) (omega arith)
 
   pub attempted : {from out′ : Slices} {o : Outcome ℕ} {p : ℕ} → from ≡ started → p ≡ prunedCount (entries f h) O k
-      → p ≤ h .tiles → StopsServed h (walksOf f h (waiting f h (from .marks)) cols k) k n from o out′
+      → p ≤ h .tiles
+      → (let w = walksOf f h (waiting f h (from .marks)) cols k in
+      (o ≡ andThen (w .out) (λ ls. accepted (lastLength 0 ls))) × (out′ ≡ afterStops h w k n from))
       → Attempted f h cols k out o p out′
   unfolding queue
   attempted {from} {out′} {o} {p} begins counted few served =
       let w : walksOf f h (waiting f h (started .marks)) cols k ≡ walksFor f h cols k =
       ap (λ z. walksOf f h z cols k) (waiting-is f h O k (out .marks) (r .args .marks)) in
-      let v : StopsServed h (walksFor f h cols k) k n started o out′ =
+      let v : (o ≡ andThen (walksFor f h cols k .out) (λ ls. accepted (lastLength 0 ls)))
+      × (out′ ≡ afterStops h (walksFor f h cols k) k n started) =
       rw w at (rw begins at served) in
       record {
         counted = counted;
         few = few;
-        outcome = v .outcome;
-        answered = λ ls e. v .answered ls e ∙ rw (lists-cover ls e);
-        under = v .under ∙ covered;
+        outcome = v .0;
+        answered = λ ls e. rw e at (v .1) ∙ rw (lists-cover ls e);
+        refused = λ x y e. rw e at (v .1) ∙ covered;
       }
 
   -- ---- its end
@@ -266,12 +264,10 @@ module _ {f : List ℕ} {h : Header} {cols : List (List ℤ)} {k : ℕ} {out : S
           let e : runFor f h cols k .outcome ≡ accepted ls = alike b .outcome ∙ a .1 in
           same-end u c (t .counted) s ∙ rw e
 
-      -- after the places and marks were cleared
-      pub run-refuses : {x y p : ℕ} {l : Lists} {m : List ℕ} → Attempted f h cols k out (refused x y) p out′
-          → l ≡ lay (out′ .lists) 0 (replicate n noPlace) → m ≡ over (out′ .marks) 0 (replicate (h .tiles) 0)
-          → record { outcome = refused x y; slices = record { lists = l; marks = m } } ≡ runEnd f h cols k out
-      unfolding runEnd ended cleared
-      run-refuses {x} {y} t places marks =
-          let w = refused-from (walksFor f h cols k .out) (λ ls. lastLength 0 ls) (t .outcome) in
+      pub run-refuses : {x y p : ℕ} → Attempted f h cols k out (refused x y) p out′
+          → record { outcome = refused x y; slices = out′ } ≡ runEnd f h cols k out
+      unfolding runEnd ended
+      run-refuses {x} {y} t =
+          let w = andThen-refused (walksFor f h cols k .out) (λ ls. lastLength 0 ls) (sym (t .outcome)) in
           let e : runFor f h cols k .outcome ≡ refused x y = alike b .outcome ∙ w in
-          rw (e, places, marks, t .under)
+          rw (e, t .refused x y w)

@@ -13,11 +13,10 @@ use blocks::directory::DirectoryAnswer;
 use blocks::directory::read_directory;
 use blocks::header::Header;
 use list::clear::clear_places;
-use list::clear::clear8;
 use prune::marking::mark_pruned;
 use serve::marks::count_opened;
 use serve::serving::Serving;
-use serve::serving::serve_all;
+use serve::serving::serve;
 use stops::arguments::Lengths;
 use stops::arguments::failed_argument;
 use stops::around::around;
@@ -64,11 +63,11 @@ fn try_run(
 {
     clear_places(dist, site, cue, xs.len() * k);
     let pruned = mark_pruned(f, h, around(xs, ys), k, marks);
-    let answer = serve_all(f, h, xs, ys, k, dist, site, cue, marks);
+    let answer = serve(f, h, xs, ys, k, dist, site, cue, marks);
     Attempt { answer, pruned }
 }
 
-// The run with its end: a refused one leaves places and marks zero.
+// The run with its end: the opened tiles are counted.
 fn run(
     f: &[u8],
     h: Header,
@@ -102,11 +101,7 @@ fn run(
                 pruned: pruned as u32,
             }
         }
-        Serving::Refused(r) => {
-            clear_places(dist, site, cue, xs.len() * k);
-            clear8(marks, tiles);
-            JoinAnswer::Refused(r)
-        }
+        Serving::Refused(r) => JoinAnswer::Refused(r),
     }
 }
 

@@ -9,21 +9,22 @@ use lib.IntN.{ℤ}
 use lib.ListN.{length, replicate, length-replicate}
 use Rattle.base.specs.Refusal.{Outcome, accepted, refused, andThen}
 use Rattle.blocks.specs.declared.header.Header.{Header}
+use Rattle.codec.specs.Over.{over}
 use Rattle.codec.specs.Tabulate.{tabulate}
 use Rattle.geometry.specs.Around.{rows, points}
 use Rattle.list.specs.Inner.Keeping.{places, Ready}
-use Rattle.list.specs.Lists.{Long, Slices, lay, cleared}
+use Rattle.list.specs.Lists.{Long, Lists, Slices, lay, cleared}
 use Rattle.plan.specs.FilePlan.{entries, openingOf}
 use Rattle.search.specs.Inner.Walk.{Trace, cutWalks}
-use Rattle.search.specs.Run.{noPlace, inOrder, slices}
+use Rattle.search.specs.Run.{noPlace, noMark, inOrder, slices}
 use Rattle.search.specs.declared.Place.{Place}
 use Rattle.stops.specs.Stops.{stopCount, stopAt}
-use Rattle.base.proofs.Outcomes.{andThen-accepted, accepted-injective, accepted-refused}
+use Rattle.base.proofs.Outcomes.{andThen-accepted, andThen-refused, accepted-injective, accepted-refused}
 use Rattle.list.proofs.Laying.{lay-nil, lay-under, lay-lengths}
 use Rattle.list.proofs.Padding.{Clear, clear-kept, stop-laid}
 use Rattle.search.proofs.Cut.{cuts-end, cuts-refused, cuts-next}
 use Rattle.serve.specs.Inner.Marks.{markAll, OpenedOpen}
-use Rattle.serve.specs.Inner.Serving.{walkOf, walksOf, lastLength, StopServed, StopsServed}
+use Rattle.serve.specs.Inner.Serving.{walkOf, walksOf, lastLength, StopServed, StopsServed, afterStops}
 use Rattle.serve.proofs.Marking.{length-mark-all, mark-all-append}
 
 module _ (f : List ℕ) (h : Header) (order : List ℕ) (cols : List (List ℤ)) (k : ℕ) (o₀ : Slices) where
@@ -239,3 +240,16 @@ module _ {f : List ℕ} {h : Header} {order : List ℕ} {cols : List (List ℤ)}
                   ∙ ap (λ z. markAll z (R (i + 1) .asked)) (sym marks-are);
               under = covered f h order cols k o₀ o o′ at fits (x .under) ∙ turn .under;
             }
+
+-- ---- what is left of a run that was served, and of a refused one that was cleared
+module _ {h : Header} {w : Trace (List (List Place))} {k n : ℕ} {o o′ : Slices} where
+  pub left-served : {u : ℕ} → StopsServed h w k n o (accepted u) o′ → o′ ≡ afterStops h w k n o
+  left-served s =
+      let a = andThen-accepted (w .out) (λ ls. accepted (lastLength 0 ls)) (sym (s .outcome)) in
+      rw (a .1) (s .answered (a .0) (a .1))
+
+  pub left-refused : {x y : ℕ} {l : Lists} {m : List ℕ} → StopsServed h w k n o (refused x y) o′
+      → l ≡ lay (o′ .lists) 0 (replicate n noPlace) → m ≡ over (o′ .marks) 0 (replicate (h .tiles) noMark)
+      → record { lists = l; marks = m } ≡ afterStops h w k n o
+  unfolding cleared
+  left-refused s a b = rw (andThen-refused (w .out) (λ ls. lastLength 0 ls) (sym (s .outcome)), a, b) (s .under)

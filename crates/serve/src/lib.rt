@@ -1,3 +1,3 @@
-// The stops served in turn: the walk of each over the waiting tiles. The call is serving::serve_all.
+// The stops served in turn: the walk of each over the waiting tiles. The call is serving::serve.
 pub mod marks;
 pub mod serving;

@@ -9,11 +9,13 @@ ghost use Rattle.plan.specs.FilePlan.{openingOf};
 ghost use Rattle.tiles.specs.Inner.Opening.{openingOutcome};
 ghost use Rattle.serve.specs.Inner.Serving.{servingOutcome, TileReady, withSites, afterTile};
 ghost use Rattle.serve.specs.Inner.Serving.{StopReady, StopServed, walkOf, StopsReady, StopsServed, waiting};
-ghost use Rattle.serve.specs.Inner.Serving.{walksOf};
+ghost use Rattle.serve.specs.Inner.Serving.{walksOf, lastLength, afterStops};
 use crate::marks::open_once;
 use base::Refusal;
 use blocks::header::Header;
 use blocks::layout::MAX_TILES;
+use list::clear::clear_places;
+use list::clear::clear8;
 use list::last_ahead;
 use places::tile::Target;
 use places::tile::add_tile;
@@ -117,7 +119,7 @@ fn serve_stop(
 
 // Serves the stops in turn, over the tiles that neither the marks nor the directory rule out: the list of stop i from
 // index i × k on. The places used by the last stop.
-pub fn serve_all(
+fn serve_all(
     f: &[u8],
     h: Header,
     xs: &[i32],
@@ -155,4 +157,34 @@ pub fn serve_all(
         at += k;
     }
     Serving::Served(used)
+}
+
+// The same; where an opening refuses, the places of all stops and the marks are left zero.
+pub fn serve(
+    f: &[u8],
+    h: Header,
+    xs: &[i32],
+    ys: &[i32],
+    k: usize,
+    dist: &mut [u64],
+    site: &mut [u32],
+    cue: &mut [u32],
+    marks: &mut [u8],
+) -> Serving
+    requires { ⌜ StopsReady (now f) h (now xs ∷ now ys ∷ []) k (lent (now dist) (now site) (now cue) (now marks)) ⌝ }
+    ensures { λ r. ⌜ servingOutcome r
+        ≡ andThen (walksOf (now (f .entry)) h (waiting (now (f .entry)) h (now (marks .entry)))
+        (now (xs .entry) ∷ now (ys .entry) ∷ []) k .out) (λ ls. accepted (lastLength 0 ls)) ⌝ }
+    ensures { λ r. ⌜ lent (now (dist .exit)) (now (site .exit)) (now (cue .exit)) (now (marks .exit))
+        ≡ afterStops h (walksOf (now (f .entry)) h (waiting (now (f .entry)) h (now (marks .entry)))
+        (now (xs .entry) ∷ now (ys .entry) ∷ []) k) k (length (now (xs .entry)) * k)
+        (lent (now (dist .entry)) (now (site .entry)) (now (cue .entry)) (now (marks .entry))) ⌝ }
+{
+    let answer = serve_all(f, h, xs, ys, k, dist, site, cue, marks);
+    let Serving::Served(_) = answer else {
+        clear_places(dist, site, cue, xs.len() * k);
+        clear8(marks, h.tiles);
+        return answer;
+    };
+    answer
 }

@@ -3,7 +3,7 @@ use Prim.Native.Nat.{ℕ, _*_, _≤_}
 use mathlib.Core.List.{List}
 use mathlib.Core.Path.{_≡_}
 use lib.IntN.{ℤ}
-use Rattle.base.specs.Refusal.{Outcome, accepted, andThen}
+use Rattle.base.specs.Refusal.{Outcome, accepted, refused, andThen}
 use Rattle.blocks.specs.Directory.{directory}
 use Rattle.blocks.specs.declared.header.Header.{Header}
 use Rattle.codec.specs.Over.{over}
@@ -43,4 +43,5 @@ pub record Attempted (f : List ℕ) (h : Header) (cols : List (List ℤ)) (k : �
         lists = lay (out .lists) 0 (slices k ls);
         marks = markAll (over (out .marks) 0 (pruneMarks f h (around cols) k)) (walksFor f h cols k .asked);
       }
-  pub under : cleared 0 (stopCount cols * k) (h .tiles) out′ ≡ cleared 0 (stopCount cols * k) (h .tiles) out
+  pub refused : (number block : ℕ) → walksFor f h cols k .out ≡ refused number block
+      → out′ ≡ cleared 0 (stopCount cols * k) (h .tiles) out

@@ -4,6 +4,7 @@
 --   TileReady, afterTile     before and after a tile is taken for a stop
 --   StopReady, StopServed    before and after a stop is served
 --   StopsReady, StopsServed  before and after all stops are served
+--   afterStops               what is left then
 use Prim.Native.Nat.{ℕ, _*_, _<_, _≤_}
 use mathlib.Core.Bool.{true}
 use mathlib.Core.List.{List, [], _∷_}
@@ -119,3 +120,11 @@ pub record StopsServed (h : Header) (w : Trace (List (List Place))) (k n : ℕ) 
   pub answered : (ls : List (List Place)) → w .out ≡ accepted ls
       → o′ ≡ record { lists = lay (o .lists) 0 (slices k ls); marks = markAll (o .marks) (w .asked) }
   pub under : cleared 0 n (h .tiles) o′ ≡ cleared 0 n (h .tiles) o
+
+-- all lists and the marks; or refused, with n places and T marks zero
+abbrev pub afterStops : Header → Trace (List (List Place)) → ℕ → ℕ → Slices → Slices
+afterStops h w k n o = go (w .out)
+  where
+    go : Outcome (List (List Place)) → Slices
+    go (accepted ls) = record { lists = lay (o .lists) 0 (slices k ls); marks = markAll (o .marks) (w .asked) }
+    go (refused number block) = cleared 0 n (h .tiles) o

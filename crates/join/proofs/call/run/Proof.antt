@@ -4,7 +4,7 @@ use borrow.Author.Needs.{needs}
 use Rattle.blocks.specs.Layout.{maxTiles}
 use Rattle.codec.specs.Number.{Bytes}
 use Rattle.plan.proofs.Measures.{tiles-few}
-use Rattle.join.proofs.Running.{few-enough, used-few, run-answers, run-refuses}
+use Rattle.join.proofs.Running.{used-few, run-answers, run-refuses}
 use Rattle.join.proofs.call.run.Statement.{statement}
 use Rattle.join.proofs.call.run.Tie as tie
 
@@ -53,17 +53,6 @@ cast-t31 c = let t : tie.After-try-run = search in omega (arith, few t, t .try-r
 enum-known-answer-2 : tie.Need-enum-known-answer-2
 enum-known-answer-2 c = search needs
 
-mul-clear-places : tie.Need-mul-clear-places
-mul-clear-places c = let t : tie.After-try-run = search in omega (arith, few-enough (start t .pre))
-
-clear-places-requires : tie.Need-clear-places-requires
-clear-places-requires c κs = search needs
-
-clear8-requires : tie.Need-clear8-requires
-clear8-requires c κs =
-    let t : tie.After-try-run = search in
-    omega (arith, start t .pre .args .marks, t .try-run .kept .1 .1 .1 .1 .1 .1 .1 .1 .0)
-
 same-length : tie.Need-same-length
 same-length c = search needs
 
@@ -98,14 +87,11 @@ same-length-8 c = search needs
 
 returns-2 : tie.Need-returns-2
 returns-2 c =
-    let m : tie.After-clear8 = search in
-    let p : tie.After-clear-places = search in
     let a : tie.After-answer2 = search in
     let t : tie.After-try-run = search in
-    run-refuses (start t .pre) (bytes t) (rw (a .answer2 .given .1) at (t .try-run .ensures)) (p .clear-places .ensures)
-    (m .clear8 .ensures)
+    run-refuses (start t .pre) (bytes t) (rw (a .answer2 .given .1) at (t .try-run .ensures))
 
 pub run-spec : {M : Type 1} → statement M
 run-spec = tie.close (tie.spec try-run-requires enum-known-answer count-opened-requires cast-t28 cast-t29 cast-t30
-    cast-t31 enum-known-answer-2 mul-clear-places clear-places-requires clear8-requires same-length same-length-2
+    cast-t31 enum-known-answer-2 same-length same-length-2
     same-length-3 same-length-4 returns same-length-5 same-length-6 same-length-7 same-length-8 returns-2)

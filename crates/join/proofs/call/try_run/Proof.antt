@@ -44,8 +44,8 @@ begins m =
     let p : tie.After-clear-places = search in
     begun (start m .pre) (p .clear-places .ensures) (before m .around .ensures) (m .mark-pruned .ensures .1)
 
-serve-all-requires : tie.Need-serve-all-requires
-serve-all-requires c κs =
+serve-requires : tie.Need-serve-requires
+serve-requires c κs =
     let m : tie.After-mark-pruned = search in
     stops-ready (start m .pre) (begins m)
 
@@ -63,15 +63,15 @@ same-length-4 c = search needs
 
 returns : tie.Need-returns
 returns c =
-    let v : tie.After-serve-all = search in
+    let v : tie.After-serve = search in
     let m : tie.After-mark-pruned = search in
     let a = before m in
     let s = start m in
     let x = s .args in
     let counted = m .mark-pruned .ensures .0 .0
     ∙ ap (λ o. prunedCount (entries (x .f .now) (x .h)) o (x .k)) (a .around .ensures) in
-    attempted (s .pre) (begins m) counted (m .mark-pruned .ensures .0 .1) (v .serve-all .ensures)
+    attempted (s .pre) (begins m) counted (m .mark-pruned .ensures .0 .1) (v .serve .ensures)
 
 pub try-run-spec : {M : Type 1} → statement M
 try-run-spec = tie.close (tie.spec mul-clear-places clear-places-requires around-requires mark-pruned-requires
-    serve-all-requires same-length same-length-2 same-length-3 same-length-4 returns)
+    serve-requires same-length same-length-2 same-length-3 same-length-4 returns)
