@@ -59,8 +59,7 @@ module _ (s : Supply) where
     unfolding tileBytesOf
     length-tile t l =
         length-tile-block (s .spots) (s .cues) (tilePosition (headerOf (s .counts)) t) (offset (s .counts) t)
-        (countOf (s .counts) t)
-        (few t l)
+        (countOf (s .counts) t) (few t l)
 
     tile-width : (k : ℕ) → k < tilesOf s → length (tile (0 + k)) ≡ blockSize
     tile-width k l = ap (λ t. length (tile t)) (zero-add k) ∙ length-tile k l
@@ -149,12 +148,9 @@ module _ (s : Supply) (g : GoodSupply s) (typed : Typed s) (f : List ℕ)
   tile-at t l =
       let p = directoryBlocks (headerOf (s .counts)) + t in
       tile-read (s .spots) (s .cues) (blockAt f p) p (offset (s .counts) t) (countOf (s .counts) t)
-      (fits p (omega arith))
-      (g .counts t l)
-      (typed .spots) (typed .axes) (typed .cues) (omega (arith, blocks-few (headerOf (s .counts)), g .most))
-      (boxOf (s .boxes) t)
-      (λ slot k. g .inside t slot l k)
-      (file-tile s (g .counts) f h t l)
+      (fits p (omega arith)) (g .counts t l) (typed .spots) (typed .axes) (typed .cues)
+      (omega (arith, blocks-few (headerOf (s .counts)), g .most))
+      (boxOf (s .boxes) t) (λ slot k. g .inside t slot l k) (file-tile s (g .counts) f h t l)
 
   pub written-reads : Reads f s
   unfolding siteAt
@@ -193,9 +189,8 @@ good-holds f s byte g r =
     (rw (a .0, a .1) at (r .box t m), rw (a .0, a .1) at (r .count t m))))
     (λ t l. let p = tilePosition (headerOf (s .counts)) t in
     tile-held (s .spots) (s .cues) (blockAt f p) p (offset (s .counts) t) (countOf (s .counts) t)
-    (size p (position t l))
-    (few t l)
-    (block-bytes f p byte) (rw (r .count t l) at (g .opened t l)) (λ slot k. r .site t slot l k))
+    (size p (position t l)) (few t l) (block-bytes f p byte)
+    (rw (r .count t l) at (g .opened t l)) (λ slot k. r .site t slot l k))
   where
     few : (t : ℕ) → t < tilesOf s → countOf (s .counts) t ≤ maxSites axes
     few t l = rw (r .count t l) at (count-small (g .directory) t l)

@@ -54,10 +54,10 @@ module _ (f : List ℕ) (h : Header) where
   unfolding boxNumbers boxAt entryBox tabulate
   numbers-own n = length-joined (λ t. boxNumbers (boxAt f t)) numbersPerBox 0 n (λ i l. refl)
 
-  number-own : (t j : ℕ) → t < h .tiles → j < numbersPerBox →
+  number-own : (t : ℕ) → t < h .tiles → (j : ℕ) → j < numbersPerBox →
       getD boxes (numbersPerBox * t + j) (pos 0) ≡ getD (boxNumbers (boxAt f t)) j (pos 0)
   unfolding boxes boxNumbers boxAt entryBox tabulate
-  number-own t j l k =
+  number-own t l j k =
       ap (λ i. getD boxes (i + j) (pos 0)) (sym (numbers-own t))
       ∙ getD-joined (λ t. boxNumbers (boxAt f t)) (pos 0) 0 (h .tiles) t j l k
       ∙ ap (λ i. getD (boxNumbers (boxAt f i)) j (pos 0)) (zero-add t)
@@ -65,12 +65,8 @@ module _ (f : List ℕ) (h : Header) where
   box-own : (t : ℕ) → t < h .tiles → boxOf boxes t ≡ boxAt f t
   unfolding boxOf boxNumbers boxAt entryBox tabulate
   box-own t l =
-      rw (
-        number-own t 0 l (lit< tt),
-        number-own t 1 l (lit< tt),
-        number-own t 2 l (lit< tt),
-        number-own t 3 l (lit< tt),
-      )
+      let x = number-own t l in
+      rw (x 0 (lit< tt), x 1 (lit< tt), x 2 (lit< tt), x 3 (lit< tt))
 
   -- ---- a field of all sites
   module _ {A : Type 0} (field : Site → A) where
@@ -101,19 +97,22 @@ module _ (f : List ℕ) (h : Header) where
         ∙ getD-joined part d 0 (h .tiles) t slot l m ∙ ap (λ i. getD (part i) slot d) e
         ∙ getD-tabulate g d 0 (countAt f t) slot k ∙ ap g (zero-add slot)
 
+  row-own : (t slot : ℕ) → t < h .tiles → slot < countAt f t → (a n : ℕ) →
+      row (tabulate (λ axis. column (λ (q : Site). getD (sitePoint q) axis (pos 0)) f h) a n) (offset counts t + slot)
+      ≡ tabulate (λ axis. getD (sitePoint (siteAt f h t slot)) axis (pos 0)) a n
+  unfolding row tabulate
+  row-own t slot l k a zero = refl
+  row-own t slot l k a (suc n) =
+      rw (column-at (λ (q : Site). getD (sitePoint q) a (pos 0)) (pos 0) t slot l k, row-own t slot l k (a + 1) n)
+
   pub reads-own : Reads f (supplyOf f h)
-  unfolding supplyOf counts boxes tabulate row
+  unfolding supplyOf counts boxes tabulate
   reads-own = record {
     box = λ t l. sym (box-own t (rw tiles-own at l));
     count = λ t l. sym (count-own t (rw tiles-own at l));
     site = λ t slot l k. let m : t < h .tiles = rw tiles-own at l in
         let n : slot < countAt f t = rw (count-own t m) at k in
-        rw (
-          tiles-own,
-          column-at (λ (q : Site). q .x) (pos 0) t slot m n,
-          column-at (λ (q : Site). q .y) (pos 0) t slot m n,
-          column-at (λ (q : Site). q .cue) 0 t slot m n,
-        );
+        rw (tiles-own, row-own t slot m n 0 axes, column-at (λ (q : Site). q .cue) 0 t slot m n);
   }
 
   pub header-own : headerOf (supplyOf f h .counts) ≡ h
@@ -121,7 +120,7 @@ module _ (f : List ℕ) (h : Header) where
   header-own = ap (λ t. record { tiles = t }) tiles-own
 
   pub good-own : GoodFile f h → GoodSupply (supplyOf f h)
-  unfolding supplyOf counts boxes siteAt tabulate row
+  unfolding supplyOf counts boxes siteAt tabulate
   good-own g =
       record {
         least = rw tiles-own (g .directory .tiles .least);
@@ -133,11 +132,7 @@ module _ (f : List ℕ) (h : Header) where
         cues = column-length (λ (q : Site). q .cue);
         inside = λ t slot l k. let m : t < h .tiles = rw tiles-own at l in
             let n : slot < countAt f t = rw (count-own t m) at k in
-            rw (
-              box-own t m,
-              column-at (λ (q : Site). q .x) (pos 0) t slot m n,
-              column-at (λ (q : Site). q .y) (pos 0) t slot m n,
-            ) (g .opened t m .inside slot n);
+            rw (box-own t m, row-own t slot m n 0 axes) (g .opened t m .inside slot n);
       }
 
   -- ---- of a file of bytes

@@ -53,10 +53,9 @@ loop-again c =
       search needs,
       search needs,
       joined-turn (siteBytes (a .xs .now ∷ a .ys .now ∷ []) (a .cues .now)) (l .loop .d) (l .loop .at)
-          (l .loop .at + siteSize axes)
-          (l .loop .i) (l .loop .left)
-          (search needs) (p .ensures) (ap (λ w. l .loop .at + w)
-          (sym (length-site (a .xs .now ∷ a .ys .now ∷ []) (a .cues .now) (l .loop .i)))) ∙ l .loop .inv .5,
+          (l .loop .at + siteSize axes) (l .loop .i) (l .loop .left) (search needs) (p .ensures)
+          (ap (λ w. l .loop .at + w) (sym (length-site (a .xs .now ∷ a .ys .now ∷ []) (a .cues .now) (l .loop .i))))
+          ∙ l .loop .inv .5,
     )
 
 same-length : tie.Need-same-length Inv-loop μ-loop
@@ -67,8 +66,7 @@ returns c =
     let l = c .before in
     let a = l .before .before .before .args in
     joined-end (siteBytes (a .xs .now ∷ a .ys .now ∷ []) (a .cues .now)) (l .loop .d) (l .loop .at) (l .loop .i)
-    (l .loop .left)
-    (search needs) ∙ l .loop .inv .5
+    (l .loop .left) (search needs) ∙ l .loop .inv .5
 
 pub put-sites-spec : {M : Type 1} → statement M
 put-sites-spec =

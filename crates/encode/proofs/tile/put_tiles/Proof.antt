@@ -123,8 +123,7 @@ loop-again c =
       omega (arith, k, l .loop .inv .3),
       ap (λ k. over (p .last .0) (blockSize * (l .loop .p + 1)) (joined g (t + 1) k)) m
           ∙ joined-turn g (l .loop .d) (blockSize * l .loop .p) (blockSize * (l .loop .p + 1)) t
-          (length (a .counts .now) - t)
-          (search needs)
+          (length (a .counts .now) - t) (search needs)
           (p .ensures ∙ ap (over (l .loop .d) (blockSize * l .loop .p)) e) (omega (arith, w)) ∙ l .loop .inv .4,
     )
 
@@ -137,9 +136,7 @@ returns c =
     let l : tie.At-loop Inv-loop μ-loop = search in
     let a = s .args in
     joined-end (tileBytesOf (a .counts .now) (a .xs .now ∷ a .ys .now ∷ []) (a .cues .now)) (l .loop .d)
-    (blockSize * l .loop .p)
-    (l .loop .t)
-    (length (a .counts .now) - l .loop .t) (search needs) ∙ l .loop .inv .4
+    (blockSize * l .loop .p) (l .loop .t) (length (a .counts .now) - l .loop .t) (search needs) ∙ l .loop .inv .4
 
 pub put-tiles-spec : {M : Type 1} → statement M
 put-tiles-spec =
