@@ -17,6 +17,7 @@ use Rattle.blocks.specs.declared.header.Header.{Header}
 use Rattle.codec.specs.Bytes.{bytes, bytes16, bytes32, bytesSigned}
 use Rattle.codec.specs.Over.{over}
 use Rattle.codec.specs.Tabulate.{joined}
+use Rattle.geometry.specs.Around.{row}
 use Rattle.tiles.specs.Tile.{tilePosition}
 use Rattle.blocks.proofs.ChecksumLaws.{sums-small}
 use Rattle.codec.proofs.Holds.{Holds, holds-over, holds-part, holds-front}
@@ -24,7 +25,7 @@ use Rattle.codec.proofs.Joined.{length-joined}
 use Rattle.codec.proofs.Over.{also, length-over}
 use Rattle.encode.specs.Encode.{headBytes, checkBytes, bodyBytes, blockBytes, boxBytes, entryBytes, siteBytes}
 use Rattle.encode.specs.Encode.{directoryBytes, tileBytes, tileBytesOf}
-use Rattle.encode.specs.Supply.{headerOf, numbersPerBox, countOf, offset}
+use Rattle.encode.specs.Supply.{headerOf, boxNumber, countOf, offset}
 
 -- ---- lengths
 pub length-head : (kind p n t : ℕ) → length (headBytes kind p n t) ≡ reservedAt
@@ -32,22 +33,22 @@ unfolding headBytes bytes16 bytes
 length-head kind p n t = refl
 
 pub length-entry : (boxes : List ℤ) (counts : List ℕ) (t : ℕ) → length (entryBytes boxes counts t) ≡ entrySize axes
-unfolding entryBytes boxBytes bytesSigned bytes32 bytes16 bytes
+unfolding entryBytes boxBytes joined bytesSigned bytes32 bytes16 bytes
 length-entry boxes counts t = refl
 
-pub length-site : (xs ys : List ℤ) (cues : List ℕ) (i : ℕ) → length (siteBytes xs ys cues i) ≡ siteSize axes
-unfolding siteBytes bytesSigned bytes32 bytes
-length-site xs ys cues i = refl
+pub length-site : (spots : List (List ℤ)) (cues : List ℕ) (i : ℕ) → length (siteBytes spots cues i) ≡ siteSize axes
+unfolding siteBytes joined bytesSigned bytes32 bytes
+length-site spots cues i = refl
 
 pub length-entries : (boxes : List ℤ) (counts : List ℕ) (t n : ℕ) →
     length (joined (entryBytes boxes counts) t n) ≡ entrySize axes * n
 length-entries boxes counts t n =
     length-joined (entryBytes boxes counts) (entrySize axes) t n (λ i l. length-entry boxes counts (t + i))
 
-pub length-sites : (xs ys : List ℤ) (cues : List ℕ) (i n : ℕ) →
-    length (joined (siteBytes xs ys cues) i n) ≡ siteSize axes * n
-length-sites xs ys cues i n =
-    length-joined (siteBytes xs ys cues) (siteSize axes) i n (λ j l. length-site xs ys cues (i + j))
+pub length-sites : (spots : List (List ℤ)) (cues : List ℕ) (i n : ℕ) →
+    length (joined (siteBytes spots cues) i n) ≡ siteSize axes * n
+length-sites spots cues i n =
+    length-joined (siteBytes spots cues) (siteSize axes) i n (λ j l. length-site spots cues (i + j))
 
 module _ (head payload : List ℕ) (h : length head ≡ reservedAt) (fits : payloadAt + length payload ≤ checkAt) where
   pub length-body : length (bodyBytes head payload) ≡ checkAt
@@ -81,19 +82,19 @@ length-directory-block boxes counts p =
     (length-head directoryKind p n (length counts))
     (omega (arith, length-entries boxes counts (entriesPerBlock axes * p) n, due-few (headerOf counts) p))
 
-pub length-tile-block : (xs ys : List ℤ) (cues : List ℕ) (p i n : ℕ) → n ≤ maxSites axes →
-    length (tileBytes xs ys cues p i n) ≡ blockSize
+pub length-tile-block : (spots : List (List ℤ)) (cues : List ℕ) (p i n : ℕ) → n ≤ maxSites axes →
+    length (tileBytes spots cues p i n) ≡ blockSize
 unfolding tileBytes
-length-tile-block xs ys cues p i n h =
-    length-block (headBytes tileKind p n 0) (joined (siteBytes xs ys cues) i n) (length-head tileKind p n 0)
-    (omega (arith, length-sites xs ys cues i n))
+length-tile-block spots cues p i n h =
+    length-block (headBytes tileKind p n 0) (joined (siteBytes spots cues) i n) (length-head tileKind p n 0)
+    (omega (arith, length-sites spots cues i n))
 
 -- the block of tile t, by what the code goes by
-pub tile-of : (counts : List ℕ) (xs ys : List ℤ) (cues : List ℕ) (t : ℕ) {p first n : ℕ} →
+pub tile-of : (counts : List ℕ) (spots : List (List ℤ)) (cues : List ℕ) (t : ℕ) {p first n : ℕ} →
     p ≡ directoryBlocks (headerOf counts) + t →
-    first ≡ offset counts t → n ≡ countOf counts t → tileBytes xs ys cues p first n ≡ tileBytesOf counts xs ys cues t
+    first ≡ offset counts t → n ≡ countOf counts t → tileBytes spots cues p first n ≡ tileBytesOf counts spots cues t
 unfolding tileBytesOf tilePosition
-tile-of counts xs ys cues t e₁ e₂ e₃ = rw (e₁, e₂, e₃)
+tile-of counts spots cues t e₁ e₂ e₃ = rw (e₁, e₂, e₃)
 
 -- ---- the check, which is over bytes 1 to 509
 pub sums-front : (s r : List ℕ) → take checkAt s ≡ take checkAt r → sums s ≡ sums r
@@ -138,23 +139,20 @@ module _ (l : List ℕ) (at : ℕ) where
   check-row s {a} {c} p q e₁ e₂ = also l at (at + 1) (a ∷ []) (c ∷ []) e₁ e₂ refl ∙ rw (p, q)
 
   pub box-row : (boxes : List ℤ) (t : ℕ) {d₁ d₂ d₃ d₄ : List ℕ} →
-      let end : ℕ → List ℕ = λ i. bytesSigned (getD boxes i (pos 0)) in
-      let b = numbersPerBox * t in
-      d₁ ≡ over l at (end b) → d₂ ≡ over d₁ (at + 4) (end (b + 1)) → d₃ ≡ over d₂ (at + 8) (end (b + 2)) →
-      d₄ ≡ over d₃ (at + 12) (end (b + 3)) → d₄ ≡ over l at (boxBytes boxes t)
-  unfolding boxBytes bytesSigned bytes32 bytes
+      let end : ℕ → List ℕ = λ n. bytesSigned (boxNumber boxes t n) in
+      d₁ ≡ over l at (end 0) → d₂ ≡ over d₁ (at + 4) (end 1) → d₃ ≡ over d₂ (at + 8) (end 2) →
+      d₄ ≡ over d₃ (at + 12) (end 3) → d₄ ≡ over l at (boxBytes boxes t)
+  unfolding boxBytes joined bytesSigned bytes32 bytes
   box-row boxes t e₁ e₂ e₃ e₄ =
-      let end : ℕ → List ℕ = λ i. bytesSigned (getD boxes i (pos 0)) in
-      let b = numbersPerBox * t in
-      also l at (at + 12) (end b ++ end (b + 1) ++ end (b + 2)) (end (b + 3))
-      (also l at (at + 8) (end b ++ end (b + 1)) (end (b + 2))
-      (also l at (at + 4) (end b) (end (b + 1)) e₁ e₂ refl) e₃ refl) e₄ refl
+      let end : ℕ → List ℕ = λ n. bytesSigned (boxNumber boxes t n) in
+      also l at (at + 12) (end 0 ++ end 1 ++ end 2) (end 3)
+      (also l at (at + 8) (end 0 ++ end 1) (end 2) (also l at (at + 4) (end 0) (end 1) e₁ e₂ refl) e₃ refl) e₄ refl
 
   pub entry-row : (boxes : List ℤ) (counts : List ℕ) (t : ℕ) {d₁ d₂ d₃ : List ℕ} → d₁ ≡ over l at (boxBytes boxes t) →
       d₂ ≡ over d₁ (at + countOffset axes) (bytes16 (countOf counts t)) →
       d₃ ≡ over d₂ (at + zeroOffset axes) (replicate (at + entrySize axes - (at + zeroOffset axes)) 0) →
       d₃ ≡ over l at (entryBytes boxes counts t)
-  unfolding entryBytes boxBytes bytesSigned bytes32 bytes16 bytes
+  unfolding entryBytes boxBytes joined bytesSigned bytes32 bytes16 bytes
   entry-row boxes counts t {d₁} {d₂} e₁ e₂ e₃ =
       let z : at + entrySize axes - (at + zeroOffset axes) ≡ entrySize axes - zeroOffset axes = omega arith in
       let a = boxBytes boxes t in
@@ -167,8 +165,8 @@ module _ (l : List ℕ) (at : ℕ) where
       d₁ ≡ over l at (bytesSigned (getD xs i (pos 0))) →
       d₂ ≡ over d₁ (at + 4) (bytesSigned (getD ys i (pos 0))) →
       d₃ ≡ over d₂ (at + cueOffset axes) (bytes32 (getD cues i 0)) →
-      d₃ ≡ over l at (siteBytes xs ys cues i)
-  unfolding siteBytes bytesSigned bytes32 bytes
+      d₃ ≡ over l at (siteBytes (xs ∷ ys ∷ []) cues i)
+  unfolding siteBytes joined row bytesSigned bytes32 bytes
   site-row xs ys cues i e₁ e₂ e₃ =
       let a = bytesSigned (getD xs i (pos 0)) in
       let b = bytesSigned (getD ys i (pos 0)) in

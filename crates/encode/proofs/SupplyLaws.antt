@@ -1,24 +1,13 @@
--- Where a tile's box and sites stand in the lists. Assumes nothing.
+-- Where a tile's sites stand in the lists. Assumes nothing.
 use Prim.Native.Nat.{ℕ, zero, suc, _+_, _*_, _<_, _≤_}
-use mathlib.Core.List.{List, [], _∷_}
+use mathlib.Core.List.{List}
 use mathlib.Core.Logic.{⊎-elim}
 use mathlib.Core.Path.{_≡_}
-use native.Mathlib.Nat.{add-zero, not-suc-le-zero, eq-or-lt-of-le, le-of-suc-le-suc}
+use native.Mathlib.Nat.{not-suc-le-zero, eq-or-lt-of-le, le-of-suc-le-suc}
 use native.Mathlib.Numerals.{add-one}
 use native.Mathlib.Omega.{arith}
-use lib.IntN.{ℤ, pos}
-use lib.ListN.{getD}
 use Rattle.blocks.specs.Layout.{axes, maxSites}
-use Rattle.codec.specs.Tabulate.{tabulate}
-use Rattle.encode.specs.Supply.{numbersPerBox, boxOf, countOf, offset}
-
--- the ends of a tile's box, number by number
-pub box-ends : (boxes : List ℤ) (t : ℕ) →
-    let end : ℕ → ℤ = λ i. getD boxes i (pos 0) in
-    let b = numbersPerBox * t in
-    boxOf boxes t ≡ (end b ∷ end (b + 2) ∷ []) ∷ (end (b + 1) ∷ end (b + 3) ∷ []) ∷ []
-unfolding boxOf tabulate
-box-ends boxes t = rw add-zero
+use Rattle.encode.specs.Supply.{countOf, offset}
 
 module _ (counts : List ℕ) where
   pub offset-next : (t : ℕ) → offset counts (t + 1) ≡ offset counts t + countOf counts t

@@ -10,8 +10,9 @@ use Rattle.blocks.specs.Layout.{entrySize, zeroOffset, entriesPerBlock}
 use Rattle.blocks.specs.declared.header.Header.{Header}
 use Rattle.codec.specs.Bytes.{bytes16, bytes32, bytesSigned}
 use Rattle.codec.specs.Tabulate.{joined}
+use Rattle.geometry.specs.Around.{row}
 use Rattle.tiles.specs.Tile.{tilePosition}
-use Rattle.encode.specs.Supply.{Supply, headerOf, tilesOf, numbersPerBox, countOf, offset}
+use Rattle.encode.specs.Supply.{Supply, headerOf, tilesOf, numbersPerBox, boxNumber, countOf, offset}
 
 -- "Byte 0: D6 hex. Byte 1: kind .. Bytes 2-3: the block's position in the file .. Bytes 4-5: entries. Bytes 6-7: T"
 unfoldable pub headBytes : ℕ → ℕ → ℕ → ℕ → List ℕ
@@ -33,18 +34,16 @@ blockBytes head payload = bodyBytes head payload ++ checkBytes (bodyBytes head p
 -- "A directory entry has 20 bytes: low x, low y, high x, high y (signed, 4 bytes each), count (2), zero (2)": that of
 -- tile t
 unfoldable pub boxBytes : List ℤ → ℕ → List ℕ
-boxBytes boxes t =
-    bytesSigned (getD boxes (numbersPerBox * t) (pos 0)) ++ bytesSigned (getD boxes (numbersPerBox * t + 1) (pos 0))
-    ++ bytesSigned (getD boxes (numbersPerBox * t + 2) (pos 0))
-    ++ bytesSigned (getD boxes (numbersPerBox * t + 3) (pos 0))
+boxBytes boxes t = joined (λ n. bytesSigned (boxNumber boxes t n)) 0 numbersPerBox
 
 unfoldable pub entryBytes : List ℤ → List ℕ → ℕ → List ℕ
 entryBytes boxes counts t =
     boxBytes boxes t ++ bytes16 (countOf counts t) ++ replicate (entrySize axes - zeroOffset axes) 0
 
 -- "A site has 12 bytes: x, y (signed), cue": site i of the lists
-unfoldable pub siteBytes : List ℤ → List ℤ → List ℕ → ℕ → List ℕ
-siteBytes xs ys cues i = bytesSigned (getD xs i (pos 0)) ++ bytesSigned (getD ys i (pos 0)) ++ bytes32 (getD cues i 0)
+unfoldable pub siteBytes : List (List ℤ) → List ℕ → ℕ → List ℕ
+siteBytes spots cues i =
+    joined (λ axis. bytesSigned (getD (row spots i) axis (pos 0))) 0 axes ++ bytes32 (getD cues i 0)
 
 -- the directory block at position p: "Each directory block but the last has 24 entries"
 unfoldable pub directoryBytes : List ℤ → List ℕ → ℕ → List ℕ
@@ -53,19 +52,19 @@ directoryBytes boxes counts p =
     (joined (entryBytes boxes counts) (entriesPerBlock axes * p) (entriesDue (headerOf counts) p))
 
 -- a tile block at position p, with n sites of the lists from site i on; T is "zero in a tile"
-unfoldable pub tileBytes : List ℤ → List ℤ → List ℕ → ℕ → ℕ → ℕ → List ℕ
-tileBytes xs ys cues p i n = blockBytes (headBytes tileKind p n 0) (joined (siteBytes xs ys cues) i n)
+unfoldable pub tileBytes : List (List ℤ) → List ℕ → ℕ → ℕ → ℕ → List ℕ
+tileBytes spots cues p i n = blockBytes (headBytes tileKind p n 0) (joined (siteBytes spots cues) i n)
 
 -- the block of tile t, at position d + t
-unfoldable pub tileBytesOf : List ℕ → List ℤ → List ℤ → List ℕ → ℕ → List ℕ
-tileBytesOf counts xs ys cues t =
-    tileBytes xs ys cues (tilePosition (headerOf counts) t) (offset counts t) (countOf counts t)
+unfoldable pub tileBytesOf : List ℕ → List (List ℤ) → List ℕ → ℕ → List ℕ
+tileBytesOf counts spots cues t =
+    tileBytes spots cues (tilePosition (headerOf counts) t) (offset counts t) (countOf counts t)
 
 -- "A file has d directory blocks, d = T/24 rounded up, then tile t at position d + t"
 unfoldable pub fileBytes : Supply → List ℕ
 fileBytes s =
     joined (directoryBytes (s .boxes) (s .counts)) 0 (directoryBlocks (headerOf (s .counts)))
-    ++ joined (tileBytesOf (s .counts) (s .xs) (s .ys) (s .cues)) 0 (tilesOf s)
+    ++ joined (tileBytesOf (s .counts) (s .spots) (s .cues)) 0 (tilesOf s)
 
 -- "the file's length in bytes"
 unfoldable pub fileLength : Header → ℕ

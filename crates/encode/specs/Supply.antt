@@ -1,5 +1,5 @@
 -- The writer's lists (document 01, "Writer, full check, host, program"): "boxes, counts, and x, y, cue lists in tile
--- order".
+-- order"; the spots are columns, a list of coordinates for each axis.
 use Prim.Native.Nat.{ℕ, zero, suc, _+_, _*_}
 use mathlib.Core.List.{List, [], _∷_}
 use lib.IntN.{ℤ, pos}
@@ -7,18 +7,18 @@ use lib.ListN.{getD, length}
 use Rattle.blocks.specs.Layout.{axes}
 use Rattle.blocks.specs.declared.header.Header.{Header}
 use Rattle.codec.specs.Tabulate.{tabulate}
+use Rattle.geometry.specs.Around.{row}
 use Rattle.tiles.specs.declared.tile.Site.{Site}
 
 pub record Supply : Type 0 where
   pub boxes : List ℤ
   pub counts : List ℕ
-  pub xs : List ℤ
-  pub ys : List ℤ
+  pub spots : List (List ℤ)
   pub cues : List ℕ
 
 -- the lists that a call is given
-abbrev pub supply : List ℤ → List ℕ → List ℤ → List ℤ → List ℕ → Supply
-supply boxes counts xs ys cues = record { boxes = boxes; counts = counts; xs = xs; ys = ys; cues = cues }
+abbrev pub supply : List ℤ → List ℕ → List (List ℤ) → List ℕ → Supply
+supply boxes counts spots cues = record { boxes = boxes; counts = counts; spots = spots; cues = cues }
 
 -- "T is the number of counts"
 abbrev pub headerOf : List ℕ → Header
@@ -51,14 +51,13 @@ offset counts (suc t) = offset counts t + countOf counts t
 abbrev pub siteTotal : List ℕ → ℕ
 siteTotal counts = offset counts (length counts)
 
--- where site i of the lists is
-abbrev pub suppliedPoint : List ℤ → List ℤ → ℕ → List ℤ
-suppliedPoint xs ys i = getD xs i (pos 0) ∷ getD ys i (pos 0) ∷ []
-
--- the site of a tile's slot
-abbrev pub siteOf : Supply → ℕ → ℕ → Site
-siteOf s t slot = record {
-  x = getD (s .xs) (offset (s .counts) t + slot) (pos 0);
-  y = getD (s .ys) (offset (s .counts) t + slot) (pos 0);
-  cue = getD (s .cues) (offset (s .counts) t + slot) 0;
+-- site i of the lists, and the site of a tile's slot
+abbrev pub suppliedSite : List (List ℤ) → List ℕ → ℕ → Site
+suppliedSite spots cues i = record {
+  x = getD (row spots i) 0 (pos 0);
+  y = getD (row spots i) 1 (pos 0);
+  cue = getD cues i 0;
 }
+
+abbrev pub siteOf : Supply → ℕ → ℕ → Site
+siteOf s t slot = suppliedSite (s .spots) (s .cues) (offset (s .counts) t + slot)

@@ -1,4 +1,5 @@
 // The tiles: their blocks in order, each written once.
+ghost use mathlib.Core.List.{[], _∷_};
 ghost use mathlib.Core.Path.{_≡_};
 ghost use Prim.Native.Nat.{ℕ, _+_, _*_, _<_, _≤_};
 ghost use lib.ListN.{length};
@@ -26,7 +27,7 @@ fn put_site(d: &mut [u8], at: usize, xs: &[i32], ys: &[i32], cues: &[u32], i: us
         × (i < length (now cues)) ⌝ }
     ensures { λ _. ⌜
         now (d .exit) ≡ over (now (d .entry)) at
-        (siteBytes (now (xs .entry)) (now (ys .entry)) (now (cues .entry)) i) ⌝ }
+        (siteBytes (now (xs .entry) ∷ now (ys .entry) ∷ []) (now (cues .entry)) i) ⌝ }
 {
     put_i32(d, at, xs[i]);
     put_i32(d, at + 4, ys[i]);
@@ -48,7 +49,7 @@ fn put_sites(
         × (first + n ≤ length (now cues)) ⌝ }
     ensures { λ _. ⌜
         now (d .exit) ≡ over (now (d .entry)) start
-        (joined (siteBytes (now (xs .entry)) (now (ys .entry)) (now (cues .entry))) first n) ⌝ }
+        (joined (siteBytes (now (xs .entry) ∷ now (ys .entry) ∷ []) (now (cues .entry))) first n) ⌝ }
 {
     let mut at = start;
     let mut i = first;
@@ -68,7 +69,7 @@ fn put_tile(d: &mut [u8], p: usize, xs: &[i32], ys: &[i32], cues: &[u32], first:
         × (first + n ≤ length (now ys)) × (first + n ≤ length (now cues)) ⌝ }
     ensures { λ _. ⌜
         now (d .exit) ≡ over (now (d .entry)) (blockSize * p)
-        (tileBytes (now (xs .entry)) (now (ys .entry)) (now (cues .entry)) p first n) ⌝ }
+        (tileBytes (now (xs .entry) ∷ now (ys .entry) ∷ []) (now (cues .entry)) p first n) ⌝ }
 {
     let at = layout::BLOCK_SIZE * p;
     let used = site_offset(n);
@@ -88,7 +89,7 @@ pub fn put_tiles(d: &mut [u8], counts: &[u32], xs: &[i32], ys: &[i32], cues: &[u
         × (length (now cues) ≡ siteTotal (now counts)) ⌝ }
     ensures { λ _. ⌜
         now (d .exit) ≡ over (now (d .entry)) (blockSize * directoryBlocks (headerOf (now (counts .entry))))
-        (joined (tileBytesOf (now (counts .entry)) (now (xs .entry)) (now (ys .entry)) (now (cues .entry))) 0
+        (joined (tileBytesOf (now (counts .entry)) (now (xs .entry) ∷ now (ys .entry) ∷ []) (now (cues .entry))) 0
         (length (now (counts .entry)))) ⌝ }
 {
     let mut p = directory_blocks(header_of(counts));

@@ -4,16 +4,32 @@ use mathlib.Core.Bool.{Bool, true, false}
 use mathlib.Core.List.{List, [], _∷_}
 use mathlib.Core.Path.{_≡_, refl, ap}
 use native.Mathlib.Omega.{arith}
+use lib.Dec.{eqb}
 use lib.IntN.{ℤ, pos}
 use lib.ListN.{getD, length}
 use lib.Signed.{ltZ, leZ}
+use borrow.Author.Tests.{eqb-true, eq-eqb}
 use Rattle.base.specs.Lists.{All}
-use Rattle.geometry.specs.Around.{row, rows, foremost, least, greatest, around}
+use Rattle.geometry.specs.Around.{equalColumns, row, rows, foremost, least, greatest, around}
 use Rattle.geometry.specs.Box.{lo, hi, withinLimits, validAxis, validBox, validPoint}
 use Rattle.base.proofs.Tests.{and-both, both-and, by-test, cond-ind}
 use Rattle.geometry.proofs.AllAxes.{In, none, more}
 use Rattle.geometry.proofs.OneAxis.{On}
 use Rattle.geometry.proofs.Shift.{at-most-refl, not-less, at-most-trans, less-at-most}
+
+-- ---- columns of equal lengths
+module _ (n : ℕ) where
+  pub columns-equal : (cols : List (List ℤ)) → equalColumns n cols ≡ true → All (λ c. length c ≡ n) cols
+  unfolding equalColumns
+  columns-equal [] e = tt
+  columns-equal (c ∷ cols) e =
+      let p = and-both (eqb (length c) n) (equalColumns n cols) e in
+      (eqb-true (length c) n (p .0), columns-equal cols (p .1))
+
+  pub equal-columns : (cols : List (List ℤ)) → All (λ c. length c ≡ n) cols → equalColumns n cols ≡ true
+  unfolding equalColumns
+  equal-columns [] h = refl
+  equal-columns (c ∷ cols) h = both-and (eq-eqb (length c) n (h .0)) (equal-columns cols (h .1))
 
 -- ---- a property of all rows, by index
 module _ (P : List ℤ → Type 0) (cols : List (List ℤ)) where

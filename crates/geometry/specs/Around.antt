@@ -1,18 +1,24 @@
 -- Points by columns, one list of coordinates for each axis, and the smallest box around them (document 01, "The join":
 -- "O is the smallest box around the stops").
+--   equalColumns    every column has n coordinates
 --   row cols i      the point at an index
 --   points cols n   the points at the indices below n
 --   around cols     the box from the least to the greatest coordinate on each axis
 --   SmallestAround  what the theorem says of it
 use Prim.Native.Nat.{ℕ, zero, suc}
-use mathlib.Core.Bool.{Bool, true, cond}
+use mathlib.Core.Bool.{Bool, true, cond, _&&_}
 use mathlib.Core.List.{List, [], _∷_}
 use mathlib.Core.Path.{_≡_}
+use lib.Dec.{eqb}
 use lib.IntN.{ℤ, pos}
 use lib.ListN.{getD, length}
 use lib.Signed.{ltZ}
 use Rattle.base.specs.Lists.{All}
 use Rattle.geometry.specs.Box.{validBox, inside}
+
+unfoldable pub equalColumns : ℕ → List (List ℤ) → Bool
+equalColumns n [] = true
+equalColumns n (c ∷ cols) = eqb (length c) n && equalColumns n cols
 
 unfoldable pub row : List (List ℤ) → ℕ → List ℤ
 row [] i = []

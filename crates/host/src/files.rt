@@ -80,10 +80,10 @@ pub extern "C" fn nearby_write(
 ) -> WriteReport
     ensures answer { λ r. ⌜
         r ≡ writeReport (writeCall
-        (supply (now (boxes .entry)) (now (counts .entry)) (now (xs .entry)) (now (ys .entry)) (now (cues .entry)))
+        (supply (now (boxes .entry)) (now (counts .entry)) (now (xs .entry) ∷ now (ys .entry) ∷ []) (now (cues .entry)))
         (length (now (out .entry)))) ⌝ }
     ensures output { λ _. ⌜ now (out .exit) ≡ writeExit
-        (supply (now (boxes .entry)) (now (counts .entry)) (now (xs .entry)) (now (ys .entry)) (now (cues .entry)))
+        (supply (now (boxes .entry)) (now (counts .entry)) (now (xs .entry) ∷ now (ys .entry) ∷ []) (now (cues .entry)))
         (now (out .entry)) ⌝ }
 {
     reports::report_write(write::write(boxes, counts, xs, ys, cues, out))

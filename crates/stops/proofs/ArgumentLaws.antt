@@ -7,15 +7,18 @@ use native.Mathlib.Nat.{mul-le-mul}
 use lib.Dec.{eqb, leb}
 use lib.IntN.{ℤ}
 use lib.ListN.{length}
-use borrow.Author.Tests.{leb-true, eqb-true, eq-eqb}
+use borrow.Author.Tests.{leb-true, eq-eqb}
 use Rattle.base.specs.Lists.{All}
 use Rattle.base.specs.Refusal.{accepted, #k, #stops, #spot, #short}
+use Rattle.geometry.specs.Around.{equalColumns}
 use Rattle.search.specs.Inner.Places.{maxPlaces}
 use Rattle.search.specs.Limits.{validK, maxK, maxStops}
 use Rattle.base.proofs.Every.{every-at}
 use Rattle.base.proofs.Outcomes.{require-accepted}
-use Rattle.base.proofs.Tests.{and-both, by-test}
-use Rattle.stops.specs.Arguments.{equalColumns, stopsDue, stopsValid, room, arguments}
+use Rattle.base.proofs.Tests.{and-both}
+use Rattle.geometry.proofs.Around.{columns-equal}
+use Rattle.geometry.proofs.Two.{two-columns}
+use Rattle.stops.specs.Arguments.{stopsDue, stopsValid, room, arguments}
 use Rattle.stops.specs.Inner.Good.{GoodArguments}
 use Rattle.stops.specs.Stops.{stopCount, validStop}
 use Rattle.stops.specs.declared.arguments.Lengths.{Lengths}
@@ -24,18 +27,9 @@ pub good-k : (k : ℕ) → validK k ≡ true → (1 ≤ k) × (k ≤ maxK)
 unfolding validK
 good-k k e = let p = and-both (leb 1 k) (leb k maxK) e in (leb-true 1 k (p .0), leb-true k maxK (p .1))
 
-columns-equal : (n : ℕ) (cols : List (List ℤ)) → equalColumns n cols ≡ true → All (λ c. length c ≡ n) cols
-unfolding equalColumns
-columns-equal n [] e = tt
-columns-equal n (c ∷ cols) e =
-    let p = and-both (eqb (length c) n) (equalColumns n cols) e in
-    (eqb-true (length c) n (p .0), columns-equal n cols (p .1))
-
 -- of two columns the second is looked at
-pub two-columns : (xs ys : List ℤ) → eqb (length ys) (length xs) ≡ equalColumns (length xs) (xs ∷ ys ∷ [])
-unfolding equalColumns
-two-columns xs ys =
-    rw (eq-eqb (length xs) (length xs) refl) (by-test (eqb (length ys) (length xs)) (λ e. rw e) (λ e. rw e))
+pub second-column : (xs ys : List ℤ) → eqb (length ys) (length xs) ≡ equalColumns (length xs) (xs ∷ ys ∷ [])
+second-column xs ys = rw (eq-eqb (length xs) (length xs) refl) at (two-columns (length xs) xs ys)
 
 pub good-stops : (cols : List (List ℤ)) → stopsDue cols ≡ true
     → (1 ≤ stopCount cols) × ((stopCount cols ≤ maxStops) × All (λ c. length c ≡ stopCount cols) cols)

@@ -1,20 +1,15 @@
 -- Tests 11 to 14 of the join, in their order (document 01, "Numbers given to bad input").
 use Prim.Native.Nat.{ℕ, _*_}
-use mathlib.Core.Bool.{Bool, true, _&&_}
-use mathlib.Core.List.{List, [], _∷_}
-use lib.Dec.{eqb, leb}
+use mathlib.Core.Bool.{Bool, _&&_}
+use mathlib.Core.List.{List}
+use lib.Dec.{leb}
 use lib.IntN.{ℤ}
-use lib.ListN.{length}
 use Rattle.base.specs.Every.{every}
 use Rattle.base.specs.Refusal.{Outcome, accepted, require, #k, #stops, #spot, #short}
+use Rattle.geometry.specs.Around.{equalColumns}
 use Rattle.search.specs.Limits.{validK, maxStops}
 use Rattle.stops.specs.Stops.{stopCount, validStop}
 use Rattle.stops.specs.declared.arguments.Lengths.{Lengths}
-
--- every column has n coordinates
-unfoldable pub equalColumns : ℕ → List (List ℤ) → Bool
-equalColumns n [] = true
-equalColumns n (c ∷ cols) = eqb (length c) n && equalColumns n cols
 
 -- 12: "none, over 256, or unequal x and y slices"
 unfoldable pub stopsDue : List (List ℤ) → Bool

@@ -1,34 +1,39 @@
 -- The fields of a block: a block that holds what the writer makes has them, and a block of bytes that has them holds
 -- it. Assumes nothing.
-use Prim.Native.Nat.{ℕ, _+_, _*_, _-_, _<_, _≤_}
+use Prim.Native.Nat.{ℕ, zero, suc, _+_, _-_, _<_, _≤_}
 use mathlib.Core.Bool.{true}
 use mathlib.Core.List.{List, [], _∷_, _++_}
 use mathlib.Core.Path.{_≡_, refl, sym, ap, _∙_}
+use native.Mathlib.Nat.{zero-add}
 use native.Mathlib.Omega.{arith}
+use lib.Dec.{lit<}
 use lib.IntN.{ℤ, pos}
 use lib.ListN.{length, getD, replicate, length-append}
 use borrow.Author.Tests.{eqb-true, eq-eqb}
+use Rattle.base.specs.Lists.{All}
 use Rattle.blocks.specs.Block.{positionIn, entriesIn, headerIn}
 use Rattle.blocks.specs.Checksum.{sums, checkAgrees}
-use Rattle.blocks.specs.Directory.{entryOffset, entryBox, entryCount, entryZero}
+use Rattle.blocks.specs.Directory.{entryOffset, entryNumber, entryBox, entryCount, entryZero}
 use Rattle.blocks.specs.Layout.{axes, positionAt, entriesAt, tilesAt, countOffset, blockSize, syncByte, kindAt}
-use Rattle.blocks.specs.Layout.{reservedAt, cueOffset, payloadAt, checkAt, zeroOffset, entrySize}
+use Rattle.blocks.specs.Layout.{numberOffset, reservedAt, cueOffset, payloadAt, checkAt, zeroOffset, entrySize}
 use Rattle.blocks.specs.declared.checksum.Sums.{Sums}
 use Rattle.codec.specs.Bytes.{bytes, bytes16, bytes32, bytesSigned}
 use Rattle.codec.specs.Zeros.{zeros}
-use Rattle.codec.specs.Number.{limit16, Bytes, i32At}
+use Rattle.codec.specs.Number.{limit16, Bytes}
+use Rattle.codec.specs.Tabulate.{tabulate, joined}
 use Rattle.encode.specs.Encode.{headBytes, checkBytes, bodyBytes, blockBytes, boxBytes, entryBytes, siteBytes}
-use Rattle.encode.specs.Supply.{numbersPerBox, boxOf, countOf}
-use Rattle.tiles.specs.Tile.{siteOffset, siteIn}
+use Rattle.encode.specs.Supply.{numbersPerBox, boxNumber, boxOf, countOf, suppliedSite}
+use Rattle.geometry.specs.Around.{row}
+use Rattle.tiles.specs.Tile.{siteOffset, siteIn, sitePoint}
 use Rattle.tiles.specs.declared.tile.Site.{Site}
 use Rattle.base.proofs.Tests.{and-both, both-and}
-use Rattle.blocks.proofs.DirectoryLaws.{entry-ends}
 use Rattle.codec.proofs.Bytes.{read-16, read-32, read-signed, held-16, held-32, held-signed}
 use Rattle.codec.proofs.Holds.{Holds, holds-run, holds-cons, holds-head, holds-tail, holds-left, holds-right}
-use Rattle.codec.proofs.Holds.{holds-append, zeros-held, held-zeros}
+use Rattle.codec.proofs.Holds.{holds-append, holds-each, holds-joined, zeros-held, held-zeros}
+use Rattle.codec.proofs.Tabulate.{getD-tabulate}
+use Rattle.geometry.proofs.Two.{two}
 use Rattle.encode.proofs.EncodeLaws.{length-head, length-body, sums-body}
-use Rattle.encode.proofs.SupplyLaws.{box-ends}
-use Rattle.writer.specs.Made.{Signed, Unsigned}
+use Rattle.writer.specs.Made.{Signed, Unsigned, boxNumbers}
 
 pub record Fields (s : List ℕ) (kind p n t : ℕ) (payload : List ℕ) : Type 0 where
   pub sync : getD s 0 0 ≡ syncByte
@@ -140,87 +145,91 @@ module _ (s : List ℕ) (size : length s ≡ blockSize) where
 
 -- ---- the entry of tile t, as entry i of a block
 module _ (s : List ℕ) (i : ℕ) (boxes : List ℤ) (counts : List ℕ) (t : ℕ) where
+  abbrev end : ℕ → List ℕ
+  end n = bytesSigned (boxNumber boxes t n)
+
+  box-read : Signed boxes → Holds s (entryOffset i) (boxBytes boxes t) → entryBox s i ≡ boxOf boxes t
+  unfolding boxBytes entryBox boxOf tabulate bytesSigned bytes32 bytes
+  box-read signed h =
+      let x : (n : ℕ) → n < numbersPerBox → entryNumber s i n ≡ boxNumber boxes t (0 + n) = λ n l. read-signed s _
+      (signed _) (holds-each s end 4 (entryOffset i) 0 numbersPerBox (λ k m. refl) h n l) in
+      rw (x 0 (lit< tt), x 1 (lit< tt), x 2 (lit< tt), x 3 (lit< tt))
+
+  box-held : Bytes s → entryBox s i ≡ boxOf boxes t → Holds s (entryOffset i) (boxBytes boxes t)
+  unfolding boxBytes entryBox boxOf boxNumbers tabulate bytesSigned bytes32 bytes
+  box-held byte e =
+      holds-joined s end 4 (entryOffset i) 0 numbersPerBox (λ k m. refl)
+      (λ n l. holds-run (held-signed s (entryOffset i + numberOffset n) byte)
+      (ap (λ k. bytesSigned (entryNumber s i k)) (sym (zero-add n))
+      ∙ ap bytesSigned (sym (getD-tabulate (entryNumber s i) (pos 0) 0 numbersPerBox n l)
+      ∙ ap (λ b. getD (boxNumbers b) n (pos 0)) e ∙ getD-tabulate (boxNumber boxes t) (pos 0) 0 numbersPerBox n l)))
+
   pub entry-read : Signed boxes → countOf counts t < limit16 → Holds s (entryOffset i) (entryBytes boxes counts t) →
       (entryBox s i ≡ boxOf boxes t)
       × (entryCount s i ≡ countOf counts t)
       × (entryZero s i ≡ true)
-  unfolding entryCount entryZero entryBytes boxBytes bytesSigned bytes32 bytes16 bytes
+  unfolding entryCount entryZero entryBytes boxBytes joined bytesSigned bytes32 bytes16 bytes
   entry-read signed small h =
       let at = entryOffset i in
-      let b = numbersPerBox * t in
-      let end : ℕ → List ℕ = λ k. bytesSigned (getD boxes k (pos 0)) in
+      let four = boxBytes boxes t in
       let count = bytes16 (countOf counts t) in
       let gap : List ℕ = replicate (entrySize axes - zeroOffset axes) 0 in
-      let four = end b ++ end (b + 1) ++ end (b + 2) ++ end (b + 3) in
-      let h₅ = holds-left s at (four ++ count) gap h in
-      let h₄ = holds-left s at four count h₅ in
-      let h₃ = holds-left s at (end b ++ end (b + 1) ++ end (b + 2)) (end (b + 3)) h₄ in
-      let h₂ = holds-left s at (end b ++ end (b + 1)) (end (b + 2)) h₃ in
-      let x₀ = read-signed s at (signed b) (holds-left s at (end b) (end (b + 1)) h₂) in
-      let x₁ = read-signed s (at + 4) (signed (b + 1)) (holds-right s at (end b) (end (b + 1)) refl h₂) in
-      let x₂ = read-signed s (at + 8) (signed (b + 2)) (holds-right s at (end b ++ end (b + 1))
-      (end (b + 2)) refl h₃) in
-      let x₃ = read-signed s (at + 12) (signed (b + 3))
-      (holds-right s at (end b ++ end (b + 1) ++ end (b + 2)) (end (b + 3)) refl h₄) in
+      let g = holds-left s at (four ++ count) gap h in
       let z : at + entrySize axes - (at + zeroOffset axes) ≡ entrySize axes - zeroOffset axes = omega arith in (
-        entry-ends s i ∙ rw (x₀, x₁, x₂, x₃) (sym (box-ends boxes t)),
-        read-16 s (at + countOffset axes) small (holds-right s at four count refl h₅),
+        box-read signed (holds-left s at four count g),
+        read-16 s (at + countOffset axes) small (holds-right s at four count refl g),
         held-zeros s (at + zeroOffset axes) (at + entrySize axes)
             (holds-run (holds-right s at (four ++ count) gap refl h) (ap (λ k. replicate k 0) (sym z))),
       )
 
   pub entry-held : Bytes s → entryBox s i ≡ boxOf boxes t → entryCount s i ≡ countOf counts t → entryZero s i ≡ true →
       Holds s (entryOffset i) (entryBytes boxes counts t)
-  unfolding entryCount entryZero entryBytes boxBytes bytesSigned bytes32 bytes16 bytes
-  entry-held byte box number zero =
+  unfolding entryCount entryZero entryBytes boxBytes joined bytesSigned bytes32 bytes16 bytes
+  entry-held byte box number null =
       let at = entryOffset i in
-      let b = numbersPerBox * t in
-      let end : ℕ → List ℕ = λ k. bytesSigned (getD boxes k (pos 0)) in
+      let four = boxBytes boxes t in
       let count = bytes16 (countOf counts t) in
       let gap : List ℕ = replicate (entrySize axes - zeroOffset axes) 0 in
-      let ends = sym (entry-ends s i) ∙ box ∙ box-ends boxes t in
-      let x₀ : i32At s at ≡ getD boxes b (pos 0) = cc in
-      let x₁ : i32At s (at + 4) ≡ getD boxes (b + 1) (pos 0) = cc in
-      let x₂ : i32At s (at + 8) ≡ getD boxes (b + 2) (pos 0) = cc in
-      let x₃ : i32At s (at + 12) ≡ getD boxes (b + 3) (pos 0) = cc in
       let z : at + entrySize axes - (at + zeroOffset axes) ≡ entrySize axes - zeroOffset axes = omega arith in
-      let h₁ = holds-run (held-signed s at byte) (ap bytesSigned x₀) in
-      let h₂ = holds-append s at (end b) (end (b + 1)) refl h₁ (holds-run (held-signed s (at + 4) byte)
-      (ap bytesSigned x₁)) in
-      let h₃ = holds-append s at (end b ++ end (b + 1)) (end (b + 2)) refl h₂
-      (holds-run (held-signed s (at + 8) byte) (ap bytesSigned x₂)) in
-      let h₄ = holds-append s at (end b ++ end (b + 1) ++ end (b + 2)) (end (b + 3)) refl h₃
-      (holds-run (held-signed s (at + 12) byte) (ap bytesSigned x₃)) in
-      let four = end b ++ end (b + 1) ++ end (b + 2) ++ end (b + 3) in
-      let h₅ = holds-append s at four count refl h₄ (holds-run (held-16 s (at + countOffset axes) byte)
-      (ap bytes16 number)) in
-      holds-append s at (four ++ count) gap refl h₅
-      (holds-run (zeros-held s (at + zeroOffset axes) (at + entrySize axes) zero) (ap (λ k. replicate k 0) z))
+      let g = holds-append s at four count refl (box-held byte box)
+      (holds-run (held-16 s (at + countOffset axes) byte) (ap bytes16 number)) in
+      holds-append s at (four ++ count) gap refl g
+      (holds-run (zeros-held s (at + zeroOffset axes) (at + entrySize axes) null) (ap (λ k. replicate k 0) z))
 
 -- ---- site i of the lists, as the site of a slot of a block
-module _ (s : List ℕ) (slot : ℕ) (xs ys : List ℤ) (cues : List ℕ) (i : ℕ) where
-  pub site-read : Signed xs → Signed ys → Unsigned cues → Holds s (siteOffset slot) (siteBytes xs ys cues i) →
-      siteIn s slot ≡ record { x = getD xs i (pos 0); y = getD ys i (pos 0); cue = getD cues i 0 }
-  unfolding siteIn siteBytes bytesSigned bytes32 bytes
-  site-read sx sy sc h =
+pub row-signed : (spots : List (List ℤ)) → All Signed spots → (i : ℕ) → Signed (row spots i)
+unfolding row
+row-signed [] h i axis = lit< tt
+row-signed (c ∷ spots) h i zero = h .0 i
+row-signed (c ∷ spots) h i (suc axis) = row-signed spots (h .1) i axis
+
+pub supplied-point : (spots : List (List ℤ)) (cues : List ℕ) (i : ℕ) → length spots ≡ axes →
+    sitePoint (suppliedSite spots cues i) ≡ row spots i
+unfolding row
+supplied-point spots cues i h = rw (two spots [] h)
+
+module _ (s : List ℕ) (slot : ℕ) (spots : List (List ℤ)) (cues : List ℕ) (i : ℕ) where
+  pub site-read : Signed (row spots i) → Unsigned cues → Holds s (siteOffset slot) (siteBytes spots cues i) →
+      siteIn s slot ≡ suppliedSite spots cues i
+  unfolding siteIn siteBytes joined bytesSigned bytes32 bytes
+  site-read sp sc h =
       let at = siteOffset slot in
-      let x = bytesSigned (getD xs i (pos 0)) in
-      let y = bytesSigned (getD ys i (pos 0)) in
+      let x = bytesSigned (getD (row spots i) 0 (pos 0)) in
+      let y = bytesSigned (getD (row spots i) 1 (pos 0)) in
       let c = bytes32 (getD cues i 0) in
       let g = holds-left s at (x ++ y) c h in
-      let e₀ = read-signed s at (sx i) (holds-left s at x y g) in
-      let e₁ = read-signed s (at + 4) (sy i) (holds-right s at x y refl g) in
+      let e₀ = read-signed s at (sp 0) (holds-left s at x y g) in
+      let e₁ = read-signed s (at + 4) (sp 1) (holds-right s at x y refl g) in
       let e₂ = read-32 s (at + cueOffset axes) (sc i) (holds-right s at (x ++ y) c refl h) in
       rw (e₀, e₁, e₂)
 
-  pub site-held : Bytes s →
-      siteIn s slot ≡ record { x = getD xs i (pos 0); y = getD ys i (pos 0); cue = getD cues i 0 } →
-      Holds s (siteOffset slot) (siteBytes xs ys cues i)
-  unfolding siteIn siteBytes bytesSigned bytes32 bytes
+  pub site-held : Bytes s → siteIn s slot ≡ suppliedSite spots cues i →
+      Holds s (siteOffset slot) (siteBytes spots cues i)
+  unfolding siteIn siteBytes joined bytesSigned bytes32 bytes
   site-held byte e =
       let at = siteOffset slot in
-      let x = bytesSigned (getD xs i (pos 0)) in
-      let y = bytesSigned (getD ys i (pos 0)) in
+      let x = bytesSigned (getD (row spots i) 0 (pos 0)) in
+      let y = bytesSigned (getD (row spots i) 1 (pos 0)) in
       let c = bytes32 (getD cues i 0) in
       let e₀ = ap (λ (q : Site). q .x) e in
       let e₁ = ap (λ (q : Site). q .y) e in

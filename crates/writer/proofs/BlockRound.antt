@@ -6,9 +6,10 @@ use mathlib.Core.List.{List}
 use mathlib.Core.Path.{_≡_, sym, ap, _∙_}
 use native.Mathlib.Omega.{arith}
 use lib.Dec.{eqb, ltb}
-use lib.IntN.{ℤ, pos}
+use lib.IntN.{ℤ}
 use lib.ListN.{length, getD}
 use borrow.Author.Tests.{eqb-true, eqb-false, eq-eqb, ltb-true, ltb-false}
+use Rattle.base.specs.Lists.{All}
 use Rattle.blocks.specs.Accepted.{GoodHead, GoodDirectoryBlock}
 use Rattle.blocks.specs.Block.{headerIn, kindDue}
 use Rattle.blocks.specs.Directory.{directoryBlocks, entriesDue, entryOffset, entryBox, entryCount, entryZero}
@@ -20,7 +21,8 @@ use Rattle.codec.specs.Zeros.{zeros}
 use Rattle.codec.specs.Number.{limit16, Bytes, u16At}
 use Rattle.codec.specs.Tabulate.{joined}
 use Rattle.encode.specs.Encode.{entryBytes, siteBytes, directoryBytes, tileBytes}
-use Rattle.encode.specs.Supply.{headerOf, boxOf, countOf, suppliedPoint}
+use Rattle.encode.specs.Supply.{headerOf, boxOf, countOf, suppliedSite}
+use Rattle.geometry.specs.Around.{row}
 use Rattle.geometry.specs.Box as geometry
 use Rattle.tiles.specs.Accepted.{GoodTileBlock}
 use Rattle.tiles.specs.Tile.{siteOffset, siteIn, sitePoint, tilePadding}
@@ -33,7 +35,7 @@ use Rattle.encode.proofs.EncodeLaws.{length-entry, length-site, length-entries,
 use Rattle.encode.proofs.EncodeLaws.{blocks-few}
 use Rattle.writer.specs.Made.{Signed, Unsigned}
 use Rattle.writer.proofs.BlockFields.{Fields, fields-read, fields-held, entry-read, entry-held, site-read}
-use Rattle.writer.proofs.BlockFields.{site-held}
+use Rattle.writer.proofs.BlockFields.{site-held, row-signed, supplied-point}
 
 -- the fields that both kinds of block have in common
 module _ {s : List ℕ} {kind p : ℕ} where
@@ -158,48 +160,45 @@ module _ (s : List ℕ) where
 
 -- ---- a tile's block
 -- its sites are n sites of the lists from site `first` on
-abbrev pub Sites : List ℤ → List ℤ → List ℕ → List ℕ → ℕ → ℕ → Type 0
-Sites xs ys cues s first n = (slot : ℕ) → slot < n →
-    siteIn s slot ≡ record {
-      x = getD xs (first + slot) (pos 0);
-      y = getD ys (first + slot) (pos 0);
-      cue = getD cues (first + slot) 0;
-    }
+abbrev pub Sites : List (List ℤ) → List ℕ → List ℕ → ℕ → ℕ → Type 0
+Sites spots cues s first n = (slot : ℕ) → slot < n → siteIn s slot ≡ suppliedSite spots cues (first + slot)
 
-module _ (xs ys : List ℤ) (cues : List ℕ) (s : List ℕ) (p first n : ℕ) (size : length s ≡ blockSize)
+module _ (spots : List (List ℤ)) (cues : List ℕ) (s : List ℕ) (p first n : ℕ) (size : length s ≡ blockSize)
     (few : n ≤ maxSites axes) where
   sites : List ℕ
-  sites = joined (siteBytes xs ys cues) first n
+  sites = joined (siteBytes spots cues) first n
 
   sites-fit : payloadAt + length sites ≤ checkAt
   unfolding sites
-  sites-fit = omega (arith, length-sites xs ys cues first n)
+  sites-fit = omega (arith, length-sites spots cues first n)
 
   sites-end : payloadAt + length sites ≡ siteOffset n
   unfolding sites siteOffset
-  sites-end = omega (arith, length-sites xs ys cues first n)
+  sites-end = omega (arith, length-sites spots cues first n)
 
-  pub tile-read : Signed xs → Signed ys → Unsigned cues → p < limit16 → (bounds : List (List ℤ)) →
-      ((slot : ℕ) → slot < n → geometry.inside bounds (suppliedPoint xs ys (first + slot)) ≡ true) →
-      Holds s 0 (tileBytes xs ys cues p first n) → GoodTileBlock s p bounds n × Sites xs ys cues s first n
+  pub tile-read : All Signed spots → length spots ≡ axes → Unsigned cues → p < limit16 → (bounds : List (List ℤ)) →
+      ((slot : ℕ) → slot < n → geometry.inside bounds (row spots (first + slot)) ≡ true) →
+      Holds s 0 (tileBytes spots cues p first n) → GoodTileBlock s p bounds n × Sites spots cues s first n
   unfolding tileBytes sites tilePadding siteOffset
-  tile-read sx sy sc lp bounds inside h =
+  tile-read sp a sc lp bounds inside h =
       let g = fields-read s size tileKind p n 0 sites sites-fit lp (omega arith) (omega arith) h in
-      let e : Sites xs ys cues s first n = λ slot l. site-read s slot xs ys cues (first + slot) sx sy sc
-      (holds-each s (siteBytes xs ys cues) (siteSize axes) payloadAt first n (λ j m. length-site xs ys cues (first + j))
+      let e : Sites spots cues s first n = λ slot l. site-read s slot spots cues (first + slot)
+      (row-signed spots sp (first + slot)) sc
+      (holds-each s (siteBytes spots cues) (siteSize axes) payloadAt first n (λ j m. length-site spots cues (first + j))
       (g .held) slot l) in (
         record {
           head = head-of g;
           entries = g .entries;
           padding = both-and (tile-zeros s (g .tiles) (g .reserved)) (ap (λ k. zeros s k checkAt) (sym sites-end)
               ∙ g .unused);
-          inside = λ slot l. ap (λ (q : Site). geometry.inside bounds (sitePoint q)) (e slot l) ∙ inside slot l;
+          inside = λ slot l. ap (λ (q : Site). geometry.inside bounds (sitePoint q)) (e slot l)
+              ∙ ap (geometry.inside bounds) (supplied-point spots cues (first + slot) a) ∙ inside slot l;
         },
         e,
       )
 
-  pub tile-held : Bytes s → {bounds : List (List ℤ)} → GoodTileBlock s p bounds n → Sites xs ys cues s first n →
-      Holds s 0 (tileBytes xs ys cues p first n)
+  pub tile-held : Bytes s → {bounds : List (List ℤ)} → GoodTileBlock s p bounds n → Sites spots cues s first n →
+      Holds s 0 (tileBytes spots cues p first n)
   unfolding tileBytes sites tilePadding siteOffset
   tile-held byte g e =
       let z = and-both _ _ (g .padding) in
@@ -211,9 +210,9 @@ module _ (xs ys : List ℤ) (cues : List ℕ) (s : List ℕ) (p first n : ℕ) (
         entries = g .entries;
         tiles = y .0;
         reserved = y .1;
-        held = holds-joined s (siteBytes xs ys cues) (siteSize axes) payloadAt first n
-            (λ j m. length-site xs ys cues (first + j))
-            (λ slot l. site-held s slot xs ys cues (first + slot) byte (e slot l));
+        held = holds-joined s (siteBytes spots cues) (siteSize axes) payloadAt first n
+            (λ j m. length-site spots cues (first + j))
+            (λ slot l. site-held s slot spots cues (first + slot) byte (e slot l));
         unused = ap (λ k. zeros s k checkAt) sites-end ∙ z .1;
         check = g .head .check;
       })

@@ -47,7 +47,7 @@ module _ (s : Supply) where
   directory = directoryBytes (s .boxes) (s .counts)
 
   abbrev tile : ℕ → List ℕ
-  tile = tileBytesOf (s .counts) (s .xs) (s .ys) (s .cues)
+  tile = tileBytesOf (s .counts) (s .spots) (s .cues)
 
   length-all : length (joined directory 0 (directoryBlocks (headerOf (s .counts))))
       ≡ blockSize * directoryBlocks (headerOf (s .counts))
@@ -58,9 +58,8 @@ module _ (s : Supply) where
     length-tile : (t : ℕ) → t < tilesOf s → length (tile t) ≡ blockSize
     unfolding tileBytesOf
     length-tile t l =
-        length-tile-block (s .xs) (s .ys) (s .cues) (tilePosition (headerOf (s .counts)) t) (offset (s .counts) t)
-        (countOf (s .counts) t)
-        (few t l)
+        length-tile-block (s .spots) (s .cues) (tilePosition (headerOf (s .counts)) t) (offset (s .counts) t)
+        (countOf (s .counts) t) (few t l)
 
     tile-width : (k : ℕ) → k < tilesOf s → length (tile (0 + k)) ≡ blockSize
     tile-width k l = ap (λ t. length (tile t)) (zero-add k) ∙ length-tile k l
@@ -148,13 +147,10 @@ module _ (s : Supply) (g : GoodSupply s) (typed : Typed s) (f : List ℕ)
   unfolding tileBytesOf tilePosition
   tile-at t l =
       let p = directoryBlocks (headerOf (s .counts)) + t in
-      tile-read (s .xs) (s .ys) (s .cues) (blockAt f p) p (offset (s .counts) t) (countOf (s .counts) t)
-      (fits p (omega arith))
-      (g .counts t l)
-      (typed .xs) (typed .ys) (typed .cues) (omega (arith, blocks-few (headerOf (s .counts)), g .most))
-      (boxOf (s .boxes) t)
-      (λ slot k. g .inside t slot l k)
-      (file-tile s (g .counts) f h t l)
+      tile-read (s .spots) (s .cues) (blockAt f p) p (offset (s .counts) t) (countOf (s .counts) t)
+      (fits p (omega arith)) (g .counts t l) (typed .spots) (typed .axes) (typed .cues)
+      (omega (arith, blocks-few (headerOf (s .counts)), g .most))
+      (boxOf (s .boxes) t) (λ slot k. g .inside t slot l k) (file-tile s (g .counts) f h t l)
 
   pub written-reads : Reads f s
   unfolding siteAt
@@ -192,10 +188,9 @@ good-holds f s byte g r =
     let m : t < tilesOf s = omega (arith, due-within (headerOf (s .counts)) p l) in
     (rw (a .0, a .1) at (r .box t m), rw (a .0, a .1) at (r .count t m))))
     (λ t l. let p = tilePosition (headerOf (s .counts)) t in
-    tile-held (s .xs) (s .ys) (s .cues) (blockAt f p) p (offset (s .counts) t) (countOf (s .counts) t)
-    (size p (position t l))
-    (few t l)
-    (block-bytes f p byte) (rw (r .count t l) at (g .opened t l)) (λ slot k. r .site t slot l k))
+    tile-held (s .spots) (s .cues) (blockAt f p) p (offset (s .counts) t) (countOf (s .counts) t)
+    (size p (position t l)) (few t l) (block-bytes f p byte)
+    (rw (r .count t l) at (g .opened t l)) (λ slot k. r .site t slot l k))
   where
     few : (t : ℕ) → t < tilesOf s → countOf (s .counts) t ≤ maxSites axes
     few t l = rw (r .count t l) at (count-small (g .directory) t l)

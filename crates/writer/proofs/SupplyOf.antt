@@ -3,22 +3,24 @@
 use Prim.Native.Nat.{ℕ, zero, suc, _+_, _*_, _-_, _/_, _%_, _<_, _≤_}
 use mathlib.Core.List.{List, [], _∷_}
 use mathlib.Core.Path.{_≡_, refl, sym, ap, _∙_}
-use native.Mathlib.Nat.{zero-add}
+use native.Mathlib.Nat.{add-zero, zero-add}
 use native.Mathlib.Omega.{arith}
 use lib.Dec.{lit<}
 use lib.IntN.{ℤ, pos}
 use lib.ListN.{length, getD, take, drop}
 use lib.Seq.{take-length}
 use lib.Signed.{mag}
+use Rattle.base.specs.Lists.{All}
 use Rattle.blocks.specs.Block.{blockAt}
-use Rattle.blocks.specs.Directory.{entryOffset, entryBox, entryCount, boxAt, countAt}
+use Rattle.blocks.specs.Directory.{entryOffset, entryNumber, entryBox, entryCount, boxAt, countAt}
 use Rattle.blocks.specs.Layout.{axes, countOffset, entriesPerBlock}
 use Rattle.blocks.specs.declared.header.Header.{Header}
 use Rattle.codec.specs.Number.{limit32, limitSigned, Bytes, u32At, i32At}
 use Rattle.codec.specs.Tabulate.{tabulate, joined}
 use Rattle.encode.specs.Supply.{Supply, headerOf, tilesOf, numbersPerBox, boxOf, countOf, offset, siteTotal}
+use Rattle.geometry.specs.Around.{row}
 use Rattle.tiles.specs.Accepted.{GoodFile}
-use Rattle.tiles.specs.Tile.{siteIn, siteAt}
+use Rattle.tiles.specs.Tile.{siteIn, sitePoint, siteAt}
 use Rattle.tiles.specs.declared.tile.Site.{Site}
 use Rattle.blocks.proofs.BlockLaws.{block-bytes}
 use Rattle.blocks.proofs.DirectoryLaws.{box-valid, count-small}
@@ -29,6 +31,7 @@ use Rattle.codec.proofs.Tabulate.{length-tabulate, getD-tabulate, tabulate-same
 use Rattle.encode.proofs.SupplyLaws.{offset-next, offset-within}
 use Rattle.writer.specs.Accepted.{GoodSupply}
 use Rattle.writer.specs.Made.{Signed, Typed, boxNumbers, column, supplyOf}
+use Rattle.writer.proofs.BlockFields.{supplied-point}
 use Rattle.writer.proofs.FileLaws.{Reads}
 
 module _ (f : List ℕ) (h : Header) where
@@ -48,13 +51,13 @@ module _ (f : List ℕ) (h : Header) where
 
   -- ---- boxes
   numbers-own : (n : ℕ) → length (joined (λ t. boxNumbers (boxAt f t)) 0 n) ≡ numbersPerBox * n
-  unfolding boxNumbers
+  unfolding boxNumbers boxAt entryBox tabulate
   numbers-own n = length-joined (λ t. boxNumbers (boxAt f t)) numbersPerBox 0 n (λ i l. refl)
 
-  number-own : (t j : ℕ) → t < h .tiles → j < numbersPerBox →
+  number-own : (t : ℕ) → t < h .tiles → (j : ℕ) → j < numbersPerBox →
       getD boxes (numbersPerBox * t + j) (pos 0) ≡ getD (boxNumbers (boxAt f t)) j (pos 0)
-  unfolding boxes boxNumbers
-  number-own t j l k =
+  unfolding boxes boxNumbers boxAt entryBox tabulate
+  number-own t l j k =
       ap (λ i. getD boxes (i + j) (pos 0)) (sym (numbers-own t))
       ∙ getD-joined (λ t. boxNumbers (boxAt f t)) (pos 0) 0 (h .tiles) t j l k
       ∙ ap (λ i. getD (boxNumbers (boxAt f i)) j (pos 0)) (zero-add t)
@@ -62,12 +65,8 @@ module _ (f : List ℕ) (h : Header) where
   box-own : (t : ℕ) → t < h .tiles → boxOf boxes t ≡ boxAt f t
   unfolding boxOf boxNumbers boxAt entryBox tabulate
   box-own t l =
-      rw (
-        number-own t 0 l (lit< tt),
-        number-own t 1 l (lit< tt),
-        number-own t 2 l (lit< tt),
-        number-own t 3 l (lit< tt),
-      )
+      let x = number-own t l in
+      rw (x 0 (lit< tt), x 1 (lit< tt), x 2 (lit< tt), x 3 (lit< tt))
 
   -- ---- a field of all sites
   module _ {A : Type 0} (field : Site → A) where
@@ -98,19 +97,22 @@ module _ (f : List ℕ) (h : Header) where
         ∙ getD-joined part d 0 (h .tiles) t slot l m ∙ ap (λ i. getD (part i) slot d) e
         ∙ getD-tabulate g d 0 (countAt f t) slot k ∙ ap g (zero-add slot)
 
+  row-own : (t slot : ℕ) → t < h .tiles → slot < countAt f t → (a n : ℕ) →
+      row (tabulate (λ axis. column (λ (q : Site). getD (sitePoint q) axis (pos 0)) f h) a n) (offset counts t + slot)
+      ≡ tabulate (λ axis. getD (sitePoint (siteAt f h t slot)) axis (pos 0)) a n
+  unfolding row tabulate
+  row-own t slot l k a zero = refl
+  row-own t slot l k a (suc n) =
+      rw (column-at (λ (q : Site). getD (sitePoint q) a (pos 0)) (pos 0) t slot l k, row-own t slot l k (a + 1) n)
+
   pub reads-own : Reads f (supplyOf f h)
-  unfolding supplyOf counts boxes
+  unfolding supplyOf counts boxes tabulate
   reads-own = record {
     box = λ t l. sym (box-own t (rw tiles-own at l));
     count = λ t l. sym (count-own t (rw tiles-own at l));
     site = λ t slot l k. let m : t < h .tiles = rw tiles-own at l in
         let n : slot < countAt f t = rw (count-own t m) at k in
-        rw (
-          tiles-own,
-          column-at (λ (q : Site). q .x) (pos 0) t slot m n,
-          column-at (λ (q : Site). q .y) (pos 0) t slot m n,
-          column-at (λ (q : Site). q .cue) 0 t slot m n,
-        );
+        rw (tiles-own, row-own t slot m n 0 axes, column-at (λ (q : Site). q .cue) 0 t slot m n);
   }
 
   pub header-own : headerOf (supplyOf f h .counts) ≡ h
@@ -118,7 +120,7 @@ module _ (f : List ℕ) (h : Header) where
   header-own = ap (λ t. record { tiles = t }) tiles-own
 
   pub good-own : GoodFile f h → GoodSupply (supplyOf f h)
-  unfolding supplyOf counts boxes siteAt
+  unfolding supplyOf counts boxes siteAt tabulate
   good-own g =
       record {
         least = rw tiles-own (g .directory .tiles .least);
@@ -126,28 +128,15 @@ module _ (f : List ℕ) (h : Header) where
         numbers = numbers-own (h .tiles) ∙ ap (λ k. numbersPerBox * k) (sym tiles-own);
         boxes = λ t l. let m : t < h .tiles = rw tiles-own at l in rw (box-own t m) (box-valid (g .directory) t m);
         counts = λ t l. let m : t < h .tiles = rw tiles-own at l in rw (count-own t m) (count-small (g .directory) t m);
-        xs = column-length (λ (q : Site). q .x);
-        ys = column-length (λ (q : Site). q .y);
+        spots = (column-length (λ (q : Site). q .x), (column-length (λ (q : Site). q .y), tt));
         cues = column-length (λ (q : Site). q .cue);
         inside = λ t slot l k. let m : t < h .tiles = rw tiles-own at l in
             let n : slot < countAt f t = rw (count-own t m) at k in
-            rw (
-              box-own t m,
-              column-at (λ (q : Site). q .x) (pos 0) t slot m n,
-              column-at (λ (q : Site). q .y) (pos 0) t slot m n,
-            ) (g .opened t m .inside slot n);
+            rw (box-own t m, row-own t slot m n 0 axes) (g .opened t m .inside slot n);
       }
 
   -- ---- of a file of bytes
   module _ (byte : Bytes f) where
-    four-all {ℓ} : {A : Type 0} (P : A → Type ℓ) {a b c e d : A} → P a → P b → P c → P e → P d → (j : ℕ) →
-        P (getD (a ∷ b ∷ c ∷ e ∷ []) j d)
-    four-all P p q r t z zero = p
-    four-all P p q r t z (suc zero) = q
-    four-all P p q r t z (suc (suc zero)) = r
-    four-all P p q r t z (suc (suc (suc zero))) = t
-    four-all P p q r t z (suc (suc (suc (suc j)))) = z
-
     signed-at : (p i : ℕ) → mag (i32At (blockAt f p) i) < limitSigned
     unfolding i32At
     signed-at p i = signed-small (u32At (blockAt f p) i) (u32-small (blockAt f p) i (block-bytes f p byte))
@@ -166,8 +155,8 @@ module _ (f : List ℕ) (h : Header) where
     unfolding supplyOf boxNumbers boxAt entryBox tabulate countAt entryCount column siteAt siteIn
     typed-own = record {
       boxes = joined-all (λ t. boxNumbers (boxAt f t)) (λ z. mag z < limitSigned) (pos 0) 0 (h .tiles) (lit< tt)
-          (λ t. four-all (λ z. mag z < limitSigned) (signed-at _ _) (signed-at _ _) (signed-at _ _)
-          (signed-at _ _) (lit< tt));
+          (λ t. tabulate-all (entryNumber (blockAt f (t / entriesPerBlock axes)) (t % entriesPerBlock axes))
+          (λ z. mag z < limitSigned) (pos 0) 0 numbersPerBox (lit< tt) (λ n. signed-at _ _));
       counts = tabulate-all (countAt f) (λ n. n < limit32) 0 0 (h .tiles) (lit< tt)
           (λ t. let p = t / entriesPerBlock axes in
           omega (
@@ -175,8 +164,11 @@ module _ (f : List ℕ) (h : Header) where
             u16-small (blockAt f p) (entryOffset (t % entriesPerBlock axes) + countOffset axes)
                 (block-bytes f p byte),
           ));
-      xs = column-signed (λ (q : Site). q .x) (λ t slot. signed-at _ _);
-      ys = column-signed (λ (q : Site). q .y) (λ t slot. signed-at _ _);
+      spots = (
+        column-signed (λ (q : Site). q .x) (λ t slot. signed-at _ _),
+        (column-signed (λ (q : Site). q .y) (λ t slot. signed-at _ _), tt),
+      );
+      axes = refl;
       cues = joined-all (λ t. tabulate (λ slot. siteAt f h t slot .cue) 0 (countAt f t)) (λ n. n < limit32) 0
           0 (h .tiles)
           (lit< tt)
@@ -232,15 +224,31 @@ module _ (f : List ℕ) (s : Supply) (g : GoodSupply s) (r : Reads f s) where
       ∙ parts l d (offset (s .counts)) (countOf (s .counts)) refl (offset-next (s .counts)) n
       (λ t k. rw n (offset-within (s .counts) t (tilesOf s) k))
 
-  pub only-own : s ≡ supplyOf f (headerOf (s .counts))
+  -- columns of the coordinates from axis a on
+  columns-only : (a : ℕ) (cols : List (List ℤ)) → All (λ c. length c ≡ siteTotal (s .counts)) cols →
+      ((t slot axis : ℕ) → t < tilesOf s → slot < countOf (s .counts) t →
+      getD (sitePoint (siteAt f (headerOf (s .counts)) t slot)) (a + axis) (pos 0)
+      ≡ getD (row cols (offset (s .counts) t + slot)) axis (pos 0)) →
+      tabulate (λ axis. column (λ (q : Site). getD (sitePoint q) axis (pos 0)) f (headerOf (s .counts))) a (length cols)
+      ≡ cols
+  unfolding tabulate row
+  columns-only a [] n h = refl
+  columns-only a (c ∷ cols) n h =
+      let here = column-only (λ (q : Site). getD (sitePoint q) a (pos 0)) c (pos 0) (n .0)
+      (λ t slot k m. rw (add-zero a) at (h t slot 0 k m)) in
+      let rest = columns-only (a + 1) cols (n .1)
+      (λ t slot axis k m. let e : a + 1 + axis ≡ a + suc axis = omega arith in rw e (h t slot (suc axis) k m)) in
+      rw (here, rest)
+
+  pub only-own : length (s .spots) ≡ axes → s ≡ supplyOf f (headerOf (s .counts))
   unfolding supplyOf
-  only-own = rw (
+  only-own n = rw (
     boxes-only,
     counts-only,
-    column-only (λ (q : Site). q .x) (s .xs) (pos 0) (g .xs) (λ t slot k m. ap (λ (q : Site). q .x)
-        (r .site t slot k m)),
-    column-only (λ (q : Site). q .y) (s .ys) (pos 0) (g .ys) (λ t slot k m. ap (λ (q : Site). q .y)
-        (r .site t slot k m)),
+    sym n,
+    columns-only 0 (s .spots) (g .spots) (λ t slot axis k m. let e = zero-add axis in
+        rw e (ap (λ (q : Site). getD (sitePoint q) axis (pos 0)) (r .site t slot k m)
+        ∙ ap (λ p. getD p axis (pos 0)) (supplied-point (s .spots) (s .cues) (offset (s .counts) t + slot) n))),
     column-only (λ (q : Site). q .cue) (s .cues) 0 (g .cues) (λ t slot k m. ap (λ (q : Site). q .cue)
         (r .site t slot k m)),
   )

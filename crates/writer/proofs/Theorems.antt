@@ -137,7 +137,7 @@ module _ (f : List ℕ) (h : Header) where
 
     -- and no lists but these make the file
     pub only-town : s ≡ supplyOf f h
-    only-town = only-own f s (made-good s m) made-reads ∙ ap (supplyOf f) (m .header)
+    only-town = only-own f s (made-good s m) made-reads (m .typed .axes) ∙ ap (supplyOf f) (m .header)
 
 -- ---- the same about what the call leaves in an output slice
 module _ (s : Supply) (typed : Typed s) (out : List ℕ) (n : ℕ) (e : writeCall s (length out) ≡ accepted n) where

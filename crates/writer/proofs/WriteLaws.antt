@@ -7,6 +7,7 @@ use native.Mathlib.Omega.{arith}
 use lib.IntN.{ℤ}
 use lib.ListN.{length}
 use borrow.Author.Tests.{leb-true, le-leb, eqb-true, eq-eqb}
+use Rattle.base.specs.Lists.{All}
 use Rattle.base.specs.Refusal.{accepted, refused}
 use Rattle.blocks.specs.Directory.{directoryBlocks}
 use Rattle.blocks.specs.Layout.{axes, blockSize, maxSites, maxTiles}
@@ -14,13 +15,14 @@ use Rattle.codec.specs.Over.{over}
 use Rattle.codec.specs.Tabulate.{joined}
 use Rattle.encode.specs.Encode.{directoryBytes, tileBytesOf, fileBytes, fileLength}
 use Rattle.encode.specs.Supply.{Supply, headerOf, tilesOf, numbersPerBox, boxOf, countOf, offset, siteTotal}
-use Rattle.encode.specs.Supply.{suppliedPoint}
+use Rattle.geometry.specs.Around.{row}
 use Rattle.geometry.specs.Box.{validBox, inside}
 use Rattle.base.proofs.Outcomes.{require-accepted}
 use Rattle.base.proofs.Tests.{and-both, both-and}
 use Rattle.base.proofs.Every.{every-at, every-holds}
 use Rattle.codec.proofs.Joined.{length-joined}
 use Rattle.codec.proofs.Over.{also}
+use Rattle.geometry.proofs.Around.{columns-equal, equal-columns}
 use Rattle.encode.proofs.EncodeLaws.{length-directory-block}
 use Rattle.writer.specs.Accepted.{GoodSupply}
 use Rattle.writer.specs.Write.{tilesFit, entryFits, listsFit, sitesFit, tileFits, writeTests, writeCall}
@@ -37,26 +39,25 @@ pub entry-good : (boxes : List ℤ) (counts : List ℕ) (t : ℕ) → entryFits 
 unfolding entryFits
 entry-good boxes counts t e = let h = and-both _ _ e in (h .0, leb-true (countOf counts t) (maxSites axes) (h .1))
 
-pub lists-good : (sum x y cue : ℕ) → listsFit sum x y cue ≡ true → (x ≡ sum) × (y ≡ sum) × (cue ≡ sum)
+pub lists-good : (sum : ℕ) (spots : List (List ℤ)) (cues : List ℕ) → listsFit sum spots cues ≡ true →
+    All (λ c. length c ≡ sum) spots × (length cues ≡ sum)
 unfolding listsFit
-lists-good sum x y cue e =
+lists-good sum spots cues e =
     let h = and-both _ _ e in
-    let g = and-both _ _ (h .0) in
-    (eqb-true x sum (g .0), eqb-true y sum (g .1), eqb-true cue sum (h .1))
+    (columns-equal sum spots (h .0), eqb-true (length cues) sum (h .1))
 
-tile-good : (boxes : List ℤ) (counts : List ℕ) (xs ys : List ℤ) (t : ℕ) → tileFits boxes counts xs ys t ≡ true →
-    (slot : ℕ) →
-    slot < countOf counts t → inside (boxOf boxes t) (suppliedPoint xs ys (offset counts t + slot)) ≡ true
+tile-good : (boxes : List ℤ) (counts : List ℕ) (spots : List (List ℤ)) (t : ℕ) → tileFits boxes counts spots t ≡ true →
+    (slot : ℕ) → slot < countOf counts t → inside (boxOf boxes t) (row spots (offset counts t + slot)) ≡ true
 unfolding tileFits sitesFit
-tile-good boxes counts xs ys t e slot l =
-    every-at (λ i. inside (boxOf boxes t) (suppliedPoint xs ys (offset counts t + i))) (countOf counts t) slot e l
+tile-good boxes counts spots t e slot l =
+    every-at (λ i. inside (boxOf boxes t) (row spots (offset counts t + i))) (countOf counts t) slot e l
 
 -- test 10 of tile t, by what the code goes by
-pub tile-test : (boxes : List ℤ) (counts : List ℕ) (xs ys : List ℤ) (t : ℕ) {b : List (List ℤ)} {first n : ℕ} →
+pub tile-test : (boxes : List ℤ) (counts : List ℕ) (spots : List (List ℤ)) (t : ℕ) {b : List (List ℤ)} {first n : ℕ} →
     b ≡ boxOf boxes t →
-    first ≡ offset counts t → n ≡ countOf counts t → sitesFit b xs ys first n ≡ tileFits boxes counts xs ys t
+    first ≡ offset counts t → n ≡ countOf counts t → sitesFit b spots first n ≡ tileFits boxes counts spots t
 unfolding tileFits
-tile-test boxes counts xs ys t e₁ e₂ e₃ = rw (e₁, e₂, e₃)
+tile-test boxes counts spots t e₁ e₂ e₃ = rw (e₁, e₂, e₃)
 
 -- ---- all tests
 module _ (s : Supply) (room : ℕ) where
@@ -71,7 +72,7 @@ module _ (s : Supply) (room : ℕ) where
       let g = require-accepted _ _ _ _ (d .1) in
       let h = require-accepted _ _ _ _ (g .1) in
       let t = tiles-good (tilesOf s) (a .0) in
-      let l = lists-good (siteTotal (s .counts)) (length (s .xs)) (length (s .ys)) (length (s .cues)) (d .0) in
+      let l = lists-good (siteTotal (s .counts)) (s .spots) (s .cues) (d .0) in
       let v : (t : ℕ) → t < tilesOf s →
       (validBox (boxOf (s .boxes) t) ≡ true) × (countOf (s .counts) t ≤ maxSites axes) =
       λ t k. entry-good (s .boxes) (s .counts) t
@@ -82,11 +83,10 @@ module _ (s : Supply) (room : ℕ) where
           numbers = eqb-true (length (s .boxes)) (numbersPerBox * tilesOf s) (b .0);
           boxes = λ t k. v t k .0;
           counts = λ t k. v t k .1;
-          xs = l .0;
-          ys = l .1;
-          cues = l .2;
-          inside = λ t slot k m. tile-good (s .boxes) (s .counts) (s .xs) (s .ys) t
-              (every-at (tileFits (s .boxes) (s .counts) (s .xs) (s .ys)) (tilesOf s) t (g .0) k) slot m;
+          spots = l .0;
+          cues = l .1;
+          inside = λ t slot k m. tile-good (s .boxes) (s .counts) (s .spots) t
+              (every-at (tileFits (s .boxes) (s .counts) (s .spots)) (tilesOf s) t (g .0) k) slot m;
         },
         leb-true (fileLength (headerOf (s .counts))) room (h .0),
       )
@@ -96,8 +96,8 @@ module _ (s : Supply) (room : ℕ) where
   tests-enough g h =
       let v = every-holds (entryFits (s .boxes) (s .counts)) (tilesOf s)
       (λ t k. both-and (g .boxes t k) (le-leb (countOf (s .counts) t) (maxSites axes) (g .counts t k))) in
-      let w = every-holds (tileFits (s .boxes) (s .counts) (s .xs) (s .ys)) (tilesOf s)
-      (λ t k. every-holds (λ i. inside (boxOf (s .boxes) t) (suppliedPoint (s .xs) (s .ys) (offset (s .counts) t + i)))
+      let w = every-holds (tileFits (s .boxes) (s .counts) (s .spots)) (tilesOf s)
+      (λ t k. every-holds (λ i. inside (boxOf (s .boxes) t) (row (s .spots) (offset (s .counts) t + i)))
       (countOf (s .counts) t)
       (λ slot m. g .inside t slot k m)) in
       rw (
@@ -105,8 +105,7 @@ module _ (s : Supply) (room : ℕ) where
         le-leb (tilesOf s) maxTiles (g .most),
         eq-eqb (length (s .boxes)) (numbersPerBox * tilesOf s) (g .numbers),
         v,
-        eq-eqb (length (s .xs)) (siteTotal (s .counts)) (g .xs),
-        eq-eqb (length (s .ys)) (siteTotal (s .counts)) (g .ys),
+        equal-columns (siteTotal (s .counts)) (s .spots) (g .spots),
         eq-eqb (length (s .cues)) (siteTotal (s .counts)) (g .cues),
         w,
         le-leb (fileLength (headerOf (s .counts))) room h,
@@ -133,7 +132,7 @@ module _ (s : Supply) (out : List ℕ) where
   pub file-row : {d₁ d₂ : List ℕ} →
       d₁ ≡ over out 0 (joined (directoryBytes (s .boxes) (s .counts)) 0 (directoryBlocks (headerOf (s .counts)))) →
       d₂ ≡ over d₁ (blockSize * directoryBlocks (headerOf (s .counts)))
-      (joined (tileBytesOf (s .counts) (s .xs) (s .ys) (s .cues)) 0 (tilesOf s)) →
+      (joined (tileBytesOf (s .counts) (s .spots) (s .cues)) 0 (tilesOf s)) →
       d₂ ≡ over out 0 (fileBytes s)
   unfolding fileBytes
   file-row e₁ e₂ =
@@ -142,4 +141,4 @@ module _ (s : Supply) (out : List ℕ) where
       (λ i l. length-directory-block (s .boxes) (s .counts) (0 + i)) in
       also out 0 (blockSize * directoryBlocks (headerOf (s .counts)))
       (joined g 0 (directoryBlocks (headerOf (s .counts))))
-      (joined (tileBytesOf (s .counts) (s .xs) (s .ys) (s .cues)) 0 (tilesOf s)) e₁ e₂ (omega (arith, n))
+      (joined (tileBytesOf (s .counts) (s .spots) (s .cues)) 0 (tilesOf s)) e₁ e₂ (omega (arith, n))

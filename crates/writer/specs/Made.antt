@@ -1,19 +1,21 @@
 -- A file and the lists from which the writer makes it (demand 2: "A file passes the full check exactly when our writer
 -- makes it from some town").
 use Prim.Native.Nat.{ℕ, _<_}
-use mathlib.Core.List.{List, [], _∷_}
+use mathlib.Core.List.{List, _++_, map}
 use mathlib.Core.Path.{_≡_}
 use lib.IntN.{ℤ, pos}
 use lib.ListN.{getD, length}
 use lib.Signed.{mag}
+use Rattle.base.specs.Lists.{All}
 use Rattle.base.specs.Refusal.{accepted}
 use Rattle.blocks.specs.Directory.{boxAt, countAt}
+use Rattle.blocks.specs.Layout.{axes}
 use Rattle.blocks.specs.declared.header.Header.{Header}
 use Rattle.codec.specs.Number.{limit32, limitSigned}
 use Rattle.codec.specs.Tabulate.{tabulate, joined}
 use Rattle.encode.specs.Supply.{Supply, headerOf}
 use Rattle.geometry.specs.Box.{lo, hi}
-use Rattle.tiles.specs.Tile.{siteAt}
+use Rattle.tiles.specs.Tile.{sitePoint, siteAt}
 use Rattle.tiles.specs.declared.tile.Site.{Site}
 use Rattle.writer.specs.Write.{writeCall, writeExit}
 
@@ -24,11 +26,12 @@ Unsigned l = (i : ℕ) → getD l i 0 < limit32
 abbrev pub Signed : List ℤ → Type 0
 Signed l = (i : ℕ) → mag (getD l i (pos 0)) < limitSigned
 
+-- the lists of a call: such numbers, and a column of spots for each axis
 pub record Typed (s : Supply) : Type 0 where
   pub boxes : Signed (s .boxes)
   pub counts : Unsigned (s .counts)
-  pub xs : Signed (s .xs)
-  pub ys : Signed (s .ys)
+  pub spots : All Signed (s .spots)
+  pub axes : length (s .spots) ≡ axes
   pub cues : Unsigned (s .cues)
 
 -- the writer makes exactly this file, with the header h, from these lists: into an output slice of the file's length,
@@ -39,9 +42,9 @@ pub record Made (f : List ℕ) (h : Header) (s : Supply) : Type 0 where
   pub answer : writeCall s (length f) ≡ accepted (length f)
   pub bytes : (out : List ℕ) → length out ≡ length f → writeExit s out ≡ f
 
--- the four numbers of a box, in the directory's order
+-- the numbers of a box, in the directory's order
 unfoldable pub boxNumbers : List (List ℤ) → List ℤ
-boxNumbers b = lo (getD b 0 []) ∷ lo (getD b 1 []) ∷ hi (getD b 0 []) ∷ hi (getD b 1 []) ∷ []
+boxNumbers b = map lo b ++ map hi b
 
 -- a field of all sites, in tile order
 unfoldable pub column : {A : Type 0} → (Site → A) → List ℕ → Header → List A
@@ -52,7 +55,6 @@ unfoldable pub supplyOf : List ℕ → Header → Supply
 supplyOf f h = record {
   boxes = joined (λ t. boxNumbers (boxAt f t)) 0 (h .tiles);
   counts = tabulate (countAt f) 0 (h .tiles);
-  xs = column (λ site. site .x) f h;
-  ys = column (λ site. site .y) f h;
+  spots = tabulate (λ axis. column (λ site. getD (sitePoint site) axis (pos 0)) f h) 0 axes;
   cues = column (λ site. site .cue) f h;
 }

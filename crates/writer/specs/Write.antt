@@ -12,7 +12,7 @@ use Rattle.base.specs.Every.{every}
 use Rattle.codec.specs.Over.{over}
 use Rattle.encode.specs.Encode.{fileBytes, fileLength}
 use Rattle.encode.specs.Supply.{Supply, headerOf, tilesOf, numbersPerBox, boxOf, countOf, offset, siteTotal}
-use Rattle.encode.specs.Supply.{suppliedPoint}
+use Rattle.geometry.specs.Around.{equalColumns, row}
 use Rattle.geometry.specs.Box.{inside}
 use Rattle.writer.specs.declared.write.WriteAnswer.{WriteAnswer}
 use Rattle.writer.specs.declared.write.WriteAnswer.the-variants.{Written, Refused}
@@ -26,15 +26,15 @@ unfoldable pub entryFits : List ℤ → List ℕ → ℕ → Bool
 entryFits boxes counts t = validEntry (boxOf boxes t) (countOf counts t)
 
 -- 15: "a site list's length is not the sum of counts"
-unfoldable pub listsFit : ℕ → ℕ → ℕ → ℕ → Bool
-listsFit sum x y cue = (eqb x sum && eqb y sum) && eqb cue sum
+unfoldable pub listsFit : ℕ → List (List ℤ) → List ℕ → Bool
+listsFit sum spots cues = equalColumns sum spots && eqb (length cues) sum
 
 -- 10 of n sites of the lists from site i on, and of tile t: "a site outside its box"
-unfoldable pub sitesFit : List (List ℤ) → List ℤ → List ℤ → ℕ → ℕ → Bool
-sitesFit bounds xs ys i n = every (λ slot. inside bounds (suppliedPoint xs ys (i + slot))) n
+unfoldable pub sitesFit : List (List ℤ) → List (List ℤ) → ℕ → ℕ → Bool
+sitesFit bounds spots i n = every (λ slot. inside bounds (row spots (i + slot))) n
 
-unfoldable pub tileFits : List ℤ → List ℕ → List ℤ → List ℤ → ℕ → Bool
-tileFits boxes counts xs ys t = sitesFit (boxOf boxes t) xs ys (offset counts t) (countOf counts t)
+unfoldable pub tileFits : List ℤ → List ℕ → List (List ℤ) → ℕ → Bool
+tileFits boxes counts spots t = sitesFit (boxOf boxes t) spots (offset counts t) (countOf counts t)
 
 -- "Order: 6, 15 (boxes are not 4 numbers for each tile, in the directory's order), 9, 15 (a site list's length is not
 -- the sum of counts), 10, 14"; the block is 0 "for every refusal by the writer"
@@ -43,8 +43,8 @@ writeTests s room =
     require (tilesFit (tilesOf s)) #tiles 0
     (require (eqb (length (s .boxes)) (numbersPerBox * tilesOf s)) #supply 0
     (require (every (entryFits (s .boxes) (s .counts)) (tilesOf s)) #box 0
-    (require (listsFit (siteTotal (s .counts)) (length (s .xs)) (length (s .ys)) (length (s .cues))) #supply 0
-    (require (every (tileFits (s .boxes) (s .counts) (s .xs) (s .ys)) (tilesOf s)) #stray 0
+    (require (listsFit (siteTotal (s .counts)) (s .spots) (s .cues)) #supply 0
+    (require (every (tileFits (s .boxes) (s .counts) (s .spots)) (tilesOf s)) #stray 0
     (require (leb (fileLength (headerOf (s .counts))) room) #short 0
     (accepted tt))))))
 

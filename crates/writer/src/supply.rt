@@ -1,12 +1,14 @@
 // The tests of the writer's lists, in their order.
+ghost use mathlib.Core.List.{[], _∷_};
 ghost use mathlib.Core.Path.{_≡_};
 ghost use Prim.Native.Nat.{ℕ, _+_, _*_, _<_, _≤_};
 ghost use lib.ListN.{length};
 ghost use Rattle.blocks.specs.Layout.{axes, maxSites, maxTiles};
 ghost use Rattle.blocks.specs.Inner.Number.{numberOutcome};
 ghost use Rattle.base.specs.Every.{every};
-ghost use Rattle.encode.specs.Supply.{supply, numbersPerBox, boxOf, countOf, siteTotal, suppliedPoint};
+ghost use Rattle.encode.specs.Supply.{supply, numbersPerBox, boxOf, countOf, siteTotal};
 ghost use Rattle.encode.specs.Encode.{fileLength};
+ghost use Rattle.geometry.specs.Around.{row};
 ghost use Rattle.geometry.specs.Box.{inside};
 ghost use Rattle.writer.specs.Write.{tilesFit, entryFits, listsFit, sitesFit, tileFits, writeTests};
 use base::both;
@@ -81,16 +83,16 @@ fn sum_of(counts: &[u32]) -> usize
 }
 
 // Test 15 of the site lists.
-fn lists_fit(sum: usize, x: usize, y: usize, cue: usize) -> bool
-    ensures { λ r. ⌜ r ≡ listsFit sum x y cue ⌝ }
+fn lists_fit(sum: usize, xs: &[i32], ys: &[i32], cues: &[u32]) -> bool
+    ensures { λ r. ⌜ r ≡ listsFit sum (now (xs .entry) ∷ now (ys .entry) ∷ []) (now (cues .entry)) ⌝ }
 {
-    both(both(x == sum, y == sum), cue == sum)
+    both(both(xs.len() == sum, ys.len() == sum), cues.len() == sum)
 }
 
 // Test 10 of site i of the lists.
 fn site_fits(bounds: [[i32; 2]; 2], xs: &[i32], ys: &[i32], i: usize) -> bool
     requires { ⌜ (i < length (now xs)) × (i < length (now ys)) ⌝ }
-    ensures { λ r. ⌜ r ≡ inside bounds (suppliedPoint (now (xs .entry)) (now (ys .entry)) i) ⌝ }
+    ensures { λ r. ⌜ r ≡ inside bounds (row (now (xs .entry) ∷ now (ys .entry) ∷ []) i) ⌝ }
 {
     let x = xs[i];
     let y = ys[i];
@@ -100,7 +102,7 @@ fn site_fits(bounds: [[i32; 2]; 2], xs: &[i32], ys: &[i32], i: usize) -> bool
 // Test 10 of n sites of the lists from site `first` on.
 fn sites_fit(bounds: [[i32; 2]; 2], xs: &[i32], ys: &[i32], first: usize, n: usize) -> bool
     requires { ⌜ (first + n ≤ length (now xs)) × (first + n ≤ length (now ys)) ⌝ }
-    ensures { λ r. ⌜ r ≡ sitesFit bounds (now (xs .entry)) (now (ys .entry)) first n ⌝ }
+    ensures { λ r. ⌜ r ≡ sitesFit bounds (now (xs .entry) ∷ now (ys .entry) ∷ []) first n ⌝ }
 {
     let mut i = 0;
     while i < n {
@@ -118,7 +120,7 @@ fn tiles_inside(boxes: &[i32], counts: &[u32], xs: &[i32], ys: &[i32]) -> bool
         (length (now boxes) ≡ numbersPerBox * length (now counts)) × (length (now xs) ≡ siteTotal (now counts))
         × (length (now ys) ≡ siteTotal (now counts)) ⌝ }
     ensures { λ r. ⌜
-        r ≡ every (tileFits (now (boxes .entry)) (now (counts .entry)) (now (xs .entry)) (now (ys .entry)))
+        r ≡ every (tileFits (now (boxes .entry)) (now (counts .entry)) (now (xs .entry) ∷ now (ys .entry) ∷ []))
         (length (now (counts .entry))) ⌝ }
 {
     let mut t = 0;
@@ -153,7 +155,7 @@ pub fn failed_test(
 ) -> u32
     ensures { λ r. ⌜
         numberOutcome r 0 ≡ writeTests
-        (supply (now (boxes .entry)) (now (counts .entry)) (now (xs .entry)) (now (ys .entry)) (now (cues .entry)))
+        (supply (now (boxes .entry)) (now (counts .entry)) (now (xs .entry) ∷ now (ys .entry) ∷ []) (now (cues .entry)))
         room ⌝ }
 {
     if !tiles_fit(counts.len()) {
@@ -165,7 +167,7 @@ pub fn failed_test(
     if !entries_fit(boxes, counts) {
         return base::BOX;
     }
-    if !lists_fit(sum_of(counts), xs.len(), ys.len(), cues.len()) {
+    if !lists_fit(sum_of(counts), xs, ys, cues) {
         return base::SUPPLY;
     }
     let inside = tiles_inside(boxes, counts, xs, ys);

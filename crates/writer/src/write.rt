@@ -1,4 +1,5 @@
 // The writer's call.
+ghost use mathlib.Core.List.{[], _∷_};
 ghost use mathlib.Core.Path.{_≡_};
 ghost use lib.ListN.{length};
 ghost use Rattle.encode.specs.Supply.{supply};
@@ -27,11 +28,11 @@ pub fn write(
 ) -> WriteAnswer
     ensures answer { λ r. ⌜
         writeOutcome r ≡ writeCall
-        (supply (now (boxes .entry)) (now (counts .entry)) (now (xs .entry)) (now (ys .entry)) (now (cues .entry)))
+        (supply (now (boxes .entry)) (now (counts .entry)) (now (xs .entry) ∷ now (ys .entry) ∷ []) (now (cues .entry)))
         (length (now (out .entry))) ⌝ }
     ensures output { λ r. ⌜
         now (out .exit) ≡ writeExit
-        (supply (now (boxes .entry)) (now (counts .entry)) (now (xs .entry)) (now (ys .entry)) (now (cues .entry)))
+        (supply (now (boxes .entry)) (now (counts .entry)) (now (xs .entry) ∷ now (ys .entry) ∷ []) (now (cues .entry)))
         (now (out .entry)) ⌝ }
 {
     let failed = failed_test(boxes, counts, xs, ys, cues, out.len());

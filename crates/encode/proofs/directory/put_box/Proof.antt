@@ -1,4 +1,5 @@
 use Prim.Native.Nat.{ℕ, _+_, _*_}
+use native.Mathlib.Nat.{add-zero}
 use lib.IntN.{ℤ, pos}
 use lib.ListN.{getD}
 use borrow.Author.Needs.{needs}
@@ -80,7 +81,7 @@ returns c =
     let z : ℕ → ℤ = λ i. getD (a .boxes .now) i (pos 0) in
     let b = numbersPerBox * a .t in
     box-row (a .d .now) (a .at) (a .boxes .now) (a .t)
-    (simp (local-i32 (z b) (c₆ .put-i32-arg2 .given)) at (c₅ .put-i32 .ensures))
+    (rw (add-zero b) (simp (local-i32 (z b) (c₆ .put-i32-arg2 .given)) at (c₅ .put-i32 .ensures)))
     (simp (local-i32 (z (b + 1)) (c₄ .put-i32-arg4 .given)) at (c₃ .put-i322 .ensures))
     (simp (local-i32 (z (b + 2)) (c₂ .put-i32-arg6 .given)) at (c₁ .put-i323 .ensures))
     (simp (local-i32 (z (b + 3)) (c .before .before .before .put-i32-arg8 .given))

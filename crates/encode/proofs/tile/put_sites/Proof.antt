@@ -1,4 +1,5 @@
 use Prim.Native.Nat.{_+_, _*_, _≤_}
+use mathlib.Core.List.{[], _∷_}
 use mathlib.Core.Path.{_≡_, sym, ap, _∙_}
 use native.Mathlib.Omega.{arith}
 use lib.ListN.{length}
@@ -16,7 +17,8 @@ abbrev Inv-loop : tie.InvT-loop
 Inv-loop d₀ start xs ys cues first n at₀ i₀ left₀ d at i left =
     (at + siteSize axes * left ≤ length d) × (length d ≡ length d₀) × (i + left ≤ length xs) × (i + left ≤ length ys)
     × (i + left ≤ length cues)
-    × (over d at (joined (siteBytes xs ys cues) i left) ≡ over d₀ start (joined (siteBytes xs ys cues) first n))
+    × (over d at (joined (siteBytes (xs ∷ ys ∷ []) cues) i left)
+    ≡ over d₀ start (joined (siteBytes (xs ∷ ys ∷ []) cues) first n))
 
 abbrev μ-loop : tie.MeasureT-loop
 μ-loop d₀ start xs ys cues first n at₀ i₀ left₀ d at i left = left
@@ -50,11 +52,10 @@ loop-again c =
       search needs,
       search needs,
       search needs,
-      joined-turn (siteBytes (a .xs .now) (a .ys .now) (a .cues .now)) (l .loop .d) (l .loop .at)
-          (l .loop .at + siteSize axes)
-          (l .loop .i) (l .loop .left)
-          (search needs) (p .ensures) (ap (λ w. l .loop .at + w)
-          (sym (length-site (a .xs .now) (a .ys .now) (a .cues .now) (l .loop .i)))) ∙ l .loop .inv .5,
+      joined-turn (siteBytes (a .xs .now ∷ a .ys .now ∷ []) (a .cues .now)) (l .loop .d) (l .loop .at)
+          (l .loop .at + siteSize axes) (l .loop .i) (l .loop .left) (search needs) (p .ensures)
+          (ap (λ w. l .loop .at + w) (sym (length-site (a .xs .now ∷ a .ys .now ∷ []) (a .cues .now) (l .loop .i))))
+          ∙ l .loop .inv .5,
     )
 
 same-length : tie.Need-same-length Inv-loop μ-loop
@@ -64,9 +65,8 @@ returns : tie.Need-returns Inv-loop μ-loop
 returns c =
     let l = c .before in
     let a = l .before .before .before .args in
-    joined-end (siteBytes (a .xs .now) (a .ys .now) (a .cues .now)) (l .loop .d) (l .loop .at) (l .loop .i)
-    (l .loop .left)
-    (search needs) ∙ l .loop .inv .5
+    joined-end (siteBytes (a .xs .now ∷ a .ys .now ∷ []) (a .cues .now)) (l .loop .d) (l .loop .at) (l .loop .i)
+    (l .loop .left) (search needs) ∙ l .loop .inv .5
 
 pub put-sites-spec : {M : Type 1} → statement M
 put-sites-spec = tie.close (tie.spec Inv-loop μ-loop loop-holds put-site-requires add-at add-i sub-left loop-less

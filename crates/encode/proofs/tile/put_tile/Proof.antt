@@ -1,4 +1,5 @@
 use Prim.Native.Nat.{_*_}
+use mathlib.Core.List.{[], _∷_}
 use native.Mathlib.Omega.{arith}
 use borrow.Author.Needs.{needs}
 use Rattle.blocks.specs.Layout.{tileKind, blockSize}
@@ -58,8 +59,8 @@ returns c =
     let c₆ = c₅ .before .before .before in
     let a = c₆ .args in
     let u = c₅ .site-offset .ensures in
-    let g = siteBytes (a .xs .now) (a .ys .now) (a .cues .now) in
-    let q = length-sites (a .xs .now) (a .ys .now) (a .cues .now) (a .first) (a .n) in
+    let g = siteBytes (a .xs .now ∷ a .ys .now ∷ []) (a .cues .now) in
+    let q = length-sites (a .xs .now ∷ a .ys .now ∷ []) (a .cues .now) (a .first) (a .n) in
     block-row (a .d .now) (blockSize * a .p) (headBytes tileKind (a .p) (a .n) 0) (joined g (a .first) (a .n))
     (c₅ .site-offset .result)
     (length-head tileKind (a .p) (a .n) 0) (omega (arith, q, u .1)) (omega (arith, c₆ .pre, u .1)) (c₆ .pre .0)

@@ -1,4 +1,5 @@
 use Prim.Native.Nat.{_+_, _-_, _*_, _≤_}
+use mathlib.Core.List.{[], _∷_}
 use mathlib.Core.Path.{_≡_, refl, sym, ap, _∙_}
 use native.Mathlib.Nat.{sub-zero}
 use native.Mathlib.Omega.{arith}
@@ -20,8 +21,8 @@ abbrev Inv-loop : tie.InvT-loop
 Inv-loop d₀ counts xs ys cues p₀ t₀ first₀ d p t first =
     (p ≡ directoryBlocks (headerOf counts) + t) × (first ≡ offset counts t) × (t ≤ length counts)
     × (length d ≡ length d₀)
-    × (over d (blockSize * p) (joined (tileBytesOf counts xs ys cues) t (length counts - t))
-    ≡ over d₀ (blockSize * directoryBlocks (headerOf counts)) (joined (tileBytesOf counts xs ys cues) 0
+    × (over d (blockSize * p) (joined (tileBytesOf counts (xs ∷ ys ∷ []) cues) t (length counts - t))
+    ≡ over d₀ (blockSize * directoryBlocks (headerOf counts)) (joined (tileBytesOf counts (xs ∷ ys ∷ []) cues) 0
     (length counts)))
 
 abbrev μ-loop : tie.MeasureT-loop
@@ -41,7 +42,7 @@ loop-holds c =
     let a = s .args in
     let r = c .directory-blocks .result in
     let e = c .directory-blocks .ensures .0 ∙ ap directoryBlocks (h .header-of .ensures .0) in
-    let g = tileBytesOf (a .counts .now) (a .xs .now) (a .ys .now) (a .cues .now) in (
+    let g = tileBytesOf (a .counts .now) (a .xs .now ∷ a .ys .now ∷ []) (a .cues .now) in (
       omega (arith, e),
       refl,
       search needs,
@@ -107,13 +108,14 @@ loop-again c =
     let p = b .put-tile in
     let k : length (p .last .0) ≡ length (l .loop .d) = p .kept .0 in
     let n = r .wide .ensures .0 in
-    let g = tileBytesOf (a .counts .now) (a .xs .now) (a .ys .now) (a .cues .now) in
+    let spots = a .xs .now ∷ a .ys .now ∷ [] in
+    let g = tileBytesOf (a .counts .now) spots (a .cues .now) in
     let t = l .loop .t in
     let few = s .pre .2 t (search needs) in
-    let e = tile-of (a .counts .now) (a .xs .now) (a .ys .now) (a .cues .now) t (l .loop .inv .0) (l .loop .inv .1) n in
+    let e = tile-of (a .counts .now) spots (a .cues .now) t (l .loop .inv .0) (l .loop .inv .1) n in
     let w : length (g t) ≡ blockSize = ap length (sym e)
-    ∙ length-tile-block (a .xs .now) (a .ys .now) (a .cues .now) (l .loop .p) (l .loop .first)
-    (r .wide .result) (omega (arith, few, n)) in
+    ∙ length-tile-block spots (a .cues .now) (l .loop .p) (l .loop .first) (r .wide .result)
+    (omega (arith, few, n)) in
     let m : length (a .counts .now) - (t + 1) ≡ length (a .counts .now) - t - 1 = omega arith in (
       omega (arith, l .loop .inv .0),
       omega (arith, offset-next (a .counts .now) t, l .loop .inv .1, n),
@@ -121,8 +123,7 @@ loop-again c =
       omega (arith, k, l .loop .inv .3),
       ap (λ k. over (p .last .0) (blockSize * (l .loop .p + 1)) (joined g (t + 1) k)) m
           ∙ joined-turn g (l .loop .d) (blockSize * l .loop .p) (blockSize * (l .loop .p + 1)) t
-          (length (a .counts .now) - t)
-          (search needs)
+          (length (a .counts .now) - t) (search needs)
           (p .ensures ∙ ap (over (l .loop .d) (blockSize * l .loop .p)) e) (omega (arith, w)) ∙ l .loop .inv .4,
     )
 
@@ -134,10 +135,8 @@ returns c =
     let s : tie.Start Inv-loop μ-loop = search in
     let l : tie.At-loop Inv-loop μ-loop = search in
     let a = s .args in
-    joined-end (tileBytesOf (a .counts .now) (a .xs .now) (a .ys .now) (a .cues .now)) (l .loop .d)
-    (blockSize * l .loop .p)
-    (l .loop .t)
-    (length (a .counts .now) - l .loop .t) (search needs) ∙ l .loop .inv .4
+    joined-end (tileBytesOf (a .counts .now) (a .xs .now ∷ a .ys .now ∷ []) (a .cues .now)) (l .loop .d)
+    (blockSize * l .loop .p) (l .loop .t) (length (a .counts .now) - l .loop .t) (search needs) ∙ l .loop .inv .4
 
 pub put-tiles-spec : {M : Type 1} → statement M
 put-tiles-spec = tie.close (tie.spec Inv-loop μ-loop header-of-requires directory-blocks-requires loop-holds mul-wide

@@ -1,10 +1,11 @@
 use Prim.Native.Nat.{ℕ, _+_, _*_}
+use native.Mathlib.Nat.{add-zero}
 use lib.IntN.{ℤ, pos}
 use lib.ListN.{getD}
 use borrow.Author.Needs.{needs}
-use Rattle.encode.specs.Supply.{numbersPerBox}
+use Rattle.codec.specs.Tabulate.{tabulate}
+use Rattle.encode.specs.Supply.{numbersPerBox, boxOf}
 use Rattle.codec.proofs.Number.{local-i32}
-use Rattle.encode.proofs.SupplyLaws.{box-ends}
 use Rattle.writer.proofs.supply.box_of.Statement.{statement}
 use Rattle.writer.proofs.supply.box_of.Tie as tie
 
@@ -45,13 +46,14 @@ shared-slice-copy-out-high-y : tie.Need-shared-slice-copy-out-high-y
 shared-slice-copy-out-high-y c = search needs
 
 returns : tie.Need-returns
+unfolding boxOf tabulate
 returns c =
     let s : tie.Start = search in
     let a = s .args in
     let z : ℕ → ℤ = λ i. getD (a .boxes .now) i (pos 0) in
     let b = numbersPerBox * a .t in
     simp (
-      box-ends (a .boxes .now) (a .t),
+      add-zero b,
       local-i32 (z b) (c .before .before .before .low-x .given),
       local-i32 (z (b + 1)) (c .before .before .low-y .given),
       local-i32 (z (b + 2)) (c .before .high-x .given),

@@ -1,5 +1,6 @@
 use Prim.Native.Nat.{_*_}
 use mathlib.Core.Bool.{true}
+use mathlib.Core.List.{[], _∷_}
 use mathlib.Core.Path.{_≡_, ap, _∙_}
 use native.Mathlib.Omega.{arith}
 use lib.Dec.{eqb, leb}
@@ -35,28 +36,27 @@ pass-3 c = let t : tie.After-entries-fit = search in passed (t .entries-fit .ens
 lists : (c : tie.After-lists-fit) →
     let s : tie.Start = search in
     let a = s .args in
-    c .lists-fit .result ≡ listsFit (siteTotal (a .counts .now)) (length (a .xs .now)) (length (a .ys .now))
-    (length (a .cues .now))
+    c .lists-fit .result ≡ listsFit (siteTotal (a .counts .now)) (a .xs .now ∷ a .ys .now ∷ []) (a .cues .now)
 lists c =
     let s : tie.Start = search in
     let n : tie.After-sum-of = search in
     let a = s .args in
-    c .lists-fit .ensures ∙ ap (λ n. listsFit n (length (a .xs .now)) (length (a .ys .now)) (length (a .cues .now)))
-    (n .sum-of .ensures)
+    c .lists-fit .ensures
+    ∙ ap (λ n. listsFit n (a .xs .now ∷ a .ys .now ∷ []) (a .cues .now)) (n .sum-of .ensures)
 
 pass-4 : (c : tie.Else4) →
     let s : tie.Start = search in
     let a = s .args in
-    listsFit (siteTotal (a .counts .now)) (length (a .xs .now)) (length (a .ys .now)) (length (a .cues .now)) ≡ true
+    listsFit (siteTotal (a .counts .now)) (a .xs .now ∷ a .ys .now ∷ []) (a .cues .now) ≡ true
 pass-4 c = passed (lists search) (c .if4 .left)
 
 -- what is left of the tests
 after-4 : (c : tie.Else4) →
     let b : tie.Start = search in
     let a = b .args in
-    let s = supply (a .boxes .now) (a .counts .now) (a .xs .now) (a .ys .now) (a .cues .now) in
+    let s = supply (a .boxes .now) (a .counts .now) (a .xs .now ∷ a .ys .now ∷ []) (a .cues .now) in
     writeTests s (a .room)
-    ≡ require (every (tileFits (s .boxes) (s .counts) (s .xs) (s .ys)) (length (s .counts))) #stray 0
+    ≡ require (every (tileFits (s .boxes) (s .counts) (s .spots)) (length (s .counts))) #stray 0
     (require (leb (fileLength (headerOf (s .counts))) (a .room)) #short 0 (accepted tt))
 unfolding writeTests
 after-4 c = rw (pass-1 search, pass-2 search, pass-3 search, pass-4 c)
@@ -64,7 +64,7 @@ after-4 c = rw (pass-1 search, pass-2 search, pass-3 search, pass-4 c)
 pass-5 : (c : tie.Else5) →
     let s : tie.Start = search in
     let a = s .args in
-    every (tileFits (a .boxes .now) (a .counts .now) (a .xs .now) (a .ys .now)) (length (a .counts .now)) ≡ true
+    every (tileFits (a .boxes .now) (a .counts .now) (a .xs .now ∷ a .ys .now ∷ [])) (length (a .counts .now)) ≡ true
 pass-5 c = let t : tie.After-tiles-inside = search in passed (t .tiles-inside .ensures) (c .if5 .left)
 
 fits : (c : tie.After-file-length) →
@@ -119,9 +119,8 @@ tiles-inside-requires c κs =
     let s : tie.Start = search in
     let e : tie.Else2 = search in
     let a = s .args in
-    let l = lists-good (siteTotal (a .counts .now)) (length (a .xs .now)) (length (a .ys .now)) (length (a .cues .now))
-    (pass-4 c) in
-    (e .if2 .left, l .0, l .1)
+    let l = lists-good (siteTotal (a .counts .now)) (a .xs .now ∷ a .ys .now ∷ []) (a .cues .now) (pass-4 c) in
+    (e .if2 .left, l .0 .0, l .0 .1 .0)
 
 header-of-requires : tie.Need-header-of-requires
 header-of-requires c κs = search needs

@@ -1,6 +1,7 @@
 use lib.IntN.{pos}
 use lib.ListN.{getD}
 use borrow.Author.Needs.{needs}
+use Rattle.geometry.specs.Around.{row}
 use Rattle.codec.proofs.Number.{local-i32}
 use Rattle.writer.proofs.supply.site_fits.Statement.{statement}
 use Rattle.writer.proofs.supply.site_fits.Tie as tie
@@ -21,6 +22,7 @@ inside-requires : tie.Need-inside-requires
 inside-requires c κs = search needs
 
 returns : tie.Need-returns
+unfolding row
 returns c =
     let a = c .before .before .before .args in
     simp (

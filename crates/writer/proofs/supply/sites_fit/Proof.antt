@@ -1,10 +1,11 @@
 use Prim.Native.Nat.{ℕ, _+_, _-_, _<_}
 use mathlib.Core.Bool.{true}
+use mathlib.Core.List.{[], _∷_}
 use mathlib.Core.Path.{_≡_, sym}
 use native.Mathlib.Omega.{arith}
 use borrow.Author.Count.{below-more}
 use borrow.Author.Needs.{needs}
-use Rattle.encode.specs.Supply.{suppliedPoint}
+use Rattle.geometry.specs.Around.{row}
 use Rattle.geometry.specs.Box.{inside}
 use Rattle.blocks.proofs.TestLaws.{passed, failed}
 use Rattle.base.proofs.Every.{every-fails, every-holds}
@@ -13,7 +14,7 @@ use Rattle.writer.proofs.supply.sites_fit.Statement.{statement}
 use Rattle.writer.proofs.supply.sites_fit.Tie as tie
 
 abbrev Inv-loop : tie.InvT-loop
-Inv-loop bounds xs ys first n i₀ i = (j : ℕ) → j < i → inside bounds (suppliedPoint xs ys (first + j)) ≡ true
+Inv-loop bounds xs ys first n i₀ i = (j : ℕ) → j < i → inside bounds (row (xs ∷ ys ∷ []) (first + j)) ≡ true
 
 abbrev μ-loop : tie.MeasureT-loop
 μ-loop bounds xs ys first n i₀ i = n - i
@@ -32,7 +33,7 @@ unfolding sitesFit
 returns c =
     let l = c .before .before .before in
     let a = l .before .args in
-    sym (every-fails (λ slot. inside (a .bounds) (suppliedPoint (a .xs .now) (a .ys .now) (a .first + slot))) (a .n)
+    sym (every-fails (λ slot. inside (a .bounds) (row (a .xs .now ∷ a .ys .now ∷ []) (a .first + slot))) (a .n)
     (l .loop .i)
     (search needs)
     (failed (c .before .site-fits .ensures) (c .if1 .taken)))
@@ -52,7 +53,7 @@ unfolding sitesFit
 returns-2 c =
     let l = c .before in
     let a = l .before .args in
-    sym (every-holds (λ slot. inside (a .bounds) (suppliedPoint (a .xs .now) (a .ys .now) (a .first + slot))) (a .n)
+    sym (every-holds (λ slot. inside (a .bounds) (row (a .xs .now ∷ a .ys .now ∷ []) (a .first + slot))) (a .n)
     (λ i h. l .loop .inv i (omega arith)))
 
 pub sites-fit-spec : {M : Type 1} → statement M

@@ -1,5 +1,6 @@
 use Prim.Native.Nat.{ℕ, _-_, _<_, _≤_}
 use mathlib.Core.Bool.{true}
+use mathlib.Core.List.{[], _∷_}
 use mathlib.Core.Path.{_≡_, refl, sym, _∙_}
 use native.Mathlib.Omega.{arith}
 use lib.ListN.{length}
@@ -16,7 +17,7 @@ use Rattle.writer.proofs.supply.tiles_inside.Tie as tie
 
 abbrev Inv-loop : tie.InvT-loop
 Inv-loop boxes counts xs ys t₀ first₀ t first = (first ≡ offset counts t) × (t ≤ length counts) ×
-    ((i : ℕ) → i < t → tileFits boxes counts xs ys i ≡ true)
+    ((i : ℕ) → i < t → tileFits boxes counts (xs ∷ ys ∷ []) i ≡ true)
 
 abbrev μ-loop : tie.MeasureT-loop
 μ-loop boxes counts xs ys t₀ first₀ t first = length counts - t
@@ -54,11 +55,10 @@ returns : tie.Need-returns Inv-loop μ-loop
 returns c =
     let l = c .before .before .before .before .before .before in
     let a = l .before .before .args in
-    sym (every-fails (tileFits (a .boxes .now) (a .counts .now) (a .xs .now) (a .ys .now)) (length (a .counts .now))
-    (l .loop .t) (search needs)
-    (failed (c .before .sites-fit .ensures ∙ tile-test (a .boxes .now) (a .counts .now) (a .xs .now) (a .ys .now)
-    (l .loop .t)
-    (c .before .before .box-of .ensures) (l .loop .inv .0) (c .before .before .before .wide .ensures .0))
+    sym (every-fails (tileFits (a .boxes .now) (a .counts .now) (a .xs .now ∷ a .ys .now ∷ []))
+    (length (a .counts .now)) (l .loop .t) (search needs)
+    (failed (c .before .sites-fit .ensures ∙ tile-test _ _ _ _ (c .before .before .box-of .ensures) (l .loop .inv .0)
+    (c .before .before .before .wide .ensures .0))
     (c .if1 .taken)))
 
 add-first : tie.Need-add-first Inv-loop μ-loop
@@ -92,18 +92,16 @@ loop-again c =
       ),
       search needs,
       below-more _ _ (l .loop .inv .2)
-          (passed (c .before .sites-fit .ensures ∙ tile-test (a .boxes .now) (a .counts .now) (a .xs .now) (a .ys .now)
-          (l .loop .t) (c .before .before .box-of .ensures) (l .loop .inv .0)
-          (c .before .before .before .wide .ensures .0))
-          (c .if1 .left)),
+          (passed (c .before .sites-fit .ensures ∙ tile-test _ _ _ _ (c .before .before .box-of .ensures)
+          (l .loop .inv .0) (c .before .before .before .wide .ensures .0)) (c .if1 .left)),
     )
 
 returns-2 : tie.Need-returns-2 Inv-loop μ-loop
 returns-2 c =
     let l = c .before in
     let a = l .before .before .args in
-    sym (every-holds (tileFits (a .boxes .now) (a .counts .now) (a .xs .now) (a .ys .now)) (length (a .counts .now))
-    (λ i h. l .loop .inv .2 i (omega arith)))
+    sym (every-holds (tileFits (a .boxes .now) (a .counts .now) (a .xs .now ∷ a .ys .now ∷ []))
+    (length (a .counts .now)) (λ i h. l .loop .inv .2 i (omega arith)))
 
 pub tiles-inside-spec : {M : Type 1} → statement M
 tiles-inside-spec = tie.close (tie.spec Inv-loop μ-loop loop-holds mul-wide shared-slice-read-wide wide-requires

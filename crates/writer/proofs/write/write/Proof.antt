@@ -1,11 +1,12 @@
 use Prim.Native.Nat.{_≤_}
+use mathlib.Core.List.{[], _∷_}
 use mathlib.Core.Path.{_≡_, sym, ap, _∙_}
 use native.Mathlib.Omega.{arith}
 use lib.ListN.{length}
 use borrow.Author.Needs.{needs}
 use Rattle.base.specs.Refusal.{accepted}
 use Rattle.encode.specs.Encode.{fileLength}
-use Rattle.encode.specs.Supply.{supply, headerOf}
+use Rattle.encode.specs.Supply.{Supply, supply, headerOf}
 use Rattle.blocks.proofs.OutcomeLaws.{number-accepted, number-refused}
 use Rattle.writer.specs.Accepted.{GoodSupply}
 use Rattle.writer.specs.Write.{writeTests}
@@ -14,20 +15,21 @@ use Rattle.writer.proofs.WriteLaws.{file-row}
 use Rattle.writer.proofs.write.write.Statement.{statement}
 use Rattle.writer.proofs.write.write.Tie as tie
 
+abbrev given : tie.Start → Supply
+given s =
+    let a = s .args in
+    supply (a .boxes .now) (a .counts .now) (a .xs .now ∷ a .ys .now ∷ []) (a .cues .now)
+
 accepted-tests : (c : tie.Else1) →
     let s : tie.Start = search in
-    let a = s .args in
-    writeTests (supply (a .boxes .now) (a .counts .now) (a .xs .now) (a .ys .now) (a .cues .now)) (length (a .out .now))
-    ≡ accepted tt
+    writeTests (given s) (length (s .args .out .now)) ≡ accepted tt
 accepted-tests c =
     let t : tie.After-failed-test = search in
     number-accepted (t .failed-test .result) 0 (t .failed-test .ensures) (c .if1 .left)
 
 good : (c : tie.Else1) →
     let s : tie.Start = search in
-    let a = s .args in
-    GoodSupply (supply (a .boxes .now) (a .counts .now) (a .xs .now) (a .ys .now) (a .cues .now))
-    × (fileLength (headerOf (a .counts .now)) ≤ length (a .out .now))
+    GoodSupply (given s) × (fileLength (headerOf (s .args .counts .now)) ≤ length (s .args .out .now))
 good c = tests-good _ _ (accepted-tests c)
 
 failed-test-requires : tie.Need-failed-test-requires
@@ -39,7 +41,7 @@ returns c =
     let t : tie.After-failed-test = search in
     let a = b .args in
     let n = t .failed-test in
-    let s = supply (a .boxes .now) (a .counts .now) (a .xs .now) (a .ys .now) (a .cues .now) in
+    let s = given b in
     let e = call-refused s (length (a .out .now)) (number-refused (n .result) 0 (n .ensures) (c .if1 .taken)) in
     (sym e, sym (exit-refused s (a .out .now) e))
 
@@ -56,8 +58,8 @@ put-tiles-requires c κs =
       omega (arith, g .1, d .put-directory .kept .0),
       g .0 .most,
       g .0 .counts,
-      g .0 .xs,
-      g .0 .ys,
+      g .0 .spots .0,
+      g .0 .spots .1 .0,
       g .0 .cues,
     )
 
@@ -77,7 +79,7 @@ returns-2 c =
     let d : tie.After-put-directory = search in
     let b : tie.Start = search in
     let a = b .args in
-    let s = supply (a .boxes .now) (a .counts .now) (a .xs .now) (a .ys .now) (a .cues .now) in
+    let s = given b in
     let e = call-accepted s (length (a .out .now)) (accepted-tests search) in (
       ap accepted (c .file-length .ensures ∙ ap fileLength (h .header-of .ensures .0)) ∙ sym e,
       file-row s (a .out .now) (d .put-directory .ensures) (t .put-tiles .ensures)
