@@ -1,3 +1,4 @@
 pub mod Tests
 pub mod Outcomes
 pub mod Every
+pub mod Lists

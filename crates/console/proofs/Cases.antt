@@ -4,7 +4,7 @@ use Rattle.base.specs.Every.{every}
 use Rattle.geometry.specs.Box.{withinLimits, validAxis, validBox, validPoint, onAxis, inside}
 use Rattle.geometry.specs.Distance.{gap, square, D, closest, farthest, closestPoint, farthestPoint, minDist, maxDist}
 use Rattle.geometry.specs.Margin.{gain, bestEnd, bestPoint, difference, reachedFrom, reached, margin, closer}
-use Rattle.geometry.specs.Around.{row, rows, points, foremost, least, greatest, around}
+use Rattle.geometry.specs.Around.{equalColumns, row, rows, points, foremost, least, greatest, around}
 use Rattle.codec.specs.Bytes.{bytes, bytes16, bytes32, bits, bytesSigned}
 use Rattle.codec.specs.Number.{u16At, u32At, signed, i32At}
 use Rattle.codec.specs.Zeros.{zeros}
@@ -29,7 +29,7 @@ use Rattle.search.specs.Run.{rank, aheadOf, listing, placesOf, nearest, content
 use Rattle.search.specs.Run.{queue, follow, enough, serve, run, placesUsed, join, padded, slices, mark, marks}
 use Rattle.search.specs.Limits.{validK}
 use Rattle.stops.specs.Stops.{validStop}
-use Rattle.stops.specs.Arguments.{equalColumns, stopsDue, stopsValid, room, arguments}
+use Rattle.stops.specs.Arguments.{stopsDue, stopsValid, room, arguments}
 use Rattle.list.specs.Lists.{lay, cleared}
 use Rattle.plan.specs.FilePlan.{openingOf}
 use Rattle.join.specs.Join.{runFor, tests, filled, ended, runEnd, joinFrom, joinEnd}
@@ -41,18 +41,18 @@ use Rattle.console.specs.Cases.{table, AllSay}
 
 pub twelve-cases : AllSay table
 unfolding every withinLimits validAxis validBox validPoint onAxis inside gap square D closest farthest closestPoint
-    farthestPoint minDist maxDist gain bestEnd bestPoint difference reachedFrom reached margin closer row rows points
-    foremost least greatest around bytes bytes16 bytes32 bits bytesSigned u16At u32At signed i32At zeros tabulate
-    joined over sumsFrom sums checkAgrees blockAt kindDue blockHead directoryBlocks entriesDue entryOffset entryBox
-    entryCount entryZero tilesDue directoryPadding entryValid directoryBlock directoryBlockAt lengthDue directoryRest
-    directory boxAt countAt inTurn siteOffset siteIn tilePadding siteInside tileBlock tilePosition openTile siteAt
-    sitesAt offset headBytes checkBytes bodyBytes blockBytes boxBytes entryBytes siteBytes directoryBytes tileBytes
-    tileBytesOf fileBytes count total filter member lex insert sort ranks ranked pruned prunedCount rank aheadOf
-    listing placesOf nearest contents opening byKey ahead candidate queue follow enough serve run placesUsed join
-    padded slices mark marks validK validStop equalColumns stopsDue stopsValid room arguments lay cleared openingOf
-    runFor tests filled ended runEnd joinFrom joinEnd widthUpTo width digits decimal labelled refusedLine countsLine
-    placeText textAt placesText stopLine kOf stopsAsked coordinates xsOf ysOf headLength fileOf wellFormed emptySlices
-    answerText endOf endText output
+    farthestPoint minDist maxDist gain bestEnd bestPoint difference reachedFrom reached margin closer equalColumns row
+    rows points foremost least greatest around bytes bytes16 bytes32 bits bytesSigned u16At u32At signed i32At zeros
+    tabulate joined over sumsFrom sums checkAgrees blockAt kindDue blockHead directoryBlocks entriesDue entryOffset
+    entryBox entryCount entryZero tilesDue directoryPadding entryValid directoryBlock directoryBlockAt lengthDue
+    directoryRest directory boxAt countAt inTurn siteOffset siteIn tilePadding siteInside tileBlock tilePosition
+    openTile siteAt sitesAt offset headBytes checkBytes bodyBytes blockBytes boxBytes entryBytes siteBytes
+    directoryBytes tileBytes tileBytesOf fileBytes count total filter member lex insert sort ranks ranked pruned
+    prunedCount rank aheadOf listing placesOf nearest contents opening byKey ahead candidate queue follow enough serve
+    run placesUsed join padded slices mark marks validK validStop stopsDue stopsValid room arguments lay cleared
+    openingOf runFor tests filled ended runEnd joinFrom joinEnd widthUpTo width digits decimal labelled refusedLine
+    countsLine placeText textAt placesText stopLine kOf stopsAsked coordinates xsOf ysOf headLength fileOf wellFormed
+    emptySlices answerText endOf endText output
 twelve-cases = (
   refl,
   (

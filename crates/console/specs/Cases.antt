@@ -41,8 +41,7 @@ townLists =
     ∷ pos 10 ∷ pos 0 ∷ pos 12 ∷ pos 0
     ∷ [])
     (1 ∷ 1 ∷ 1 ∷ [])
-    (pos 10 ∷ negℤ (pos 10) ∷ pos 11 ∷ [])
-    (pos 0 ∷ pos 0 ∷ pos 0 ∷ [])
+    ((pos 10 ∷ negℤ (pos 10) ∷ pos 11 ∷ []) ∷ (pos 0 ∷ pos 0 ∷ pos 0 ∷ []) ∷ [])
     (7 ∷ 8 ∷ 9 ∷ [])
 
 abbrev pub townFile : List ℕ

@@ -25,10 +25,13 @@ use Rattle.base.proofs.Every.{every-at, every-holds}
 use Rattle.base.proofs.Tests.{true-T, by-test, iff-eq}
 use Rattle.geometry.proofs.AllAxes.{in-box, in-test, in-valid, in-length, lowest-point, over, within, within-box}
 use Rattle.geometry.proofs.AllAxes.{closest-in, min-least, farthest-in, max-largest, distance-bound}
-use Rattle.geometry.proofs.Around.{rows-at, all-rows, around-axes, around-valid, around-holds, around-least}
+use Rattle.geometry.proofs.Around.{rows-at, around-axes, around-valid, around-holds, around-least}
 use Rattle.geometry.proofs.BestPoint.{Three, three, best-in, best-over-e, best-over-b, best-most, over-in}
 use Rattle.geometry.proofs.Corners.{corner-in, best-corner}
 use Rattle.geometry.proofs.Shift.{less-sub, at-most-sub, abs-difference}
+-- points by columns: as many coordinates in each, and what holds of every point
+pub use Rattle.geometry.proofs.Around.{all-rows, columns-equal, equal-columns}
+pub use Rattle.geometry.proofs.Two.{two-columns}
 -- the distances and the margin as sums over the axes
 pub use Rattle.geometry.proofs.ByAxis.{dist-sum, min-dist-sum, max-dist-sum, margin-sum}
 
@@ -74,18 +77,18 @@ module _ (b : List (List ℤ)) (p : List ℤ) (vb : validBox b ≡ true) (vp : v
 pub distance-bounded : (p q : List ℤ) → validPoint p ≡ true → validPoint q ≡ true → D p q ≤ axisBound * length p
 distance-bounded p q vp vq = distance-bound (within p vp) (within q vq)
 
--- ---- corners
+-- ---- points of a box, and its corners
 
-module _ (o : List (List ℤ)) (vo : validBox o ≡ true) (c : ℕ) where
-  -- a corner of a valid box is a point of it, and so a valid point with as many axes
-  pub corner-inside : inside o (corner o c) ≡ true
-  corner-inside = in-test (corner-in o vo c)
+-- a point of a box has as many axes, and of a valid one it is valid
+pub inside-axes : (b : List (List ℤ)) (p : List ℤ) → inside b p ≡ true → length p ≡ length b
+inside-axes b p i = in-length (in-box b p i)
 
-  pub corner-valid : validPoint (corner o c) ≡ true
-  corner-valid = in-valid (corner-in o vo c) vo
+pub inside-valid : (b : List (List ℤ)) (p : List ℤ) → validBox b ≡ true → inside b p ≡ true → validPoint p ≡ true
+inside-valid b p v i = in-valid (in-box b p i) v
 
-  pub corner-axes : length (corner o c) ≡ length o
-  corner-axes = in-length (corner-in o vo c)
+-- a corner of a valid box is a point of it
+pub corner-inside : (o : List (List ℤ)) → validBox o ≡ true → (c : ℕ) → inside o (corner o c) ≡ true
+corner-inside o vo c = in-test (corner-in o vo c)
 
 -- ---- points by columns
 

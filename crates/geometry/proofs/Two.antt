@@ -3,7 +3,6 @@ use Prim.Native.Nat.{ℕ, _/_}
 use mathlib.Core.Bool.{_&&_}
 use mathlib.Core.List.{List, [], _∷_}
 use mathlib.Core.Path.{_≡_, refl, ap}
-use native.Mathlib.Omega.{arith}
 use lib.Dec.{eqb}
 use lib.IntN.{ℤ, pos}
 use lib.ListN.{getD, length}
@@ -11,13 +10,8 @@ use Rattle.geometry.specs.Around.{equalColumns}
 use Rattle.geometry.specs.Corners.{endAt, corner}
 use Rattle.geometry.specs.Distance.{closest, farthest, closestPoint, farthestPoint}
 use Rattle.geometry.specs.Margin.{bestEnd, bestPoint, Reached, reachedFrom, reached, margin}
+use Rattle.base.proofs.Lists.{two}
 use Rattle.base.proofs.Tests.{by-test}
-
-pub two : {A : Type 0} (l : List A) (d : A) → length l ≡ 2 → l ≡ getD l 0 d ∷ getD l 1 d ∷ []
-two [] d e = absurd (omega arith)
-two (x ∷ []) d e = absurd (omega arith)
-two (x ∷ y ∷ []) d e = refl
-two (x ∷ y ∷ z ∷ l) d e = absurd (omega arith)
 
 pub two-columns : (n : ℕ) (xs ys : List ℤ) → eqb (length xs) n && eqb (length ys) n ≡ equalColumns n (xs ∷ ys ∷ [])
 unfolding equalColumns

@@ -34,8 +34,7 @@ use Rattle.serve.specs.Inner.Serving.{lastLength, waiting, walksOf, StopsReady,
 use Rattle.stops.specs.Stops.{stopCount, stopsOf, validStop}
 use Rattle.base.proofs.Outcomes.{andThen-accepted, andThen-refused, accepted-injective}
 use Rattle.codec.proofs.Over.{over-under, over-eq, length-over}
-use Rattle.geometry.proofs.Around.{all-rows}
-use Rattle.geometry.proofs.Theorems.{around-smallest}
+use Rattle.geometry.proofs.Theorems.{all-rows, around-smallest}
 use Rattle.list.proofs.Laying.{lay-under, lay-long}
 use Rattle.list.proofs.Padding.{clear-all}
 use Rattle.plan.proofs.Tables.{filled-at, range-length, bit-small}

@@ -21,7 +21,7 @@ use Rattle.base.proofs.Outcomes.{accepted-injective, andThen-accepted}
 use Rattle.blocks.proofs.BlockLaws.{length-block, block-bytes}
 use Rattle.blocks.proofs.DirectoryLaws.{directory-good, block-fits, box-valid, count-small}
 use Rattle.codec.proofs.Bytes.{u32-small}
-use Rattle.geometry.proofs.AllAxes.{in-box, in-valid}
+use Rattle.geometry.proofs.Theorems.{inside-valid}
 use Rattle.search.proofs.Walk.{by-outcome}
 use Rattle.tiles.proofs.Theorems.{opening-exactly, opened-count, opened-inside, sites-length}
 use Rattle.plan.specs.FilePlan.{entries, openingOf, townOf}
@@ -72,7 +72,7 @@ module _ (f : List ℕ) (h : Header) (t : ℕ) where
         sited = record {
           whole = length-block f (directoryBlocks h + t) (block-fits good (directoryBlocks h + t) (omega arith));
           few = count-small good t l;
-          valid = λ slot i. in-valid (in-box (boxAt f t) _ (opened-inside f h t o slot i)) (box-valid good t l);
+          valid = λ slot i. inside-valid (boxAt f t) _ (box-valid good t l) (opened-inside f h t o slot i);
         };
         own = refl;
       })

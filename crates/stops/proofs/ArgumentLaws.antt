@@ -16,8 +16,7 @@ use Rattle.search.specs.Limits.{validK, maxK, maxStops}
 use Rattle.base.proofs.Every.{every-at}
 use Rattle.base.proofs.Outcomes.{require-accepted}
 use Rattle.base.proofs.Tests.{and-both}
-use Rattle.geometry.proofs.Around.{columns-equal}
-use Rattle.geometry.proofs.Two.{two-columns}
+use Rattle.geometry.proofs.Theorems.{columns-equal, two-columns}
 use Rattle.stops.specs.Arguments.{stopsDue, stopsValid, room, arguments}
 use Rattle.stops.specs.Inner.Good.{GoodArguments}
 use Rattle.stops.specs.Stops.{stopCount, validStop}

@@ -31,7 +31,7 @@ use Rattle.codec.proofs.Bytes.{read-16, read-32, read-signed, held-16, held-32,
 use Rattle.codec.proofs.Holds.{Holds, holds-run, holds-cons, holds-head, holds-tail, holds-left, holds-right}
 use Rattle.codec.proofs.Holds.{holds-append, holds-each, holds-joined, zeros-held, held-zeros}
 use Rattle.codec.proofs.Tabulate.{getD-tabulate}
-use Rattle.geometry.proofs.Two.{two}
+use Rattle.base.proofs.Lists.{two}
 use Rattle.encode.proofs.EncodeLaws.{length-head, length-body, sums-body}
 use Rattle.writer.specs.Made.{Signed, Unsigned, boxNumbers}
 

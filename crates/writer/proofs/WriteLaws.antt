@@ -22,7 +22,7 @@ use Rattle.base.proofs.Tests.{and-both, both-and}
 use Rattle.base.proofs.Every.{every-at, every-holds}
 use Rattle.codec.proofs.Joined.{length-joined}
 use Rattle.codec.proofs.Over.{also}
-use Rattle.geometry.proofs.Around.{columns-equal, equal-columns}
+use Rattle.geometry.proofs.Theorems.{columns-equal, equal-columns}
 use Rattle.encode.proofs.EncodeLaws.{length-directory-block}
 use Rattle.writer.specs.Accepted.{GoodSupply}
 use Rattle.writer.specs.Write.{tilesFit, entryFits, listsFit, sitesFit, tileFits, writeTests, writeCall}

@@ -1,6 +1,6 @@
 use mathlib.Core.Path.{_∙_}
 use borrow.Author.Needs.{needs}
-use Rattle.geometry.proofs.Theorems.{corner-valid, corner-axes}
+use Rattle.geometry.proofs.Theorems.{inside-axes, inside-valid, corner-inside}
 use Rattle.plan.proofs.region.corner_of.Statement.{statement}
 use Rattle.plan.proofs.region.corner_of.Tie as tie
 
@@ -11,11 +11,12 @@ returns : tie.Need-returns
 returns c =
     let s : tie.Start = search in
     let e = c .corner .ensures in
-    let v = s .pre in (
+    let v = s .pre in
+    let i = corner-inside (s .args .o) (v .valid) (s .args .c) in (
       e,
       record {
-        valid = rw e (corner-valid (s .args .o) (v .valid) (s .args .c));
-        axes = rw e (corner-axes (s .args .o) (v .valid) (s .args .c) ∙ v .axes);
+        valid = rw e (inside-valid (s .args .o) _ (v .valid) i);
+        axes = rw e (inside-axes (s .args .o) _ i ∙ v .axes);
       },
     )
 

@@ -1,5 +1,4 @@
 use borrow.Author.Needs.{needs}
-use Rattle.serve.specs.Inner.Serving.{servingOutcome}
 use Rattle.serve.proofs.StopLoop.{left-served, left-refused}
 use Rattle.serve.proofs.serving.serve.Statement.{statement}
 use Rattle.serve.proofs.serving.serve.Tie as tie

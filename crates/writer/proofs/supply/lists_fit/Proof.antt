@@ -1,5 +1,5 @@
 use borrow.Author.Needs.{needs}
-use Rattle.geometry.proofs.Two.{two-columns}
+use Rattle.geometry.proofs.Theorems.{two-columns}
 use Rattle.writer.specs.Write.{listsFit}
 use Rattle.writer.proofs.supply.lists_fit.Statement.{statement}
 use Rattle.writer.proofs.supply.lists_fit.Tie as tie
