@@ -14,9 +14,11 @@ use Rattle.search.specs.FullSearch.{firstOf, Fits}
 use Rattle.search.specs.Lists.{count, member, All, Distinct}
 use Rattle.search.specs.Plan.{Geometry, Directory, Lawful, ranked, Town, Agrees}
 use Rattle.search.specs.Pruning.{pruned, prunedCount}
-use Rattle.search.specs.Run.{Reading, Place, Run, Checked, run, join, placesUsed, marks, openedMark, prunedMark}
+use Rattle.search.specs.Run.{Reading, Place, Run, Checked, fullQueue, run, join, placesUsed, marks}
+use Rattle.search.specs.Run.{openedMark, prunedMark}
 use Rattle.search.proofs.Answered.{readTown, join-town, some-town, answer-padded, answer-places, answer-used}
 use Rattle.search.proofs.Answered.{opened-changes, changes-opened}
+use Rattle.search.proofs.FullQueue.{full-alike}
 use Rattle.search.proofs.Lists.{all-map}
 use Rattle.search.proofs.Marks.{marks-at, mark-opened, mark-pruned, marks-opened, marks-pruned}
 use Rattle.search.proofs.Queue.{candidate-unpruned, candidate-some}
@@ -72,6 +74,15 @@ module _ {G : Geometry} (E : Directory G) (O : G .Box) (k : ℕ) where
   pub pruned-count : (read : Reading G) (ps : List Stop)
       → count (λ m. eqb m 1) (marks E O k (join E O k read ps .openings)) ≡ prunedCount E O k
   pruned-count read ps = marks-pruned E O k (join E O k read ps .openings) (never-pruned read ps)
+
+  -- ---- every run, where what opens agrees with the directory
+
+  module _ (L : Lawful E O) where
+    -- Striking spares a stop the keys of tiles that it would not come to, and changes nothing else: with the struck
+    -- tiles in the queue the same tiles are opened in the same order, with the same lists or the same refusal.
+    pub pruning-opens-alike : (read : Reading G) → Checked E read → (ps : List Stop) → All (Within O) ps
+        → run E k (fullQueue E) read ps [] ≡ join E O k read ps
+    pruning-opens-alike = full-alike E O k L
 
   -- ---- a run that answers
 
