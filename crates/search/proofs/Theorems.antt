@@ -10,11 +10,11 @@ use lib.Dec.{eqb}
 use lib.ListN.{length, getD}
 use Rattle.base.specs.Refusal.{accepted}
 use Rattle.search.specs.Claims.{FullSearch, RunAnswers}
-use Rattle.search.specs.FullSearch.{firstOf, Fits}
+use Rattle.search.specs.FullSearch.{firstOf, SiteOf, ByDistanceTileSlot, Fits}
 use Rattle.search.specs.Lists.{count, member, All, Distinct}
 use Rattle.search.specs.Plan.{Geometry, Directory, Lawful, ranked, Town, Agrees}
 use Rattle.search.specs.Pruning.{pruned, prunedCount}
-use Rattle.search.specs.Run.{Reading, Place, Run, Checked, fullQueue, run, join, placesUsed, marks}
+use Rattle.search.specs.Run.{Reading, Place, Run, Checked, rank, fullQueue, run, join, placesUsed, marks}
 use Rattle.search.specs.Run.{openedMark, prunedMark}
 use Rattle.search.proofs.Answered.{readTown, join-town, some-town, answer-padded, answer-places, answer-used}
 use Rattle.search.proofs.Answered.{opened-changes, changes-opened}
@@ -22,7 +22,7 @@ use Rattle.search.proofs.FullQueue.{full-alike}
 use Rattle.search.proofs.Lists.{all-map}
 use Rattle.search.proofs.Marks.{marks-at, mark-opened, mark-pruned, marks-opened, marks-pruned}
 use Rattle.search.proofs.Queue.{candidate-unpruned, candidate-some}
-use Rattle.search.proofs.Ranking.{first-strict, first-sites, first-once, first-rest, first-length}
+use Rattle.search.proofs.Ranking.{rank-exactly, first-strict, first-sites, first-once, first-rest, first-length}
 use Rattle.search.proofs.Run.{join-chosen, join-once, join-same}
 
 module _ {G : Geometry} (E : Directory G) (O : G .Box) (k : ℕ) where
@@ -84,9 +84,14 @@ module _ {G : Geometry} (E : Directory G) (O : G .Box) (k : ℕ) where
         → run E k (fullQueue E) read ps [] ≡ join E O k read ps
     pruning-opens-alike = full-alike E O k L
 
-  -- ---- a run that answers
+  -- ---- a full search, and a run that answers
 
   module _ (L : Lawful E O) where
+    -- "Sites rank by D from the stop, then tile, then slot": so do the sites of a town that agrees with the directory
+    pub ranking-exactly : (p : Stop) (g : Town G) → Agrees E g → (a b : Place)
+        → (s : SiteOf E p g a) (u : SiteOf E p g b) → (rank a b ≡ true) ↔ ByDistanceTileSlot E s u
+    ranking-exactly = rank-exactly E L
+
     pub full-search : (p : Stop) → Within O p → (g : Town G) → Agrees E g → FullSearch E k p g
     full-search p home g ag = record {
       sites = first-sites E k L p home g ag;
