@@ -47,7 +47,7 @@ use Rattle.stops.specs.Inner.Good.{GoodArguments}
 use Rattle.stops.proofs.ArgumentLaws.{arguments-good}
 use Rattle.stops.proofs.StopLaws.{stops-length}
 use Rattle.tiles.proofs.Theorems.{validate-exactly}
-use Rattle.join.specs.Claims.{opened, left, Agreeing, Demand3}
+use Rattle.join.specs.Claims.{fullRunFor, opened, left, Agreeing, Demand3}
 use Rattle.join.specs.Inner.Running.{RunReady}
 use Rattle.join.specs.Join.{Result, End, runFor, lengthsOf, tests, filled, ended, runEnd, joinFrom, joinEnd}
 use Rattle.join.proofs.Calling.{tests-pass, run-ready}
@@ -89,6 +89,16 @@ module _ (f : List ℕ) (cols : List (List ℤ)) (k : ℕ) (out : Slices) where
       other-files =
           let e = same-directory f g h d same in
           rw (d, e) (by-outcome (arguments (h .tiles) cols k (lengthsOf out)) (λ x q. rw q run-same) (λ n b q. rw q))
+
+  -- Striking changes no run: with the struck tiles in the queue the same tiles are opened in the same order, with the
+  -- same lists or the same refusal.
+  pub pruning-opens-alike : length cols ≡ axisCount → Bytes f → (h : Header) → directory f ≡ accepted h
+      → arguments (h .tiles) cols k (lengthsOf out) ≡ accepted tt → fullRunFor f h cols k ≡ runFor f h cols k
+  unfolding runFor
+  pruning-opens-alike axes b h d a =
+      let w = run-ready f cols k out d a axes in
+      run.pruning-opens-alike (entries f h) (around cols) k (lawful w) (openingOf f h) (opening-checked f h b)
+      (stopsOf cols) (smallest w .holds)
 
   -- ---- a call that answers
 

@@ -1,4 +1,7 @@
--- What demand 3 claims of a call that answers: about the file, the answer, and the lent slices at the end.
+-- What the demands claim of a call: about the file, the answer, and the lent slices at the end.
+--
+--   fullRunFor   the run that striking is compared with
+--   Demand3      a call that answers
 use Prim.Native.Nat.{ℕ, _+_, _*_, _<_}
 use mathlib.Core.Bool.{true, false}
 use mathlib.Core.List.{List, []}
@@ -19,10 +22,15 @@ use Rattle.search.specs.FullSearch.{fullSearch, Fits, Changes}
 use Rattle.search.specs.Lists.{count, member, All, Distinct}
 use Rattle.search.specs.Plan.{Town}
 use Rattle.search.specs.Pruning.{pruned}
-use Rattle.search.specs.Run.{noPlace, placesUsed, openedMark, prunedMark}
+use Rattle.search.specs.Run.{Run, noPlace, fullQueue, run, placesUsed, openedMark, prunedMark}
+use Rattle.search.specs.declared.Place.{Place}
 use Rattle.stops.specs.Stops.{stopCount, stopsOf}
 use Rattle.tiles.specs.Tile.{tilePosition}
 use Rattle.join.specs.Join.{Result, runFor, joinEnd}
+
+-- the run of `runFor` with the struck tiles in each stop's queue
+abbrev pub fullRunFor : List ℕ → Header → List (List ℤ) → ℕ → Run (List (List Place))
+fullRunFor f h cols k = run (entries f h) k (fullQueue (entries f h)) (openingOf f h) (stopsOf cols) []
 
 module _ (f : List ℕ) (cols : List (List ℤ)) (k : ℕ) (out : Slices) (h : Header) where
   -- the tiles opened, and the slices at the end
