@@ -1,10 +1,10 @@
 -- The theorems for the reader: demands 2 and 3 about files, answers and the lent slices. The call is `call::join`, its
--- definition `joinEnd` (specs/Join), what is claimed `Demand3` (specs/Claims). f is the file, cols the stops by
--- columns, on as many axes as the town has.
+-- definition `joinEnd` (specs/Join), what is claimed `Demand2` and `Demand3` (specs/Claims). f is the file, cols the
+-- stops by columns, on as many axes as the town has.
 use Prim.Native.Nat.{ℕ, suc, _+_, _*_, _<_, _≤_}
 use mathlib.Core.Bool.{true, false}
 use mathlib.Core.List.{List, [], _∷_, map}
-use mathlib.Core.Path.{_≡_, refl, sym, ap, _∙_}
+use mathlib.Core.Path.{_≡_, refl, sym, ap, _∙_, subst}
 use native.Mathlib.Nat.{zero-add, mul-le-mul}
 use native.Mathlib.Omega.{arith}
 use lib.IntN.{ℤ}
@@ -47,7 +47,7 @@ use Rattle.stops.specs.Inner.Good.{GoodArguments}
 use Rattle.stops.proofs.ArgumentLaws.{arguments-good}
 use Rattle.stops.proofs.StopLaws.{stops-length}
 use Rattle.tiles.proofs.Theorems.{validate-exactly}
-use Rattle.join.specs.Claims.{fullRunFor, opened, left, Agreeing, Demand3}
+use Rattle.join.specs.Claims.{fullRunFor, opened, left, Agreeing, Demand2, Demand3}
 use Rattle.join.specs.Inner.Running.{RunReady}
 use Rattle.join.specs.Join.{Result, End, runFor, lengthsOf, tests, filled, ended, runEnd, joinFrom, joinEnd}
 use Rattle.join.proofs.Calling.{tests-pass, run-ready}
@@ -286,3 +286,37 @@ module _ (f : List ℕ) (cols : List (List ℤ)) (k : ℕ) (out : Slices) where
         (good-opens f h good) (stopsOf cols) (smallest w .holds) in
         tests-pass f cols k out d a
         ∙ ap (ended f h cols k (join (entries f h) (around cols) k (openingOf f h) (stopsOf cols) .openings) out) e
+
+    -- the same, place by place and sentence by sentence
+    pub demand-2-places : Bytes f → (h : Header) → validate f ≡ accepted h
+        → arguments (h .tiles) cols k (lengthsOf out) ≡ accepted tt → (r : Result) × Demand2 f cols k out h r
+    unfolding ended runFor
+    demand-2-places b h v a =
+        let good = validate-exactly f h .0 v in
+        let d = directory-exactly f h .1 (good .directory) in
+        let r : Result = record {
+          used = placesUsed (entries f h) k;
+          tiles = h .tiles;
+          opened = length (runFor f h cols k .openings);
+          pruned = prunedCount (entries f h) (around cols) k;
+        } in
+        let e : joinEnd f cols k out .outcome ≡ accepted r = ap (λ (z : End). z .outcome) (demand-2 b h v a) in
+        let own : Agreeing f cols k out h (townOf f h) = record {
+          directory = good-agrees f h good b;
+          blocks = all-map (runFor f h cols k .openings) (good-opens f h good)
+              (run.only-tiles (entries f h) (around cols) k (openingOf f h) (stopsOf cols));
+        } in
+        let three = demand-3 r e in
+        let i : three .0 ≡ h = accepted-injective (sym (three .1 .header) ∙ d) in (
+          r,
+          record {
+            answers = e;
+            tiles = refl;
+            used = refl;
+            lists = subst (λ x. Demand3 f cols k out x r) i (three .1) .lists (townOf f h) own;
+            first = full-search r e h d (townOf f h) own;
+            ranking = λ p. run.ranking-exactly (entries f h) (around cols) k
+                (lawful (run-ready f cols k out d a axes)) p (townOf f h) (own .directory);
+            agrees = own .directory;
+          },
+        )

@@ -1,6 +1,7 @@
 -- What the demands claim of a call: about the file, the answer, and the lent slices at the end.
 --
 --   fullRunFor   the run that striking is compared with
+--   Demand2      a call on a file that passes the full check
 --   Demand3      a call that answers
 use Prim.Native.Nat.{ℕ, _+_, _*_, _<_}
 use mathlib.Core.Bool.{true, false}
@@ -17,12 +18,13 @@ use Rattle.blocks.specs.Same.{SameDirectory}
 use Rattle.blocks.specs.declared.header.Header.{Header}
 use Rattle.geometry.specs.Around.{around, SmallestAround}
 use Rattle.list.specs.Lists.{Slices, placeAt}
-use Rattle.plan.specs.FilePlan.{plane, entries, openingOf}
-use Rattle.search.specs.FullSearch.{fullSearch, Fits, Changes}
+use Rattle.plan.specs.FilePlan.{plane, entries, openingOf, townOf}
+use Rattle.search.specs.Claims.{FullSearch}
+use Rattle.search.specs.FullSearch.{SiteOf, ByDistanceTileSlot, fullSearch, Fits, Changes}
 use Rattle.search.specs.Lists.{count, member, All, Distinct}
-use Rattle.search.specs.Plan.{Town}
+use Rattle.search.specs.Plan.{Town, Agrees}
 use Rattle.search.specs.Pruning.{pruned}
-use Rattle.search.specs.Run.{Run, noPlace, fullQueue, run, placesUsed, openedMark, prunedMark}
+use Rattle.search.specs.Run.{Run, rank, noPlace, fullQueue, run, placesUsed, openedMark, prunedMark}
 use Rattle.search.specs.declared.Place.{Place}
 use Rattle.stops.specs.Stops.{stopCount, stopsOf}
 use Rattle.tiles.specs.Tile.{tilePosition}
@@ -44,6 +46,26 @@ module _ (f : List ℕ) (cols : List (List ℤ)) (k : ℕ) (out : Slices) (h : H
   abbrev pub Agreeing : Town plane → Type 0
   Agreeing town = Fits (entries f h) (openingOf f h) opened town
 
+  -- "On a file that passes the full check", with the header h: the whole town is its own, `townOf`
+  pub record Demand2 (r : Result) : Type 0 where
+    -- the join answers, with T and the places used
+    pub answers : joinEnd f cols k out .outcome ≡ accepted r
+    pub tiles : r .tiles ≡ h .tiles
+    pub used : r .used ≡ placesUsed (entries f h) k
+    -- "each list is the first k sites of the whole town": place j of stop i is at i × k + j
+    pub lists : (i j : ℕ) → i < stopCount cols → j < k
+        → placeAt (left .lists) (i * k + j)
+        ≡ getD (fullSearch (entries f h) k (getD (stopsOf cols) i []) (townOf f h)) j noPlace
+    -- what that is: the town's sites, each once, in their ranking, and every site left out behind every listed one
+    pub first : All (λ p. FullSearch (entries f h) k p (townOf f h)) (stopsOf cols)
+    -- "by Euclidean distance, ties by tile and slot"
+    pub ranking : (p : List ℤ) (a b : Place) (s : SiteOf (entries f h) p (townOf f h) a)
+        (u : SiteOf (entries f h) p (townOf f h) b)
+        → (rank a b ≡ true) ↔ ByDistanceTileSlot (entries f h) s u
+    -- and the town has T tiles, each with the count of its entry and all sites inside the box of its entry
+    pub agrees : Agrees (entries f h) (townOf f h)
+
+  -- "Suppose the join answers"
   pub record Demand3 (r : Result) : Type 0 where
     -- T is the directory's, and the box of 'struck' "the smallest box around the stops"
     pub header : directory f ≡ accepted h
