@@ -22,7 +22,7 @@ use Rattle.list.specs.Lists.{Long, Slices, placeAt}
 use Rattle.plan.specs.FilePlan.{axisCount, plane, entries, openingOf, townOf}
 use Rattle.search.specs.Claims.{FullSearch, RunAnswers}
 use Rattle.search.specs.FullSearch.{firstOf, fullSearch}
-use Rattle.search.specs.Lists.{range, Distinct}
+use Rattle.search.specs.Lists.{Distinct}
 use Rattle.search.specs.Limits.{maxK}
 use Rattle.search.specs.Plan.{Town}
 use Rattle.search.specs.Pruning.{pruned, prunedCount}
@@ -34,24 +34,25 @@ use Rattle.tiles.specs.Tile.{tilePosition}
 use Rattle.tiles.specs.Validate.{validate}
 use Rattle.base.proofs.Outcomes.{accepted-injective, accepted-refused}
 use Rattle.blocks.proofs.Theorems.{same-directory, directory-exactly}
-use Rattle.codec.proofs.Over.{getD-run}
 use Rattle.list.proofs.Laying.{lay-place, lay-long}
-use Rattle.plan.proofs.Tables.{range-length}
+use Rattle.plan.proofs.Tables.{filled-at, filled-take}
 use Rattle.plan.proofs.Theorems.{opening-checked, join-depends, pruned-count-depends, marks-depend, used-depends}
 use Rattle.plan.proofs.Theorems.{good-opens, good-agrees}
 use Rattle.search.proofs.Lists.{all-map}
-use Rattle.search.proofs.Marks.{slices-length}
+use Rattle.search.proofs.Marks.{slices-length, marks-at}
 use Rattle.search.proofs.Theorems as run
 use Rattle.search.proofs.Walk.{by-outcome}
 use Rattle.stops.specs.Inner.Good.{GoodArguments}
 use Rattle.stops.proofs.ArgumentLaws.{arguments-good}
 use Rattle.stops.proofs.StopLaws.{stops-length}
 use Rattle.tiles.proofs.Theorems.{validate-exactly}
-use Rattle.join.specs.Claims.{fullRunFor, opened, left, Agreeing, Demand2, Demand3}
+use Rattle.join.specs.Claims.{fullRunFor, SameAnswer, opened, left, Agreeing, Demand2}
+use Rattle.join.specs.Claims.{Demand3}
 use Rattle.join.specs.Inner.Running.{RunReady}
 use Rattle.join.specs.Join.{Result, End, runFor, lengthsOf, tests, filled, ended, runEnd, joinFrom, joinEnd}
+use Rattle.join.proofs.Alike.{outcome-alike, answer-alike}
 use Rattle.join.proofs.Calling.{tests-pass, run-ready}
-use Rattle.join.proofs.Running.{smallest, lawful, take-over}
+use Rattle.join.proofs.Running.{smallest, lawful}
 
 first-stop : (P : List ℤ → Type 0) (ps : List (List ℤ)) → 0 < length ps → All P ps → (p : List ℤ) × P p
 first-stop P [] h a = absurd (omega arith)
@@ -65,31 +66,48 @@ pub never-pruned : (f : List ℕ) (h : Header) (cols : List (List ℤ)) (k : ℕ
 unfolding runFor
 never-pruned f h cols k = run.never-pruned (entries f h) (around cols) k (openingOf f h) (stopsOf cols)
 
+-- The outcome looks at nothing of the slices but their lengths, of every file.
+pub lengths-decide : (f : List ℕ) (cols : List (List ℤ)) (k : ℕ) (out out′ : Slices) → lengthsOf out′ ≡ lengthsOf out
+    → joinEnd f cols k out′ .outcome ≡ joinEnd f cols k out .outcome
+lengths-decide = outcome-alike
+
+-- "Any file of the same length, equal to this one in every byte of the directory and of the opened tiles"
+module _ (f : List ℕ) (cols : List (List ℤ)) (k : ℕ) (g : List ℕ) (h : Header) (d : directory f ≡ accepted h)
+    (same : SameDirectory f g h)
+    (alike : All (λ t. blockAt g (tilePosition h t) ≡ blockAt f (tilePosition h t)) (runFor f h cols k .openings)) where
+  module _ (out : Slices) where
+    ended-same : (u : List ℕ) (o : Outcome (List (List Place))) → ended g h cols k u out o ≡ ended f h cols k u out o
+    unfolding ended filled
+    ended-same u (accepted ls) =
+        let o = around cols in
+        rw (used-depends f g h same k, pruned-count-depends f g h same o k, marks-depend f g h same o k u)
+    ended-same u (refused x y) = refl
+
+    run-same : runEnd g h cols k out ≡ runEnd f h cols k out
+    unfolding runEnd runFor
+    run-same =
+        let r = runFor f h cols k in
+        rw (join-depends f g h same (around cols) k (stopsOf cols) alike) (ended-same (r .openings) (r .outcome))
+
+    -- with the same slices the whole end of the call is the same, refusals included
+    pub other-files : joinEnd g cols k out ≡ joinEnd f cols k out
+    unfolding joinEnd tests joinFrom
+    other-files =
+        let e = same-directory f g h d same in
+        rw (d, e) (by-outcome (arguments (h .tiles) cols k (lengthsOf out)) (λ x q. rw q run-same) (λ n b q. rw q))
+
+  -- "with the same stops, k and output lengths", whatever the slices held before
+  module _ (out out′ : Slices) (l : lengthsOf out′ ≡ lengthsOf out) where
+    -- the outcome is the same, refusals included
+    pub same-outcome : joinEnd g cols k out′ .outcome ≡ joinEnd f cols k out .outcome
+    same-outcome = ap (λ (z : End). z .outcome) (other-files out′) ∙ lengths-decide f cols k out out′ l
+
+    -- "gets .. an answer with the same lists, marks and counts": where tests 11 to 14 pass, of refused runs too
+    pub same-answer : arguments (h .tiles) cols k (lengthsOf out) ≡ accepted tt
+        → SameAnswer cols k h (joinEnd f cols k out) (joinEnd g cols k out′)
+    same-answer a = rw (other-files out′) (answer-alike f cols k out out′ l h d a)
+
 module _ (f : List ℕ) (cols : List (List ℤ)) (k : ℕ) (out : Slices) where
-  -- "Any file of the same length, equal to this one in every byte of the directory and of the opened tiles"
-  module _ (g : List ℕ) (h : Header) (d : directory f ≡ accepted h) (same : SameDirectory f g h)
-      (alike : All (λ t. blockAt g (tilePosition h t) ≡ blockAt f (tilePosition h t)) (runFor f h cols k .openings))
-    where
-      ended-same : (u : List ℕ) (o : Outcome (List (List Place))) → ended g h cols k u out o ≡ ended f h cols k u out o
-      unfolding ended filled
-      ended-same u (accepted ls) =
-          let o = around cols in
-          rw (used-depends f g h same k, pruned-count-depends f g h same o k, marks-depend f g h same o k u)
-      ended-same u (refused x y) = refl
-
-      run-same : runEnd g h cols k out ≡ runEnd f h cols k out
-      unfolding runEnd runFor
-      run-same =
-          let r = runFor f h cols k in
-          rw (join-depends f g h same (around cols) k (stopsOf cols) alike) (ended-same (r .openings) (r .outcome))
-
-      -- "gets an answer with the same lists, marks and counts": the whole end of the call, refusals included
-      pub other-files : joinEnd g cols k out ≡ joinEnd f cols k out
-      unfolding joinEnd tests joinFrom
-      other-files =
-          let e = same-directory f g h d same in
-          rw (d, e) (by-outcome (arguments (h .tiles) cols k (lengthsOf out)) (λ x q. rw q run-same) (λ n b q. rw q))
-
   -- Striking changes no run: with the struck tiles in the queue the same tiles are opened in the same order, with the
   -- same lists or the same refusal.
   pub pruning-opens-alike : length cols ≡ axisCount → Bytes f → (h : Header) → directory f ≡ accepted h
@@ -105,6 +123,7 @@ module _ (f : List ℕ) (cols : List (List ℤ)) (k : ℕ) (out : Slices) where
   -- "Suppose the join answers", with the result r: then all tests passed, and the run gave lists ls
   record Answered (r : Result) : Type 0 where
     h : Header
+    passed : arguments (h .tiles) cols k (lengthsOf out) ≡ accepted tt
     args : GoodArguments (h .tiles) cols k (lengthsOf out)
     ready : length cols ≡ axisCount → RunReady f h cols k out
     dir : directory f ≡ accepted h
@@ -128,6 +147,7 @@ module _ (f : List ℕ) (cols : List (List ℤ)) (k : ℕ) (out : Slices) where
       rw q at (tests-pass f cols k out d a) in
       record {
         h = h;
+        passed = a;
         args = arguments-good (h .tiles) cols k (lengthsOf out) a;
         ready = run-ready f cols k out d a;
         dir = d;
@@ -186,18 +206,16 @@ module _ (f : List ℕ) (cols : List (List ℤ)) (k : ℕ) (out : Slices) where
           ≡ getD (marks (entries f H) (around cols) k (opened f cols k out H)) t 0
       unfolding filled marks
       mark-left t i =
-          let ms = map (mark (entries f H) (around cols) k (opened f cols k out H)) (range 0 (H .tiles)) in
-          let n = range-length (mark (entries f H) (around cols) k (opened f cols k out H)) 0 (H .tiles) in
-          let e = getD-run (out .marks) 0 t ms (omega arith) (omega (arith, a .ready axes .args .marks)) in
-          rw (a .slices-are) (rw (zero-add t) at e)
+          let m = mark (entries f H) (around cols) k (opened f cols k out H) in
+          rw (a .slices-are) (filled-at m (out .marks) (H .tiles) t (a .ready axes .args .marks) i
+          ∙ sym (marks-at (entries f H) (around cols) k (opened f cols k out H) t i))
 
       marks-left : take (H .tiles) (left f cols k out H .marks)
           ≡ marks (entries f H) (around cols) k (opened f cols k out H)
       unfolding filled marks
       marks-left =
-          let ms = map (mark (entries f H) (around cols) k (opened f cols k out H)) (range 0 (H .tiles)) in
-          let n = range-length (mark (entries f H) (around cols) k (opened f cols k out H)) 0 (H .tiles) in
-          rw (a .slices-are) (take-over (H .tiles) (out .marks) ms n (a .ready axes .args .marks))
+          rw (a .slices-are) (filled-take (mark (entries f H) (around cols) k (opened f cols k out H)) (out .marks)
+          (H .tiles) (a .ready axes .args .marks))
 
       -- place j of the list of stop i
       place-left : length (a .ls) ≡ stopCount cols → (i j : ℕ) → i < stopCount cols → j < k
@@ -237,7 +255,7 @@ module _ (f : List ℕ) (cols : List (List ℤ)) (k : ℕ) (out : Slices) where
             count-opened = ap (λ (z : Result). z .opened) (a .result) ∙ sym (rw (marks-left r a) (d .count-opened));
             count-pruned = ap (λ (z : Result). z .pruned) (a .result) ∙ sym (rw (marks-left r a) (d .count-pruned));
             count-used = ap (λ (z : Result). z .used) (a .result);
-            other-files = λ g same l. other-files g h (a .dir) same l;
+            other-files = λ g same l out′ n. same-answer f cols k g h (a .dir) same l out out′ n (a .passed);
           },
         )
 

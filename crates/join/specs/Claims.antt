@@ -1,6 +1,7 @@
 -- What the demands claim of a call: about the file, the answer, and the lent slices at the end.
 --
 --   fullRunFor   the run that striking is compared with
+--   SameAnswer   two calls with the same lists, marks and counts
 --   Demand2      a call on a file that passes the full check
 --   Demand3      a call that answers
 use Prim.Native.Nat.{ℕ, _+_, _*_, _<_}
@@ -28,11 +29,18 @@ use Rattle.search.specs.Run.{Run, rank, noPlace, fullQueue, run, placesUsed, op
 use Rattle.search.specs.declared.Place.{Place}
 use Rattle.stops.specs.Stops.{stopCount, stopsOf}
 use Rattle.tiles.specs.Tile.{tilePosition}
-use Rattle.join.specs.Join.{Result, runFor, joinEnd}
+use Rattle.join.specs.Join.{Result, End, runFor, lengthsOf, joinEnd}
 
 -- the run of `runFor` with the struck tiles in each stop's queue
 abbrev pub fullRunFor : List ℕ → Header → List (List ℤ) → ℕ → Run (List (List Place))
 fullRunFor f h cols k = run (entries f h) k (fullQueue (entries f h)) (openingOf f h) (stopsOf cols) []
+
+-- "an answer with the same lists, marks and counts": the same outcome, the same in the first n × k places and in the
+-- first T marks
+pub record SameAnswer (cols : List (List ℤ)) (k : ℕ) (h : Header) (a b : End) : Type 0 where
+  pub outcome : b .outcome ≡ a .outcome
+  pub lists : (i : ℕ) → i < stopCount cols * k → placeAt (b .slices .lists) i ≡ placeAt (a .slices .lists) i
+  pub marks : (t : ℕ) → t < h .tiles → getD (b .slices .marks) t 0 ≡ getD (a .slices .marks) t 0
 
 module _ (f : List ℕ) (cols : List (List ℤ)) (k : ℕ) (out : Slices) (h : Header) where
   -- the tiles opened, and the slices at the end
@@ -91,8 +99,9 @@ module _ (f : List ℕ) (cols : List (List ℤ)) (k : ℕ) (out : Slices) (h : H
     pub count-opened : r .opened ≡ count (λ m. eqb m openedMark) (take (h .tiles) (left .marks))
     pub count-pruned : r .pruned ≡ count (λ m. eqb m prunedMark) (take (h .tiles) (left .marks))
     pub count-used : r .used ≡ placesUsed (entries f h) k
-    -- "Any file of the same length, equal to this one in every byte of the directory and of the opened tiles, gets an
-    -- answer with the same lists, marks and counts"
+    -- "Any file of the same length, equal to this one in every byte of the directory and of the opened tiles, gets,
+    -- with the same stops, k and output lengths, an answer with the same lists, marks and counts"
     pub other-files : (g : List ℕ) → SameDirectory f g h
         → All (λ t. blockAt g (tilePosition h t) ≡ blockAt f (tilePosition h t)) opened
-        → joinEnd g cols k out ≡ joinEnd f cols k out
+        → (out′ : Slices) → lengthsOf out′ ≡ lengthsOf out
+        → SameAnswer cols k h (joinEnd f cols k out) (joinEnd g cols k out′)
