@@ -24,29 +24,31 @@ use Rattle.search.specs.Claims.{FullSearch, RunAnswers}
 use Rattle.search.specs.FullSearch.{firstOf, fullSearch}
 use Rattle.search.specs.Lists.{Distinct}
 use Rattle.search.specs.Limits.{maxK}
-use Rattle.search.specs.Plan.{Town}
+use Rattle.search.specs.Plan.{ranked, Town}
 use Rattle.search.specs.Pruning.{pruned, prunedCount}
 use Rattle.search.specs.Run.{join, mark, padded, noPlace, slices, placesUsed, marks}
 use Rattle.search.specs.declared.Place.{Place}
 use Rattle.stops.specs.Arguments.{arguments}
 use Rattle.stops.specs.Stops.{stopCount, stopsOf}
-use Rattle.tiles.specs.Tile.{tilePosition}
+use Rattle.tiles.specs.Tile.{tilePosition, openTile, sitesAt}
 use Rattle.tiles.specs.Validate.{validate}
-use Rattle.base.proofs.Outcomes.{accepted-injective, accepted-refused}
+use Rattle.base.proofs.Outcomes.{accepted-injective, accepted-refused, andThen-refused}
 use Rattle.blocks.proofs.Theorems.{same-directory, directory-exactly}
 use Rattle.list.proofs.Laying.{lay-place, lay-long}
 use Rattle.plan.proofs.Tables.{filled-at, filled-take}
 use Rattle.plan.proofs.Theorems.{opening-checked, join-depends, pruned-count-depends, marks-depend, used-depends}
 use Rattle.plan.proofs.Theorems.{good-opens, good-agrees}
-use Rattle.search.proofs.Lists.{all-map}
+use Rattle.search.proofs.Lists.{all-map, all-both}
 use Rattle.search.proofs.Marks.{slices-length, marks-at}
+use Rattle.search.proofs.Queue.{candidate-unpruned, candidate-some}
+use Rattle.search.proofs.Run.{join-refused}
 use Rattle.search.proofs.Theorems as run
 use Rattle.search.proofs.Walk.{by-outcome}
 use Rattle.stops.specs.Inner.Good.{GoodArguments}
 use Rattle.stops.proofs.ArgumentLaws.{arguments-good}
 use Rattle.stops.proofs.StopLaws.{stops-length}
-use Rattle.tiles.proofs.Theorems.{validate-exactly}
-use Rattle.join.specs.Claims.{fullRunFor, SameAnswer, opened, left, Agreeing, Demand2}
+use Rattle.tiles.proofs.Theorems.{opening-refused, validate-exactly}
+use Rattle.join.specs.Claims.{fullRunFor, SameAnswer, RefusedRun, opened, left, Agreeing, Demand2}
 use Rattle.join.specs.Claims.{Demand3}
 use Rattle.join.specs.Inner.Running.{RunReady}
 use Rattle.join.specs.Join.{Result, End, runFor, lengthsOf, tests, filled, ended, runEnd, joinFrom, joinEnd}
@@ -107,7 +109,58 @@ module _ (f : List ℕ) (cols : List (List ℤ)) (k : ℕ) (g : List ℕ) (h : H
         → SameAnswer cols k h (joinEnd f cols k out) (joinEnd g cols k out′)
     same-answer a = rw (other-files out′) (answer-alike f cols k out out′ l h d a)
 
+-- "no struck tile is opened, not even in a refused run", as it can be seen: whatever the blocks of struck tiles hold,
+-- outcome and slices are the same
+pub pruned-unread : (f : List ℕ) (cols : List (List ℤ)) (k : ℕ) (out : Slices) (g : List ℕ) (h : Header)
+    → directory f ≡ accepted h → SameDirectory f g h
+    → ((t : ℕ) → t < h .tiles → pruned (entries f h) (around cols) k t ≡ false
+    → blockAt g (tilePosition h t) ≡ blockAt f (tilePosition h t))
+    → joinEnd g cols k out ≡ joinEnd f cols k out
+unfolding runFor
+pruned-unread f cols k out g h d same others =
+    other-files f cols k g h d same
+    (all-both (λ t. t < h .tiles) (λ t. pruned (entries f h) (around cols) k t ≡ false)
+    (λ t. blockAt g (tilePosition h t) ≡ blockAt f (tilePosition h t)) (runFor f h cols k .openings) others
+    (run.only-tiles (entries f h) (around cols) k (openingOf f h) (stopsOf cols)) (never-pruned f h cols k)) out
+
 module _ (f : List ℕ) (cols : List (List ℤ)) (k : ℕ) (out : Slices) where
+  -- a run that is refused
+  module _ (h : Header) (d : directory f ≡ accepted h)
+      (a : arguments (h .tiles) cols k (lengthsOf out) ≡ accepted tt) (n p : ℕ)
+      (e : joinEnd f cols k out .outcome ≡ refused n p) where
+    run-refused : runFor f h cols k .outcome ≡ refused n p
+    unfolding runEnd ended
+    run-refused =
+        let u = runFor f h cols k .openings in
+        by-outcome (runFor f h cols k .outcome)
+        (λ ls q.
+        let w : joinEnd f cols k out ≡ ended f h cols k u out (accepted ls) = rw q at (tests-pass f cols k out d a) in
+        accepted-refused (ap (λ (z : End). z .outcome) w) e)
+        (λ x y q.
+        let w : joinEnd f cols k out ≡ ended f h cols k u out (refused x y) = rw q at (tests-pass f cols k out d a) in
+        let z : _≡_ {A = Outcome Result} (refused x y) (refused n p) = sym (ap (λ (z : End). z .outcome) w) ∙ e in
+        let i : x ≡ n = cc in
+        let j : y ≡ p = cc in
+        q ∙ rw (i, j))
+
+    -- "not even in a refused run": what refuses it is the opening of a tile that is not struck
+    pub refused-run : RefusedRun f h cols k n p
+    unfolding runFor openingOf ranked
+    refused-run =
+        let E = entries f h in
+        let r = join-refused E (around cols) k (openingOf f h) (stopsOf cols) n p run-refused in
+        let t = r .0 in
+        let c = r .1 in
+        let o : openTile f h t ≡ refused n p = andThen-refused (openTile f h t) (λ _. sitesAt f h t) (r .2) in
+        record {
+          tile = t;
+          below = c .0;
+          position = opening-refused f h t o;
+          unpruned = candidate-unpruned E (around cols) k t (c .1);
+          some = candidate-some E (around cols) k t (c .1);
+          refuses = o;
+        }
+
   -- Striking changes no run: with the struck tiles in the queue the same tiles are opened in the same order, with the
   -- same lists or the same refusal.
   pub pruning-opens-alike : length cols ≡ axisCount → Bytes f → (h : Header) → directory f ≡ accepted h

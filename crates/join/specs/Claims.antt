@@ -2,6 +2,7 @@
 --
 --   fullRunFor   the run that striking is compared with
 --   SameAnswer   two calls with the same lists, marks and counts
+--   RefusedRun   a call whose run is refused
 --   Demand2      a call on a file that passes the full check
 --   Demand3      a call that answers
 use Prim.Native.Nat.{ℕ, _+_, _*_, _<_}
@@ -12,9 +13,9 @@ use mathlib.Core.Path.{_≡_}
 use lib.Dec.{eqb}
 use lib.IntN.{ℤ}
 use lib.ListN.{length, getD, take}
-use Rattle.base.specs.Refusal.{accepted}
+use Rattle.base.specs.Refusal.{accepted, refused}
 use Rattle.blocks.specs.Block.{blockAt}
-use Rattle.blocks.specs.Directory.{directory}
+use Rattle.blocks.specs.Directory.{directory, countAt}
 use Rattle.blocks.specs.Same.{SameDirectory}
 use Rattle.blocks.specs.declared.header.Header.{Header}
 use Rattle.geometry.specs.Around.{around, SmallestAround}
@@ -28,7 +29,7 @@ use Rattle.search.specs.Pruning.{pruned}
 use Rattle.search.specs.Run.{Run, rank, noPlace, fullQueue, run, placesUsed, openedMark, prunedMark}
 use Rattle.search.specs.declared.Place.{Place}
 use Rattle.stops.specs.Stops.{stopCount, stopsOf}
-use Rattle.tiles.specs.Tile.{tilePosition}
+use Rattle.tiles.specs.Tile.{tilePosition, openTile}
 use Rattle.join.specs.Join.{Result, End, runFor, lengthsOf, joinEnd}
 
 -- the run of `runFor` with the struck tiles in each stop's queue
@@ -41,6 +42,16 @@ pub record SameAnswer (cols : List (List ℤ)) (k : ℕ) (h : Header) (a b : End
   pub outcome : b .outcome ≡ a .outcome
   pub lists : (i : ℕ) → i < stopCount cols * k → placeAt (b .slices .lists) i ≡ placeAt (a .slices .lists) i
   pub marks : (t : ℕ) → t < h .tiles → getD (b .slices .marks) t 0 ≡ getD (a .slices .marks) t 0
+
+-- "no struck tile is opened, not even in a refused run": number and block of the refusal are those of a tile that is
+-- neither struck nor empty
+pub record RefusedRun (f : List ℕ) (h : Header) (cols : List (List ℤ)) (k number block : ℕ) : Type 0 where
+  pub tile : ℕ
+  pub below : tile < h .tiles
+  pub position : block ≡ tilePosition h tile
+  pub unpruned : pruned (entries f h) (around cols) k tile ≡ false
+  pub some : 0 < countAt f tile
+  pub refuses : openTile f h tile ≡ refused number block
 
 module _ (f : List ℕ) (cols : List (List ℤ)) (k : ℕ) (out : Slices) (h : Header) where
   -- the tiles opened, and the slices at the end
