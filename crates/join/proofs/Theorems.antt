@@ -2,13 +2,15 @@
 -- definition `joinEnd` (specs/Join), what is claimed `Demand2` and `Demand3` (specs/Claims). f is the file, cols the
 -- stops by columns, on as many axes as the town has.
 use Prim.Native.Nat.{ℕ, suc, _+_, _*_, _<_, _≤_}
-use mathlib.Core.Bool.{true, false}
+use mathlib.Core.Bool.{true, false, _&&_}
 use mathlib.Core.List.{List, [], _∷_, map}
 use mathlib.Core.Path.{_≡_, refl, sym, ap, _∙_, subst}
 use native.Mathlib.Nat.{zero-add, mul-le-mul}
 use native.Mathlib.Omega.{arith}
+use lib.Dec.{leb}
 use lib.IntN.{ℤ}
 use lib.ListN.{length, getD, take, length-map}
+use borrow.Author.Tests.{le-leb}
 use Rattle.base.specs.Lists.{All}
 use Rattle.base.specs.Refusal.{Outcome, accepted, refused}
 use Rattle.blocks.specs.Block.{blockAt}
@@ -20,10 +22,11 @@ use Rattle.geometry.specs.Around.{around}
 use Rattle.geometry.specs.Box.{inside}
 use Rattle.list.specs.Lists.{Long, Slices, placeAt}
 use Rattle.plan.specs.FilePlan.{axisCount, plane, entries, openingOf, townOf}
+use Rattle.prune.specs.Prune.{Counts, pruneCall}
 use Rattle.search.specs.Claims.{FullSearch, RunAnswers}
 use Rattle.search.specs.FullSearch.{firstOf, fullSearch}
 use Rattle.search.specs.Lists.{Distinct}
-use Rattle.search.specs.Limits.{maxK}
+use Rattle.search.specs.Limits.{validK, maxK}
 use Rattle.search.specs.Plan.{ranked, Town}
 use Rattle.search.specs.Pruning.{pruned, prunedCount}
 use Rattle.search.specs.Run.{join, mark, padded, noPlace, slices, placesUsed, marks}
@@ -33,11 +36,13 @@ use Rattle.stops.specs.Stops.{stopCount, stopsOf}
 use Rattle.tiles.specs.Tile.{tilePosition, openTile, sitesAt}
 use Rattle.tiles.specs.Validate.{validate}
 use Rattle.base.proofs.Outcomes.{accepted-injective, accepted-refused, andThen-refused}
+use Rattle.base.proofs.Tests.{both-and}
 use Rattle.blocks.proofs.Theorems.{same-directory, directory-exactly}
 use Rattle.list.proofs.Laying.{lay-place, lay-long}
 use Rattle.plan.proofs.Tables.{filled-at, filled-take}
 use Rattle.plan.proofs.Theorems.{opening-checked, join-depends, pruned-count-depends, marks-depend, used-depends}
 use Rattle.plan.proofs.Theorems.{good-opens, good-agrees}
+use Rattle.prune.proofs.Theorems as striking
 use Rattle.search.proofs.Lists.{all-map, all-both}
 use Rattle.search.proofs.Marks.{slices-length, marks-at}
 use Rattle.search.proofs.Queue.{candidate-unpruned, candidate-some}
@@ -48,7 +53,7 @@ use Rattle.stops.specs.Inner.Good.{GoodArguments}
 use Rattle.stops.proofs.ArgumentLaws.{arguments-good}
 use Rattle.stops.proofs.StopLaws.{stops-length}
 use Rattle.tiles.proofs.Theorems.{opening-refused, validate-exactly}
-use Rattle.join.specs.Claims.{fullRunFor, SameAnswer, RefusedRun, opened, left, Agreeing, Demand2}
+use Rattle.join.specs.Claims.{fullRunFor, SameAnswer, RefusedRun, PrunesAlike, opened, left, Agreeing, Demand2}
 use Rattle.join.specs.Claims.{Demand3}
 use Rattle.join.specs.Inner.Running.{RunReady}
 use Rattle.join.specs.Join.{Result, End, runFor, lengthsOf, tests, filled, ended, runEnd, joinFrom, joinEnd}
@@ -311,6 +316,39 @@ module _ (f : List ℕ) (cols : List (List ℤ)) (k : ℕ) (out : Slices) where
             other-files = λ g same l out′ n. same-answer f cols k g h (a .dir) same l out out′ n (a .passed);
           },
         )
+
+    -- ---- the call that strikes
+
+    module _ (r : Result) (e : joinEnd f cols k out .outcome ≡ accepted r) (lent : List ℕ) where
+      prune-answers : r .tiles ≤ length lent
+          → pruneCall f (around cols) k lent ≡ accepted (record { tiles = r .tiles; pruned = r .pruned })
+      unfolding pruneCall validK
+      prune-answers l =
+          let a = answered r e in
+          let good-k : leb 1 k && leb k maxK ≡ true =
+          both-and (le-leb 1 k (a .args .some-k)) (le-leb k maxK (a .args .few-k)) in
+          let tiles : a .h .tiles ≡ r .tiles = ap (λ (z : Result). z .tiles) (sym (a .result)) in
+          let long : leb (a .h .tiles) (length lent) ≡ true =
+          le-leb (a .h .tiles) (length lent) (omega (arith, tiles)) in
+          let struck : prunedCount (entries f (a .h)) (around cols) k ≡ r .pruned =
+          ap (λ (z : Result). z .pruned) (sym (a .result)) in
+          rw (a .dir, good-k, smallest (a .ready axes) .valid, long, struck, tiles)
+
+      -- "1 exactly when it is struck", by both calls: strike, for the smallest box around the stops, the same k and any
+      -- marks of at least T elements, gives the T and the number struck of the join, and marks the same tiles
+      pub prunes-alike : r .tiles ≤ length lent → PrunesAlike f cols k out r lent
+      prunes-alike l =
+          let a = answered r e in
+          let c : Counts = record { tiles = r .tiles; pruned = r .pruned } in
+          let tiles : r .tiles ≡ a .h .tiles = ap (λ (z : Result). z .tiles) (a .result) in
+          record {
+            answers = prune-answers l;
+            marked = λ t i.
+                let j : t < a .h .tiles = omega (arith, tiles) in
+                let mine = demand r a .marked-pruned t j in
+                let its = striking.marked-pruned f (around cols) k lent c (prune-answers l) (a .h) (a .dir) t j in
+                rw (mark-left r a t j) (λ m. its .1 (mine .0 m), λ m. mine .1 (its .0 m));
+          }
 
     module _ (r : Result) (e : joinEnd f cols k out .outcome ≡ accepted r) (h : Header)
         (d : directory f ≡ accepted h) where

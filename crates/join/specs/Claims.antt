@@ -3,6 +3,7 @@
 --   fullRunFor   the run that striking is compared with
 --   SameAnswer   two calls with the same lists, marks and counts
 --   RefusedRun   a call whose run is refused
+--   PrunesAlike  a call that answers, and the call that strikes
 --   Demand2      a call on a file that passes the full check
 --   Demand3      a call that answers
 use Prim.Native.Nat.{ℕ, _+_, _*_, _<_}
@@ -21,6 +22,7 @@ use Rattle.blocks.specs.declared.header.Header.{Header}
 use Rattle.geometry.specs.Around.{around, SmallestAround}
 use Rattle.list.specs.Lists.{Slices, placeAt}
 use Rattle.plan.specs.FilePlan.{plane, entries, openingOf, townOf}
+use Rattle.prune.specs.Prune.{pruneCall, marksAfter}
 use Rattle.search.specs.Claims.{FullSearch}
 use Rattle.search.specs.FullSearch.{SiteOf, ByDistanceTileSlot, fullSearch, Fits, Changes}
 use Rattle.search.specs.Lists.{count, member, All, Distinct}
@@ -52,6 +54,16 @@ pub record RefusedRun (f : List ℕ) (h : Header) (cols : List (List ℤ)) (k nu
   pub unpruned : pruned (entries f h) (around cols) k tile ≡ false
   pub some : 0 < countAt f tile
   pub refuses : openTile f h tile ≡ refused number block
+
+-- strike, for "the smallest box around the stops", the same k and any marks that are long enough
+pub record PrunesAlike (f : List ℕ) (cols : List (List ℤ)) (k : ℕ) (out : Slices) (r : Result) (lent : List ℕ) : Type 0
+  where
+    -- it answers, with the T and the number struck of the join
+    pub answers : pruneCall f (around cols) k lent ≡ accepted (record { tiles = r .tiles; pruned = r .pruned })
+    -- and leaves the mark 1 exactly where the join does
+    pub marked : (t : ℕ) → t < r .tiles
+        → (getD (joinEnd f cols k out .slices .marks) t 0 ≡ prunedMark)
+        ↔ (getD (marksAfter f (around cols) k lent (pruneCall f (around cols) k lent)) t 0 ≡ prunedMark)
 
 module _ (f : List ℕ) (cols : List (List ℤ)) (k : ℕ) (out : Slices) (h : Header) where
   -- the tiles opened, and the slices at the end
