@@ -1,3 +1,4 @@
 pub mod Running
 pub mod Calling
+pub mod Alike
 pub mod Theorems

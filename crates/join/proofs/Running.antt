@@ -8,7 +8,6 @@ use native.Mathlib.Omega.{arith}
 use lib.Dec.{eqb, ltb}
 use lib.IntN.{ℤ}
 use lib.ListN.{length, take, replicate, length-replicate}
-use lib.Seq.{take-at}
 use Rattle.base.specs.Lists.{All}
 use Rattle.base.specs.Refusal.{Outcome, accepted, refused, andThen}
 use Rattle.blocks.specs.declared.header.Header.{Header}
@@ -33,11 +32,11 @@ use Rattle.serve.specs.Inner.Marks.{markAll}
 use Rattle.serve.specs.Inner.Serving.{lastLength, waiting, walksOf, StopsReady, afterStops}
 use Rattle.stops.specs.Stops.{stopCount, stopsOf, validStop}
 use Rattle.base.proofs.Outcomes.{andThen-accepted, andThen-refused, accepted-injective}
-use Rattle.codec.proofs.Over.{over-under, over-eq, length-over}
+use Rattle.codec.proofs.Over.{over-under, length-over}
 use Rattle.geometry.proofs.Theorems.{all-rows, around-smallest}
 use Rattle.list.proofs.Laying.{lay-under, lay-long}
 use Rattle.list.proofs.Padding.{clear-all}
-use Rattle.plan.proofs.Tables.{filled-at, range-length, bit-small}
+use Rattle.plan.proofs.Tables.{filled-at, filled-take, range-length, bit-small}
 use Rattle.plan.proofs.Theorems.{plan-lawful, opening-checked}
 use Rattle.search.proofs.Cut.{join-cut, cuts-length}
 use Rattle.search.proofs.Equation.{Alike, withNew-member}
@@ -62,10 +61,6 @@ same-end : {used u tiles opened o p q : ℕ} {out out′ : Slices} → used ≡ 
     (record { outcome = accepted (record { used = used; tiles = tiles; opened = opened; pruned = p }); slices = out })
     (record { outcome = accepted (record { used = u; tiles = tiles; opened = o; pruned = q }); slices = out′ })
 same-end a b c d = rw (a, b, c, d)
-
--- what was laid at the start, taken
-pub take-over : (n : ℕ) (l vs : List ℕ) → length vs ≡ n → n ≤ length l → take n (over l 0 vs) ≡ vs
-take-over n l vs e h = rw (over-eq l 0 vs (omega arith)) (take-at vs _ n e)
 
 eq-bit : (b : Bool) → eqb (bit b) prunedMark ≡ b
 eq-bit true = refl
@@ -219,9 +214,7 @@ module _ {f : List ℕ} {h : Header} {cols : List (List ℤ)} {k : ℕ} {out : S
     unfolding runFor marks
     opened-is =
         let opened = join (entries f h) O k (openingOf f h) (stopsOf cols) .openings in
-        let l = range-length (mark (entries f h) O k opened) 0 (h .tiles) in
-        rw (take-over (h .tiles) (out .marks) (map (mark (entries f h) O k opened) (range 0 (h .tiles))) l
-        (r .args .marks))
+        rw (filled-take (mark (entries f h) O k opened) (out .marks) (h .tiles) (r .args .marks))
         (opened-count (entries f h) O k (openingOf f h) (stopsOf cols))
 
     used-is : (ls : List (List Place)) → walksFor f h cols k .out ≡ accepted ls

@@ -1,14 +1,16 @@
 -- The theorems for the reader: demands 2 and 3 about files, answers and the lent slices. The call is `call::join`, its
--- definition `joinEnd` (specs/Join), what is claimed `Demand3` (specs/Claims). f is the file, cols the stops by
--- columns, on as many axes as the town has.
+-- definition `joinEnd` (specs/Join), what is claimed `Demand2` and `Demand3` (specs/Claims). f is the file, cols the
+-- stops by columns, on as many axes as the town has.
 use Prim.Native.Nat.{ℕ, suc, _+_, _*_, _<_, _≤_}
-use mathlib.Core.Bool.{true, false}
+use mathlib.Core.Bool.{true, false, _&&_}
 use mathlib.Core.List.{List, [], _∷_, map}
-use mathlib.Core.Path.{_≡_, refl, sym, ap, _∙_}
+use mathlib.Core.Path.{_≡_, refl, sym, ap, _∙_, subst}
 use native.Mathlib.Nat.{zero-add, mul-le-mul}
 use native.Mathlib.Omega.{arith}
+use lib.Dec.{leb}
 use lib.IntN.{ℤ}
 use lib.ListN.{length, getD, take, length-map}
+use borrow.Author.Tests.{le-leb}
 use Rattle.base.specs.Lists.{All}
 use Rattle.base.specs.Refusal.{Outcome, accepted, refused}
 use Rattle.blocks.specs.Block.{blockAt}
@@ -20,38 +22,44 @@ use Rattle.geometry.specs.Around.{around}
 use Rattle.geometry.specs.Box.{inside}
 use Rattle.list.specs.Lists.{Long, Slices, placeAt}
 use Rattle.plan.specs.FilePlan.{axisCount, plane, entries, openingOf, townOf}
+use Rattle.prune.specs.Prune.{Counts, pruneCall}
 use Rattle.search.specs.Claims.{FullSearch, RunAnswers}
 use Rattle.search.specs.FullSearch.{firstOf, fullSearch}
-use Rattle.search.specs.Lists.{range, Distinct}
-use Rattle.search.specs.Limits.{maxK}
-use Rattle.search.specs.Plan.{Town}
+use Rattle.search.specs.Lists.{Distinct}
+use Rattle.search.specs.Limits.{validK, maxK}
+use Rattle.search.specs.Plan.{ranked, Town}
 use Rattle.search.specs.Pruning.{pruned, prunedCount}
 use Rattle.search.specs.Run.{join, mark, padded, noPlace, slices, placesUsed, marks}
 use Rattle.search.specs.declared.Place.{Place}
 use Rattle.stops.specs.Arguments.{arguments}
 use Rattle.stops.specs.Stops.{stopCount, stopsOf}
-use Rattle.tiles.specs.Tile.{tilePosition}
+use Rattle.tiles.specs.Tile.{tilePosition, openTile, sitesAt}
 use Rattle.tiles.specs.Validate.{validate}
-use Rattle.base.proofs.Outcomes.{accepted-injective, accepted-refused}
+use Rattle.base.proofs.Outcomes.{accepted-injective, accepted-refused, andThen-refused}
+use Rattle.base.proofs.Tests.{both-and}
 use Rattle.blocks.proofs.Theorems.{same-directory, directory-exactly}
-use Rattle.codec.proofs.Over.{getD-run}
 use Rattle.list.proofs.Laying.{lay-place, lay-long}
-use Rattle.plan.proofs.Tables.{range-length}
+use Rattle.plan.proofs.Tables.{filled-at, filled-take}
 use Rattle.plan.proofs.Theorems.{opening-checked, join-depends, pruned-count-depends, marks-depend, used-depends}
 use Rattle.plan.proofs.Theorems.{good-opens, good-agrees}
-use Rattle.search.proofs.Lists.{all-map}
-use Rattle.search.proofs.Marks.{slices-length}
+use Rattle.prune.proofs.Theorems as striking
+use Rattle.search.proofs.Lists.{all-map, all-both}
+use Rattle.search.proofs.Marks.{slices-length, marks-at}
+use Rattle.search.proofs.Queue.{candidate-unpruned, candidate-some}
+use Rattle.search.proofs.Run.{join-refused}
 use Rattle.search.proofs.Theorems as run
 use Rattle.search.proofs.Walk.{by-outcome}
 use Rattle.stops.specs.Inner.Good.{GoodArguments}
 use Rattle.stops.proofs.ArgumentLaws.{arguments-good}
 use Rattle.stops.proofs.StopLaws.{stops-length}
-use Rattle.tiles.proofs.Theorems.{validate-exactly}
-use Rattle.join.specs.Claims.{opened, left, Agreeing, Demand3}
+use Rattle.tiles.proofs.Theorems.{opening-refused, validate-exactly}
+use Rattle.join.specs.Claims.{fullRunFor, SameAnswer, RefusedRun, PrunesAlike, opened, left, Agreeing, Demand2}
+use Rattle.join.specs.Claims.{Demand3}
 use Rattle.join.specs.Inner.Running.{RunReady}
 use Rattle.join.specs.Join.{Result, End, runFor, lengthsOf, tests, filled, ended, runEnd, joinFrom, joinEnd}
+use Rattle.join.proofs.Alike.{outcome-alike, answer-alike}
 use Rattle.join.proofs.Calling.{tests-pass, run-ready}
-use Rattle.join.proofs.Running.{smallest, lawful, take-over}
+use Rattle.join.proofs.Running.{smallest, lawful}
 
 first-stop : (P : List ℤ → Type 0) (ps : List (List ℤ)) → 0 < length ps → All P ps → (p : List ℤ) × P p
 first-stop P [] h a = absurd (omega arith)
@@ -65,36 +73,115 @@ pub never-pruned : (f : List ℕ) (h : Header) (cols : List (List ℤ)) (k : ℕ
 unfolding runFor
 never-pruned f h cols k = run.never-pruned (entries f h) (around cols) k (openingOf f h) (stopsOf cols)
 
+-- The outcome looks at nothing of the slices but their lengths, of every file.
+pub lengths-decide : (f : List ℕ) (cols : List (List ℤ)) (k : ℕ) (out out′ : Slices) → lengthsOf out′ ≡ lengthsOf out
+    → joinEnd f cols k out′ .outcome ≡ joinEnd f cols k out .outcome
+lengths-decide = outcome-alike
+
+-- "Any file of the same length, equal to this one in every byte of the directory and of the opened tiles"
+module _ (f : List ℕ) (cols : List (List ℤ)) (k : ℕ) (g : List ℕ) (h : Header) (d : directory f ≡ accepted h)
+    (same : SameDirectory f g h)
+    (alike : All (λ t. blockAt g (tilePosition h t) ≡ blockAt f (tilePosition h t)) (runFor f h cols k .openings)) where
+  module _ (out : Slices) where
+    ended-same : (u : List ℕ) (o : Outcome (List (List Place))) → ended g h cols k u out o ≡ ended f h cols k u out o
+    unfolding ended filled
+    ended-same u (accepted ls) =
+        let o = around cols in
+        rw (used-depends f g h same k, pruned-count-depends f g h same o k, marks-depend f g h same o k u)
+    ended-same u (refused x y) = refl
+
+    run-same : runEnd g h cols k out ≡ runEnd f h cols k out
+    unfolding runEnd runFor
+    run-same =
+        let r = runFor f h cols k in
+        rw (join-depends f g h same (around cols) k (stopsOf cols) alike) (ended-same (r .openings) (r .outcome))
+
+    -- with the same slices the whole end of the call is the same, refusals included
+    pub other-files : joinEnd g cols k out ≡ joinEnd f cols k out
+    unfolding joinEnd tests joinFrom
+    other-files =
+        let e = same-directory f g h d same in
+        rw (d, e) (by-outcome (arguments (h .tiles) cols k (lengthsOf out)) (λ x q. rw q run-same) (λ n b q. rw q))
+
+  -- "with the same stops, k and output lengths", whatever the slices held before
+  module _ (out out′ : Slices) (l : lengthsOf out′ ≡ lengthsOf out) where
+    -- the outcome is the same, refusals included
+    pub same-outcome : joinEnd g cols k out′ .outcome ≡ joinEnd f cols k out .outcome
+    same-outcome = ap (λ (z : End). z .outcome) (other-files out′) ∙ lengths-decide f cols k out out′ l
+
+    -- "gets .. an answer with the same lists, marks and counts": where tests 11 to 14 pass, of refused runs too
+    pub same-answer : arguments (h .tiles) cols k (lengthsOf out) ≡ accepted tt
+        → SameAnswer cols k h (joinEnd f cols k out) (joinEnd g cols k out′)
+    same-answer a = rw (other-files out′) (answer-alike f cols k out out′ l h d a)
+
+-- "no struck tile is opened, not even in a refused run", as it can be seen: whatever the blocks of struck tiles hold,
+-- outcome and slices are the same
+pub pruned-unread : (f : List ℕ) (cols : List (List ℤ)) (k : ℕ) (out : Slices) (g : List ℕ) (h : Header)
+    → directory f ≡ accepted h → SameDirectory f g h
+    → ((t : ℕ) → t < h .tiles → pruned (entries f h) (around cols) k t ≡ false
+    → blockAt g (tilePosition h t) ≡ blockAt f (tilePosition h t))
+    → joinEnd g cols k out ≡ joinEnd f cols k out
+unfolding runFor
+pruned-unread f cols k out g h d same others =
+    other-files f cols k g h d same
+    (all-both (λ t. t < h .tiles) (λ t. pruned (entries f h) (around cols) k t ≡ false)
+    (λ t. blockAt g (tilePosition h t) ≡ blockAt f (tilePosition h t)) (runFor f h cols k .openings) others
+    (run.only-tiles (entries f h) (around cols) k (openingOf f h) (stopsOf cols)) (never-pruned f h cols k)) out
+
 module _ (f : List ℕ) (cols : List (List ℤ)) (k : ℕ) (out : Slices) where
-  -- "Any file of the same length, equal to this one in every byte of the directory and of the opened tiles"
-  module _ (g : List ℕ) (h : Header) (d : directory f ≡ accepted h) (same : SameDirectory f g h)
-      (alike : All (λ t. blockAt g (tilePosition h t) ≡ blockAt f (tilePosition h t)) (runFor f h cols k .openings))
-    where
-      ended-same : (u : List ℕ) (o : Outcome (List (List Place))) → ended g h cols k u out o ≡ ended f h cols k u out o
-      unfolding ended filled
-      ended-same u (accepted ls) =
-          let o = around cols in
-          rw (used-depends f g h same k, pruned-count-depends f g h same o k, marks-depend f g h same o k u)
-      ended-same u (refused x y) = refl
+  -- a run that is refused
+  module _ (h : Header) (d : directory f ≡ accepted h)
+      (a : arguments (h .tiles) cols k (lengthsOf out) ≡ accepted tt) (n p : ℕ)
+      (e : joinEnd f cols k out .outcome ≡ refused n p) where
+    run-refused : runFor f h cols k .outcome ≡ refused n p
+    unfolding runEnd ended
+    run-refused =
+        let u = runFor f h cols k .openings in
+        by-outcome (runFor f h cols k .outcome)
+        (λ ls q.
+        let w : joinEnd f cols k out ≡ ended f h cols k u out (accepted ls) = rw q at (tests-pass f cols k out d a) in
+        accepted-refused (ap (λ (z : End). z .outcome) w) e)
+        (λ x y q.
+        let w : joinEnd f cols k out ≡ ended f h cols k u out (refused x y) = rw q at (tests-pass f cols k out d a) in
+        let z : _≡_ {A = Outcome Result} (refused x y) (refused n p) = sym (ap (λ (z : End). z .outcome) w) ∙ e in
+        let i : x ≡ n = cc in
+        let j : y ≡ p = cc in
+        q ∙ rw (i, j))
 
-      run-same : runEnd g h cols k out ≡ runEnd f h cols k out
-      unfolding runEnd runFor
-      run-same =
-          let r = runFor f h cols k in
-          rw (join-depends f g h same (around cols) k (stopsOf cols) alike) (ended-same (r .openings) (r .outcome))
+    -- "not even in a refused run": what refuses it is the opening of a tile that is not struck
+    pub refused-run : RefusedRun f h cols k n p
+    unfolding runFor openingOf ranked
+    refused-run =
+        let E = entries f h in
+        let r = join-refused E (around cols) k (openingOf f h) (stopsOf cols) n p run-refused in
+        let t = r .0 in
+        let c = r .1 in
+        let o : openTile f h t ≡ refused n p = andThen-refused (openTile f h t) (λ _. sitesAt f h t) (r .2) in
+        record {
+          tile = t;
+          below = c .0;
+          position = opening-refused f h t o;
+          unpruned = candidate-unpruned E (around cols) k t (c .1);
+          some = candidate-some E (around cols) k t (c .1);
+          refuses = o;
+        }
 
-      -- "gets an answer with the same lists, marks and counts": the whole end of the call, refusals included
-      pub other-files : joinEnd g cols k out ≡ joinEnd f cols k out
-      unfolding joinEnd tests joinFrom
-      other-files =
-          let e = same-directory f g h d same in
-          rw (d, e) (by-outcome (arguments (h .tiles) cols k (lengthsOf out)) (λ x q. rw q run-same) (λ n b q. rw q))
+  -- Striking changes no run: with the struck tiles in the queue the same tiles are opened in the same order, with the
+  -- same lists or the same refusal.
+  pub pruning-opens-alike : length cols ≡ axisCount → Bytes f → (h : Header) → directory f ≡ accepted h
+      → arguments (h .tiles) cols k (lengthsOf out) ≡ accepted tt → fullRunFor f h cols k ≡ runFor f h cols k
+  unfolding runFor
+  pruning-opens-alike axes b h d a =
+      let w = run-ready f cols k out d a axes in
+      run.pruning-opens-alike (entries f h) (around cols) k (lawful w) (openingOf f h) (opening-checked f h b)
+      (stopsOf cols) (smallest w .holds)
 
   -- ---- a call that answers
 
   -- "Suppose the join answers", with the result r: then all tests passed, and the run gave lists ls
   record Answered (r : Result) : Type 0 where
     h : Header
+    passed : arguments (h .tiles) cols k (lengthsOf out) ≡ accepted tt
     args : GoodArguments (h .tiles) cols k (lengthsOf out)
     ready : length cols ≡ axisCount → RunReady f h cols k out
     dir : directory f ≡ accepted h
@@ -118,6 +205,7 @@ module _ (f : List ℕ) (cols : List (List ℤ)) (k : ℕ) (out : Slices) where
       rw q at (tests-pass f cols k out d a) in
       record {
         h = h;
+        passed = a;
         args = arguments-good (h .tiles) cols k (lengthsOf out) a;
         ready = run-ready f cols k out d a;
         dir = d;
@@ -176,18 +264,16 @@ module _ (f : List ℕ) (cols : List (List ℤ)) (k : ℕ) (out : Slices) where
           ≡ getD (marks (entries f H) (around cols) k (opened f cols k out H)) t 0
       unfolding filled marks
       mark-left t i =
-          let ms = map (mark (entries f H) (around cols) k (opened f cols k out H)) (range 0 (H .tiles)) in
-          let n = range-length (mark (entries f H) (around cols) k (opened f cols k out H)) 0 (H .tiles) in
-          let e = getD-run (out .marks) 0 t ms (omega arith) (omega (arith, a .ready axes .args .marks)) in
-          rw (a .slices-are) (rw (zero-add t) at e)
+          let m = mark (entries f H) (around cols) k (opened f cols k out H) in
+          rw (a .slices-are) (filled-at m (out .marks) (H .tiles) t (a .ready axes .args .marks) i
+          ∙ sym (marks-at (entries f H) (around cols) k (opened f cols k out H) t i))
 
       marks-left : take (H .tiles) (left f cols k out H .marks)
           ≡ marks (entries f H) (around cols) k (opened f cols k out H)
       unfolding filled marks
       marks-left =
-          let ms = map (mark (entries f H) (around cols) k (opened f cols k out H)) (range 0 (H .tiles)) in
-          let n = range-length (mark (entries f H) (around cols) k (opened f cols k out H)) 0 (H .tiles) in
-          rw (a .slices-are) (take-over (H .tiles) (out .marks) ms n (a .ready axes .args .marks))
+          rw (a .slices-are) (filled-take (mark (entries f H) (around cols) k (opened f cols k out H)) (out .marks)
+          (H .tiles) (a .ready axes .args .marks))
 
       -- place j of the list of stop i
       place-left : length (a .ls) ≡ stopCount cols → (i j : ℕ) → i < stopCount cols → j < k
@@ -227,9 +313,42 @@ module _ (f : List ℕ) (cols : List (List ℤ)) (k : ℕ) (out : Slices) where
             count-opened = ap (λ (z : Result). z .opened) (a .result) ∙ sym (rw (marks-left r a) (d .count-opened));
             count-pruned = ap (λ (z : Result). z .pruned) (a .result) ∙ sym (rw (marks-left r a) (d .count-pruned));
             count-used = ap (λ (z : Result). z .used) (a .result);
-            other-files = λ g same l. other-files g h (a .dir) same l;
+            other-files = λ g same l out′ n. same-answer f cols k g h (a .dir) same l out out′ n (a .passed);
           },
         )
+
+    -- ---- the call that strikes
+
+    module _ (r : Result) (e : joinEnd f cols k out .outcome ≡ accepted r) (lent : List ℕ) where
+      prune-answers : r .tiles ≤ length lent
+          → pruneCall f (around cols) k lent ≡ accepted (record { tiles = r .tiles; pruned = r .pruned })
+      unfolding pruneCall validK
+      prune-answers l =
+          let a = answered r e in
+          let good-k : leb 1 k && leb k maxK ≡ true =
+          both-and (le-leb 1 k (a .args .some-k)) (le-leb k maxK (a .args .few-k)) in
+          let tiles : a .h .tiles ≡ r .tiles = ap (λ (z : Result). z .tiles) (sym (a .result)) in
+          let long : leb (a .h .tiles) (length lent) ≡ true =
+          le-leb (a .h .tiles) (length lent) (omega (arith, tiles)) in
+          let struck : prunedCount (entries f (a .h)) (around cols) k ≡ r .pruned =
+          ap (λ (z : Result). z .pruned) (sym (a .result)) in
+          rw (a .dir, good-k, smallest (a .ready axes) .valid, long, struck, tiles)
+
+      -- "1 exactly when it is struck", by both calls: strike, for the smallest box around the stops, the same k and any
+      -- marks of at least T elements, gives the T and the number struck of the join, and marks the same tiles
+      pub prunes-alike : r .tiles ≤ length lent → PrunesAlike f cols k out r lent
+      prunes-alike l =
+          let a = answered r e in
+          let c : Counts = record { tiles = r .tiles; pruned = r .pruned } in
+          let tiles : r .tiles ≡ a .h .tiles = ap (λ (z : Result). z .tiles) (a .result) in
+          record {
+            answers = prune-answers l;
+            marked = λ t i.
+                let j : t < a .h .tiles = omega (arith, tiles) in
+                let mine = demand r a .marked-pruned t j in
+                let its = striking.marked-pruned f (around cols) k lent c (prune-answers l) (a .h) (a .dir) t j in
+                rw (mark-left r a t j) (λ m. its .1 (mine .0 m), λ m. mine .1 (its .0 m));
+          }
 
     module _ (r : Result) (e : joinEnd f cols k out .outcome ≡ accepted r) (h : Header)
         (d : directory f ≡ accepted h) where
@@ -276,3 +395,37 @@ module _ (f : List ℕ) (cols : List (List ℤ)) (k : ℕ) (out : Slices) where
         (good-opens f h good) (stopsOf cols) (smallest w .holds) in
         tests-pass f cols k out d a
         ∙ ap (ended f h cols k (join (entries f h) (around cols) k (openingOf f h) (stopsOf cols) .openings) out) e
+
+    -- the same, place by place and sentence by sentence
+    pub demand-2-places : Bytes f → (h : Header) → validate f ≡ accepted h
+        → arguments (h .tiles) cols k (lengthsOf out) ≡ accepted tt → (r : Result) × Demand2 f cols k out h r
+    unfolding ended runFor
+    demand-2-places b h v a =
+        let good = validate-exactly f h .0 v in
+        let d = directory-exactly f h .1 (good .directory) in
+        let r : Result = record {
+          used = placesUsed (entries f h) k;
+          tiles = h .tiles;
+          opened = length (runFor f h cols k .openings);
+          pruned = prunedCount (entries f h) (around cols) k;
+        } in
+        let e : joinEnd f cols k out .outcome ≡ accepted r = ap (λ (z : End). z .outcome) (demand-2 b h v a) in
+        let own : Agreeing f cols k out h (townOf f h) = record {
+          directory = good-agrees f h good b;
+          blocks = all-map (runFor f h cols k .openings) (good-opens f h good)
+              (run.only-tiles (entries f h) (around cols) k (openingOf f h) (stopsOf cols));
+        } in
+        let three = demand-3 r e in
+        let i : three .0 ≡ h = accepted-injective (sym (three .1 .header) ∙ d) in (
+          r,
+          record {
+            answers = e;
+            tiles = refl;
+            used = refl;
+            lists = subst (λ x. Demand3 f cols k out x r) i (three .1) .lists (townOf f h) own;
+            first = full-search r e h d (townOf f h) own;
+            ranking = λ p. run.ranking-exactly (entries f h) (around cols) k
+                (lawful (run-ready f cols k out d a axes)) p (townOf f h) (own .directory);
+            agrees = own .directory;
+          },
+        )

@@ -7,11 +7,12 @@ use mathlib.Core.Path.{_≡_, refl, sym, ap, _∙_}
 use native.Mathlib.Nat.{zero-add, add-suc, add-zero, suc-add}
 use native.Mathlib.Numerals.{add-one}
 use native.Mathlib.Omega.{arith}
-use lib.ListN.{length, getD, set}
+use lib.ListN.{length, getD, set, take}
+use lib.Seq.{take-at}
 use mir.Val.{boolByte}
 use Rattle.codec.specs.Over.{over}
 use Rattle.search.specs.Lists.{range, bit}
-use Rattle.codec.proofs.Over.{over-nil, over-cons, getD-run}
+use Rattle.codec.proofs.Over.{over-eq, over-nil, over-cons, getD-run}
 
 module _ (g : ℕ → ℕ) where
   pub fill-turn : (d : List ℕ) (t n : ℕ) → t < n
@@ -38,6 +39,11 @@ module _ (g : ℕ → ℕ) where
       ap (λ (i : ℕ). getD (over d 0 (map g (range 0 n))) i 0) (sym (zero-add t))
       ∙ getD-run d 0 t (map g (range 0 n)) (omega arith) (omega arith)
       ∙ range-at 0 n t k ∙ rw (zero-add t)
+
+  pub filled-take : (d : List ℕ) (n : ℕ) → n ≤ length d → take n (over d 0 (map g (range 0 n))) ≡ map g (range 0 n)
+  filled-take d n h =
+      let l = range-length 0 n in
+      rw (over-eq d 0 (map g (range 0 n)) (omega arith)) (take-at (map g (range 0 n)) _ n l)
 
 -- ---- a test as a number
 

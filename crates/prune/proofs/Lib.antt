@@ -1,2 +1,3 @@
 pub mod Summing
 pub mod Corners
+pub mod Theorems

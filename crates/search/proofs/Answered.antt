@@ -76,7 +76,7 @@ module _ {G : Geometry} {E : Directory G} {O : G .Box} (L : Lawful E O) (k : ℕ
 
   -- ---- there is a town that fits: what opened, and sites at the least distance elsewhere
 
-  filling-for : (read : Reading G) → Checked E read → (p : Stop) → Within O p → (t : ℕ)
+  pub filling-for : (read : Reading G) → Checked E read → (p : Stop) → Within O p → (t : ℕ)
       → (f : List Site) × (t < tiles → Fills E t f) × ((h : List Site) → read t ≡ accepted h → h ≡ f)
   filling-for read checked p home t = by-outcome (read t)
       (λ f r. (f, λ ht. checked t f ht r, λ h e. let v = sym e ∙ r in cc))

@@ -63,10 +63,10 @@ module _ {G : Geometry} (E : Directory G) (O : G .Box) (k : ℕ) where
     g = contents G read
 
     -- the tiles opened so far, of all stops
-    record Open (opened : List ℕ) : Type 0 where
-      once : Distinct opened
-      chosen : All (Chosen E O k) opened
-      good : All (Opens E k read) opened
+    pub record Open (opened : List ℕ) : Type 0 where
+      pub once : Distinct opened
+      pub chosen : All (Chosen E O k) opened
+      pub good : All (Opens E k read) opened
 
     open-filled : (opened : List ℕ) → Open opened → All (Filled E g) opened
     open-filled opened o = all-both (Chosen E O k) (Opens E k read) _ opened
@@ -78,10 +78,10 @@ module _ {G : Geometry} (E : Directory G) (O : G .Box) (k : ℕ) where
     module _ (p : Stop) (pre ts opened : List ℕ) (e : queue E O k p ≡ pre ++ ts) (o : Open opened)
         (passed : All (λ t. member t opened ≡ true) pre) where
       -- those open beyond the tiles passed
-      abbrev extra : List ℕ
+      abbrev pub extra : List ℕ
       extra = filter (λ t. member t opened) ts
 
-      open-perm : List·Permᴰ opened (pre ++ extra)
+      pub open-perm : List·Permᴰ opened (pre ++ extra)
       open-perm =
           let q : ℕ → Bool = λ t. member t opened in
           let f : filter q (queue E O k p) ≡ pre ++ extra = ap (filter q) e ∙ filter-append q pre ts
@@ -147,18 +147,18 @@ module _ {G : Geometry} (E : Directory G) (O : G .Box) (k : ℕ) where
     grown p pre t f a = sym (placesOf-append E p g pre (t ∷ []) ∙ rw (append-nil, contents-accepted E k read t f a))
 
     -- a tile passed that was open, and one that opens
-    more-passed : (t : ℕ) (pre opened : List ℕ) → All (λ u. member u opened ≡ true) pre → member t opened ≡ true
+    pub more-passed : (t : ℕ) (pre opened : List ℕ) → All (λ u. member u opened ≡ true) pre → member t opened ≡ true
         → All (λ u. member u opened ≡ true) (pre ++ t ∷ [])
     more-passed t pre opened h m = all-append (λ u. member u opened ≡ true) pre (t ∷ []) h (m, tt)
 
-    new-passed : (t : ℕ) (pre opened : List ℕ) → All (λ u. member u opened ≡ true) pre
+    pub new-passed : (t : ℕ) (pre opened : List ℕ) → All (λ u. member u opened ≡ true) pre
         → All (λ u. member u (opened ++ t ∷ []) ≡ true) (pre ++ t ∷ [])
     new-passed t pre opened h = more-passed t pre (opened ++ t ∷ [])
         (all-map pre (λ u m. member-append u opened (t ∷ []) ∙ rw m) h)
         (mem-member t (opened ++ t ∷ []) (Memᴰ·append-right opened (List·Memᴰ·head refl)))
 
-    new-open : (p : Stop) (pre : List ℕ) (t : ℕ) (ts opened : List ℕ) (f : List Site) → queue E O k p ≡ pre ++ t ∷ ts
-        → Open opened
+    pub new-open : (p : Stop) (pre : List ℕ) (t : ℕ) (ts opened : List ℕ) (f : List Site)
+        → queue E O k p ≡ pre ++ t ∷ ts → Open opened
         → member t opened ≡ false → read t ≡ accepted f → Open (opened ++ t ∷ [])
     new-open p pre t ts opened f e o m a = record {
       once = distinct-snoc opened t (o .once) m;
@@ -167,7 +167,7 @@ module _ {G : Geometry} (E : Directory G) (O : G .Box) (k : ℕ) where
       good = all-append (Opens E k read) opened (t ∷ []) (o .good) ((f, a), tt);
     }
 
-    step : (pre : List ℕ) (t : ℕ) (ts l : List ℕ) → l ≡ pre ++ t ∷ ts → l ≡ (pre ++ t ∷ []) ++ ts
+    pub step : (pre : List ℕ) (t : ℕ) (ts l : List ℕ) → l ≡ pre ++ t ∷ ts → l ≡ (pre ++ t ∷ []) ++ ts
     step pre t ts l e = e ∙ sym (append-assoc pre (t ∷ []) ts)
 
     serve-walk : {p : Stop} {ts opened : List ℕ} {r : Run (List Place)} → Served E k read p ts opened r → Within O p
@@ -200,7 +200,7 @@ module _ {G : Geometry} (E : Directory G) (O : G .Box) (k : ℕ) where
 
     -- ---- all stops
 
-    still-open : (p : Stop) (opened : List ℕ) (l : List Place)
+    pub still-open : (p : Stop) (opened : List ℕ) (l : List Place)
         → serve E k read p (queue E O k p) opened .outcome ≡ accepted l
         → Open opened → Open (serve E k read p (queue E O k p) opened .openings)
     still-open p opened l e o =

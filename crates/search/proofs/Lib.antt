@@ -17,6 +17,7 @@ pub mod Equation
 pub mod Marks
 pub mod Ranking
 pub mod Answered
+pub mod FullQueue
 pub mod SameEntries
 pub mod Theorems
 -- for the code of the join

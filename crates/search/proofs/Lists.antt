@@ -1,6 +1,6 @@
 -- Laws of lists: properties of all elements, counts, filters, membership, rearrangement.
 use Prim.Native.Nat.{ℕ, zero, suc, _+_, _≤_, _<_}
-use mathlib.Core.Bool.{Bool, true, false, not, _||_}
+use mathlib.Core.Bool.{Bool, true, false, not, _&&_, _||_}
 use mathlib.Core.List.{List, [], _∷_, _++_, List·Memᴰ, List·Memᴰ·head, List·Memᴰ·tail, List·Permᴰ, List·Permᴰ·nil}
 use mathlib.Core.List.{List·Permᴰ·cons, List·Permᴰ·swap, List·Permᴰ·trans, Permᴰ·refl, Permᴰ·symm, Permᴰ·middle}
 use mathlib.Core.Logic.{_⊎_, inl, inr, _≢_}
@@ -178,6 +178,16 @@ unfolding filter
 filter-same p q [] h = refl
 filter-same p q (x ∷ l) h = rw (h .0)
     (by-test (q x) (λ e. rw e (ap (λ r. x ∷ r) (filter-same p q l (h .1)))) (λ e. rw e (filter-same p q l (h .1))))
+
+-- one test after another
+pub filter-filter : {A : Type 0} (p q : A → Bool) (l : List A) → filter p (filter q l) ≡ filter (λ x. p x && q x) l
+unfolding filter
+filter-filter p q [] = refl
+filter-filter p q (x ∷ l) =
+    let ih = filter-filter p q l in
+    by-test (q x)
+    (λ e. by-test (p x) (λ f. rw (e, f) (ap (λ r. x ∷ r) ih)) (λ f. rw (e, f) ih))
+    (λ e. by-test (p x) (λ f. rw (e, f) ih) (λ f. rw (e, f) ih))
 
 -- those that fail, then those that pass
 pub filter-split : {A : Type 0} (q : A → Bool) (l : List A) → List·Permᴰ l (filter (λ x. not (q x)) l ++ filter q l)

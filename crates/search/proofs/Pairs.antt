@@ -1,7 +1,7 @@
 -- Pairs of numbers in order: what the test `lex` says, and that it is an order.
-use Prim.Native.Nat.{ℕ, _/_, _≤_, _<_}
+use Prim.Native.Nat.{ℕ, _+_, _*_, _/_, _≤_, _<_}
 use mathlib.Core.Bool.{true, false}
-use mathlib.Core.Logic.{_⊎_, inl, inr, _≢_}
+use mathlib.Core.Logic.{_⊎_, inl, inr, _≢_, _↔_}
 use mathlib.Core.Path.{_≡_, refl}
 use native.Mathlib.Omega.{arith}
 use lib.Dec.{ltb, eqb}
@@ -117,3 +117,22 @@ lex-coarse a b c d e f p q = go (lex-ahead a b c d p) (lex-ahead c (d / slots) e
     go (inl h) (inr g) = lex-less (b / slots) f (omega arith)
     go (inr h) (inl g) = lex-less (b / slots) f (omega arith)
     go (inr h) (inr g) = lex-same (omega arith) (omega arith)
+
+-- the number of tile and slot, in the order of the tile and then the slot
+pub lex-tile-slot : (a t s c u v : ℕ) → s < slots → v < slots → (lex a (t * slots + s) c (u * slots + v) ≡ true)
+    ↔ ((a < c) ⊎ ((a ≡ c) × Ahead t s u v))
+lex-tile-slot a t s c u v hs hv = (λ e. there (lex-ahead a (t * slots + s) c (u * slots + v) e), back)
+  where
+    finer : t * slots + s < u * slots + v → Ahead t s u v
+    finer h = by-test (ltb t u)
+        (λ e. inl (ltb-true t u e))
+        (λ e. let i = ltb-false t u e in let j : t ≡ u = omega arith in inr (j, omega arith))
+
+    there : Ahead a (t * slots + s) c (u * slots + v) → (a < c) ⊎ ((a ≡ c) × Ahead t s u v)
+    there (inl h) = inl h
+    there (inr h) = inr (h .0, finer (h .1))
+
+    back : (a < c) ⊎ ((a ≡ c) × Ahead t s u v) → lex a (t * slots + s) c (u * slots + v) ≡ true
+    back (inl h) = lex-less (t * slots + s) (u * slots + v) h
+    back (inr (e, inl h)) = lex-same e (omega arith)
+    back (inr (e, inr h)) = lex-same e (omega arith)

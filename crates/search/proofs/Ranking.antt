@@ -4,20 +4,21 @@ use Prim.Native.Nat.{ℕ, zero, suc, _+_, _*_, _/_, _≤_, _<_, min}
 use mathlib.Core.Bool.{Bool, true, false}
 use mathlib.Core.List.{List, [], _∷_, _++_, map, List·Memᴰ, List·Memᴰ·head, List·Memᴰ·tail, List·Memᴰ·append-cases}
 use mathlib.Core.List.{Memᴰ·append-left, Memᴰ·append-right, Permᴰ·symm}
-use mathlib.Core.Logic.{_⊎_, inl, inr}
+use mathlib.Core.Logic.{_⊎_, inl, inr, _↔_}
 use mathlib.Core.Option.{some}
 use mathlib.Core.Path.{_≡_, refl, sym, ap, _∙_}
 use native.Mathlib.Nat.{add-zero, zero-add}
 use native.Mathlib.Omega.{arith}
 use lib.ListN.{length, drop, getElem?, length-take, take-append-drop}
 use Rattle.base.proofs.Tests.{clash, by-test}
-use Rattle.search.specs.FullSearch.{firstOf, SiteOf}
+use Rattle.search.specs.FullSearch.{firstOf, SiteOf, ByDistanceTileSlot}
 use Rattle.search.specs.Lists.{range, All, Distinct}
 use Rattle.search.specs.Order.{sort, Strict}
 use Rattle.search.specs.Plan.{Geometry, Directory, Lawful, slots, ranks, Town, Agrees}
 use Rattle.search.specs.Run.{tilePlaces, Place, rank, listing, placesOf, nearest, placesUsed}
 use Rattle.search.proofs.Lists.{all-map, all-append, all-left, all-mem, all-perm, mem-perm, range-below}
 use Rattle.search.proofs.Lists.{range-above, range-mem, distinct-perm}
+use Rattle.search.proofs.Pairs.{lex-tile-slot}
 use Rattle.search.proofs.Places.{rank-order, placesOf-all, placesOf-length, known, listing-from, placesOf-known}
 use Rattle.search.proofs.Places.{placeAt, Own, own-tight, own-places}
 use Rattle.search.proofs.Pruning.{below}
@@ -39,6 +40,28 @@ strict-across : {A : Type 0} (lt : A → A → Bool) (l m : List A) {x y : A} �
 strict-across lt l m {x} {y} s (List·Memᴰ·head {x = z} {xs = k} e) n =
     rw e (all-mem (λ w. lt z w ≡ true) (s .0) (Memᴰ·append-right k n))
 strict-across lt l m s (List·Memᴰ·tail {xs = k} h) n = strict-across lt k m (s .1) h n
+
+getElem-below : {A : Type 0} (l : List A) (i : ℕ) {x : A} → getElem? l i ≡ some x → i < length l
+getElem-below [] i e = absurd (let z : _≡_ {A = ℕ} 0 1 = cc in omega arith)
+getElem-below (y ∷ l) zero e = omega arith
+getElem-below (y ∷ l) (suc i) e = let ih = getElem-below l i e in omega arith
+
+-- ---- the ranking of a town's sites
+
+module _ {G : Geometry} (E : Directory G) {O : G .Box} (L : Lawful E O) where
+  open Geometry G using (Stop, D)
+
+  slot-below : {p : Stop} (g : Town G) → Agrees E g → {a : Place} (s : SiteOf E p g a) → s .slot < slots
+  slot-below g ag s =
+      let n = getElem-below (g (s .tile)) (s .slot) (s .there) in
+      omega (arith, L .size-small (s .tile) (s .below), ag (s .tile) (s .below) .counted)
+
+  pub rank-exactly : (p : Stop) (g : Town G) → Agrees E g → (a b : Place) (s : SiteOf E p g a) (u : SiteOf E p g b)
+      → (rank a b ≡ true) ↔ ByDistanceTileSlot E s u
+  unfolding rank
+  rank-exactly p g ag a b s u = rw (s .place, u .place)
+      (lex-tile-slot (D p (s .it)) (s .tile) (s .slot) (D p (u .it)) (u .tile) (u .slot)
+      (slot-below g ag s) (slot-below g ag u))
 
 module _ {G : Geometry} (E : Directory G) (k : ℕ) where
   open Geometry G using (Site, Stop, cue, Within, D)

@@ -1,10 +1,12 @@
 -- The join's run, case by case: which tiles it opens, each once, and that their contents decide it.
-use Prim.Native.Nat.{ℕ}
+use Prim.Native.Nat.{ℕ, suc}
 use mathlib.Core.Bool.{Bool, true, false}
 use mathlib.Core.List.{List, [], _∷_, _++_}
-use mathlib.Core.Path.{_≡_, refl, _∙_}
+use mathlib.Core.Path.{_≡_, refl, sym, ap, _∙_}
 use native.Mathlib.Omega.{arith}
+use lib.ListN.{length}
 use Rattle.base.specs.Refusal.{accepted, refused, andThen}
+use Rattle.base.proofs.Outcomes.{accepted-injective, accepted-refused, andThen-accepted, andThen-refused}
 use Rattle.base.proofs.Tests.{by-test}
 use Rattle.search.specs.Lists.{member, All, Distinct}
 use Rattle.search.specs.Plan.{Geometry, Directory}
@@ -97,6 +99,22 @@ module _ {G : Geometry} (E : Directory G) (k : ℕ) where
         served-good s l e (all-append Opens u (t ∷ []) h ((f, a), tt))
     served-good (refuses n m a) l e h = absurd (let z : _≡_ {A = ℕ} 0 1 = cc in omega arith)
 
+    -- ---- and one that is refused is refused by an opening
+
+    abbrev RefusedBy : (ℕ → Type 0) → ℕ → ℕ → Type 0
+    RefusedBy P n b = (t : ℕ) × P t × (read t ≡ refused n b)
+
+    served-refused : (P : ℕ → Type 0) {p : Stop} {ts opened : List ℕ} {r : Run (List Place)} → Served p ts opened r
+        → All P ts → (n b : ℕ) → r .outcome ≡ refused n b → RefusedBy P n b
+    served-refused P none h n b e = accepted-refused refl e
+    served-refused P (ends q) h n b e = accepted-refused refl e
+    served-refused P (again q m s) h n b e = served-refused P s (h .1) n b e
+    served-refused P (opens q m a s) h n b e = served-refused P s (h .1) n b e
+    served-refused P (refuses {t = t} {n = m} {b = c} q i a) h n b e =
+        let x : m ≡ n = cc in
+        let y : c ≡ b = cc in
+        (t, h .0, a ∙ rw (x, y))
+
   -- ---- the stops in turn, each over its tiles
 
   module _ (tilesOf : Stop → List ℕ) (read : Reading G) where
@@ -156,6 +174,26 @@ module _ {G : Geometry} (E : Directory G) (k : ℕ) where
         (λ n b q. absurd (let z : _≡_ {A = ℕ} 0 1 = let v = rw q at f in cc in omega arith))
     ran-good (breaks e) ls f h = absurd (let z : _≡_ {A = ℕ} 0 1 = cc in omega arith)
 
+    ran-length : {ps : List Stop} {opened : List ℕ} {r : Run (List (List Place))} → Ran ps opened r
+        → (ls : List (List Place)) → r .outcome ≡ accepted ls → length ls ≡ length ps
+    ran-length done ls e = let i : ls ≡ [] = cc in rw i
+    ran-length (answers {l = l} {r = r} e s) ls f =
+        let a = andThen-accepted (r .outcome) (λ ms. accepted (l ∷ ms)) f in
+        let i : ls ≡ l ∷ a .0 = sym (accepted-injective (a .2)) in
+        rw i (ap suc (ran-length s (a .0) (a .1)))
+    ran-length (breaks e) ls f = accepted-refused f refl
+
+    ran-refused : (P : ℕ → Type 0) → ((p : Stop) → All P (tilesOf p))
+        → {ps : List Stop} {opened : List ℕ} {r : Run (List (List Place))}
+        → Ran ps opened r → (n b : ℕ) → r .outcome ≡ refused n b → RefusedBy read P n b
+    ran-refused P q done n b e = accepted-refused refl e
+    ran-refused P q (answers {l = l} {r = r} e s) n b f =
+        ran-refused P q s n b (andThen-refused (r .outcome) (λ ms. l ∷ ms) f)
+    ran-refused P q (breaks {p = p} {opened = o} {n = m} {b = c} e) n b f =
+        let x : m ≡ n = cc in
+        let y : c ≡ b = cc in
+        served-refused read P (served read p (tilesOf p) o) (q p) n b (e ∙ rw (x, y))
+
   -- ---- the opened tiles decide the run
 
   module _ (read read′ : Reading G) where
@@ -213,6 +251,19 @@ module _ {G : Geometry} (E : Directory G) (O : G .Box) (k : ℕ) where
       → All (Opens E k read) (join E O k read ps .openings)
   unfolding join
   join-good read ps ls e = ran-good E k (queue E O k) read (ran E k (queue E O k) read ps []) ls e tt
+
+  -- A run that answers has a list for each stop.
+  pub join-length : (read : Reading G) (ps : List Stop) (ls : List (List Place))
+      → join E O k read ps .outcome ≡ accepted ls → length ls ≡ length ps
+  unfolding join
+  join-length read ps ls e = ran-length E k (queue E O k) read (ran E k (queue E O k) read ps []) ls e
+
+  -- A refused run is refused by the opening of such a tile.
+  pub join-refused : (read : Reading G) (ps : List Stop) (n b : ℕ) → join E O k read ps .outcome ≡ refused n b
+      → (t : ℕ) × Chosen E O k t × (read t ≡ refused n b)
+  unfolding join
+  join-refused read ps n b e =
+      ran-refused E k (queue E O k) read (Chosen E O k) (queue-chosen E O k) (ran E k (queue E O k) read ps []) n b e
 
   -- A reading that agrees on the openings, a refused one included, gives the same run.
   pub join-same : (read read′ : Reading G) (ps : List Stop) → All (λ t. read′ t ≡ read t) (join E O k read ps .openings)

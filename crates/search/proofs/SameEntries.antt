@@ -25,7 +25,7 @@ unfolding total
 total-same p q w v [] h = refl
 total-same p q w v (x ∷ l) h = rw (h .0 .0, h .0 .1, total-same p q w v l (h .1))
 
-map-same : {A B : Type 0} (f g : A → B) (l : List A) → All (λ a. f a ≡ g a) l → map f l ≡ map g l
+pub map-same : {A B : Type 0} (f g : A → B) (l : List A) → All (λ a. f a ≡ g a) l → map f l ≡ map g l
 map-same f g [] h = refl
 map-same f g (x ∷ l) h = rw (h .0, map-same f g l (h .1))
 

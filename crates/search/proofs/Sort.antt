@@ -1,17 +1,18 @@
 -- Sorting by a test: the sorted list does not depend on the order given, and what stands behind k others does not
 -- change the first k.
 use Prim.Native.Nat.{ℕ, zero, suc, _+_, _≤_, _<_}
-use mathlib.Core.Bool.{Bool, true, false}
+use mathlib.Core.Bool.{Bool, true, false, cond}
 use mathlib.Core.List.{List, [], _∷_, _++_, List·Memᴰ, List·Memᴰ·head, List·Memᴰ·tail, List·Permᴰ, List·Permᴰ·nil}
 use mathlib.Core.List.{List·Permᴰ·cons, List·Permᴰ·swap, List·Permᴰ·trans, Permᴰ·refl, Permᴰ·symm}
-use mathlib.Core.Path.{_≡_, refl, ap, _∙_}
+use mathlib.Core.Path.{_≡_, refl, sym, ap, _∙_}
 use native.Mathlib.Omega.{arith}
 use lib.ListN.{length, take}
 use Rattle.base.proofs.Tests.{clash, by-test}
-use Rattle.search.specs.Lists.{bit, count, All, Distinct}
+use Rattle.search.specs.Lists.{bit, count, filter, All, Distinct}
 use Rattle.search.specs.Inner.Cut.{Sorted}
 use Rattle.search.specs.Order.{insert, sort, Strict}
 use Rattle.search.proofs.Lists.{all-map, all-both, all-mem, all-perm, mem-perm, count-append, count-none}
+use Rattle.search.proofs.Lists.{filter-all}
 
 -- a strict order with ties, as a test; `Tight`: no ties among what P holds of
 pub record Order {A : Type 0} (lt : A → A → Bool) : Type 0 where
@@ -91,6 +92,38 @@ module _ {A : Type 0} (lt : A → A → Bool) (o : Order lt) where
   unfolding sort
   sort-sorted [] = tt
   sort-sorted (x ∷ l) = insert-sorted x (sort lt l) (sort-sorted l)
+
+  -- ---- sorting and testing
+
+  insert-first : (x : A) (l : List A) → All (λ y. lt y x ≡ false) l → insert lt x l ≡ x ∷ l
+  unfolding insert
+  insert-first x [] h = refl
+  insert-first x (y ∷ l) h = rw (h .0)
+
+  filter-insert : (q : A → Bool) (x : A) (l : List A) → Sorted lt l
+      → filter q (insert lt x l) ≡ cond (q x) (insert lt x (filter q l)) (filter q l)
+  unfolding insert filter
+  filter-insert q x [] s = refl
+  filter-insert q x (y ∷ l) s =
+      let ih = filter-insert q x l (s .1) in
+      by-test (lt y x)
+      (λ e. by-test (q y)
+      (λ f. by-test (q x)
+      (λ g. rw (e, f, g) (rw e (ap (λ r. y ∷ r) (rw g at ih))))
+      (λ g. rw (e, f, g) (ap (λ r. y ∷ r) (rw g at ih))))
+      (λ f. rw (e, f) ih))
+      (λ e.
+      let late = all-map l (λ z g. o .negtrans z y x g e) (s .0) in
+      let here = insert-first x (filter q (y ∷ l)) (filter-all (λ z. lt z x ≡ false) q (y ∷ l) (e, late)) in
+      rw e (by-test (q x) (λ g. rw g (sym here)) (λ g. rw g)))
+
+  -- what passes a test, sorted
+  pub sort-filter : (q : A → Bool) (l : List A) → filter q (sort lt l) ≡ sort lt (filter q l)
+  unfolding sort filter
+  sort-filter q [] = refl
+  sort-filter q (x ∷ l) =
+      let ih = sort-filter q l in
+      filter-insert q x (sort lt l) (sort-sorted l) ∙ by-test (q x) (λ e. rw (e, ih)) (λ e. rw (e, ih))
 
   -- what is behind k elements of a sorted list is inserted past them
   insert-behind : (k : ℕ) (x : A) (l : List A) → Sorted lt l → k ≤ count (λ y. lt y x) l

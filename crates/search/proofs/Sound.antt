@@ -85,18 +85,23 @@ module _ {G : Geometry} (E : Directory G) (O : G .Box) (k : ℕ) where
         (let d = L .closer-less p t b (j .at) (i .at) home ht hb m (j .at-inside) (i .at-inside) in
         omega (arith, j .at-dist, i .at-dist))
 
+    -- a test that every place of the tiles closer than a pruned tile passes: k places of the queue's tiles pass it
+    pub pruned-passes : (r : Place → Bool) (b : ℕ) → b < tiles → pruned E O k b ≡ true
+        → ((t : ℕ) (x : Place) → t < tiles → closerThan E O k b t ≡ true → Known E p g t x → r x ≡ true)
+        → k ≤ count r (placesOf G p g (queue E O k p))
+    unfolding queue
+    pruned-passes r b hb s f =
+        let w = pruned-by-free E O k L b hb s in
+        let c = total-count r b (allTiles E) (below E)
+        (λ t ht m. all-map (tilePlaces G p t (g t)) (λ x j. f t x ht m j) (known E L p home g t (ht, ag t ht))) in
+        let q = count-perm r (placesOf-perm E p g
+        (sort-is-perm (byKey E p) (filter (candidate E O k) (range 0 tiles)))) in
+        omega arith
+
     -- a place of a pruned tile is behind k places of the queue's tiles
     pub pruned-behind : (b : ℕ) → b < tiles → pruned E O k b ≡ true → (y : Place) → Known E p g b y
         → k ≤ count (λ x. rank x y) (placesOf G p g (queue E O k p))
-    unfolding queue
-    pruned-behind b hb s y i =
-        let w = pruned-by-free E O k L b hb s in
-        let c = total-count (λ x. rank x y) b (allTiles E) (below E)
-        (λ t ht m. all-map (tilePlaces G p t (g t)) (λ x j. closer-rank t b x y ht hb m j i)
-        (known E L p home g t (ht, ag t ht))) in
-        let q = count-perm (λ x. rank x y) (placesOf-perm E p g
-        (sort-is-perm (byKey E p) (filter (candidate E O k) (range 0 tiles)))) in
-        omega arith
+    pruned-behind b hb s y i = pruned-passes (λ x. rank x y) b hb s (λ t x ht m j. closer-rank t b x y ht hb m j i)
 
     empty-tile : (t : ℕ) → t < tiles → pruned E O k t ≡ false → not (candidate E O k t) ≡ true
         → length (tilePlaces G p t (g t)) ≡ 0

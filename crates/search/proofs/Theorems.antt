@@ -10,17 +10,19 @@ use lib.Dec.{eqb}
 use lib.ListN.{length, getD}
 use Rattle.base.specs.Refusal.{accepted}
 use Rattle.search.specs.Claims.{FullSearch, RunAnswers}
-use Rattle.search.specs.FullSearch.{firstOf, Fits}
+use Rattle.search.specs.FullSearch.{firstOf, SiteOf, ByDistanceTileSlot, Fits}
 use Rattle.search.specs.Lists.{count, member, All, Distinct}
 use Rattle.search.specs.Plan.{Geometry, Directory, Lawful, ranked, Town, Agrees}
 use Rattle.search.specs.Pruning.{pruned, prunedCount}
-use Rattle.search.specs.Run.{Reading, Place, Run, Checked, run, join, placesUsed, marks, openedMark, prunedMark}
+use Rattle.search.specs.Run.{Reading, Place, Run, Checked, rank, fullQueue, run, join, placesUsed, marks}
+use Rattle.search.specs.Run.{openedMark, prunedMark}
 use Rattle.search.proofs.Answered.{readTown, join-town, some-town, answer-padded, answer-places, answer-used}
 use Rattle.search.proofs.Answered.{opened-changes, changes-opened}
+use Rattle.search.proofs.FullQueue.{full-alike}
 use Rattle.search.proofs.Lists.{all-map}
 use Rattle.search.proofs.Marks.{marks-at, mark-opened, mark-pruned, marks-opened, marks-pruned}
 use Rattle.search.proofs.Queue.{candidate-unpruned, candidate-some}
-use Rattle.search.proofs.Ranking.{first-strict, first-sites, first-once, first-rest, first-length}
+use Rattle.search.proofs.Ranking.{rank-exactly, first-strict, first-sites, first-once, first-rest, first-length}
 use Rattle.search.proofs.Run.{join-chosen, join-once, join-same}
 
 module _ {G : Geometry} (E : Directory G) (O : G .Box) (k : ℕ) where
@@ -73,9 +75,23 @@ module _ {G : Geometry} (E : Directory G) (O : G .Box) (k : ℕ) where
       → count (λ m. eqb m 1) (marks E O k (join E O k read ps .openings)) ≡ prunedCount E O k
   pruned-count read ps = marks-pruned E O k (join E O k read ps .openings) (never-pruned read ps)
 
-  -- ---- a run that answers
+  -- ---- every run, where what opens agrees with the directory
 
   module _ (L : Lawful E O) where
+    -- Striking spares a stop the keys of tiles that it would not come to, and changes nothing else: with the struck
+    -- tiles in the queue the same tiles are opened in the same order, with the same lists or the same refusal.
+    pub pruning-opens-alike : (read : Reading G) → Checked E read → (ps : List Stop) → All (Within O) ps
+        → run E k (fullQueue E) read ps [] ≡ join E O k read ps
+    pruning-opens-alike = full-alike E O k L
+
+  -- ---- a full search, and a run that answers
+
+  module _ (L : Lawful E O) where
+    -- "Sites rank by D from the stop, then tile, then slot": so do the sites of a town that agrees with the directory
+    pub ranking-exactly : (p : Stop) (g : Town G) → Agrees E g → (a b : Place)
+        → (s : SiteOf E p g a) (u : SiteOf E p g b) → (rank a b ≡ true) ↔ ByDistanceTileSlot E s u
+    ranking-exactly = rank-exactly E L
+
     pub full-search : (p : Stop) → Within O p → (g : Town G) → Agrees E g → FullSearch E k p g
     full-search p home g ag = record {
       sites = first-sites E k L p home g ag;

@@ -2,6 +2,7 @@
 use Prim.Native.Nat.{ℕ, _+_, _*_, _<_}
 use mathlib.Core.Bool.{true, cond}
 use mathlib.Core.List.{List, List·Memᴰ}
+use mathlib.Core.Logic.{_⊎_}
 use mathlib.Core.Option.{some}
 use mathlib.Core.Path.{_≡_}
 use lib.Dec.{eqb}
@@ -28,6 +29,13 @@ module _ {G : Geometry} (E : Directory G) where
     pub there : getElem? (g tile) slot ≡ some it
     pub ranked : ranks G it ≡ true
     pub place : a ≡ record { dist = D p it; site = tile * slots + slot; cue = cue it }
+
+  -- "Sites rank by D from the stop, then tile, then slot": of two sites of a town the first stands ahead
+  abbrev pub ByDistanceTileSlot : {p : Stop} {g : Town G} {a b : Place} → SiteOf p g a → SiteOf p g b → Type 0
+  ByDistanceTileSlot {p} s u =
+      (D p (s .it) < D p (u .it))
+      ⊎ ((D p (s .it) ≡ D p (u .it))
+      × ((s .tile < u .tile) ⊎ ((s .tile ≡ u .tile) × (s .slot < u .slot))))
 
   -- a town "that agrees with the directory and the opened tiles": it "has the sites of that block there, slot for slot"
   pub record Fits (read : Reading G) (opened : List ℕ) (g : Town G) : Type 0 where

@@ -4,6 +4,7 @@
 --   listing, tilePlaces, placesOf   the places of sites, of a tile, of some tiles of a town
 --   nearest                         the first k of them
 --   byKey, inOrder, candidate, queue   the tiles of a stop by key
+--   fullQueue                       the same with the struck ones
 --   ahead, enough                   the end of a stop's search
 --   Reading, contents, Checked      what openings give
 --   serve, run, join                one stop, the stops in turn, the join
@@ -114,6 +115,11 @@ module _ {G : Geometry} (E : Directory G) where
 
     unfoldable pub queue : Stop → List ℕ
     queue p = inOrder candidates p
+
+  -- those "not empty", struck or not, by key: the join does not go by it; `pruning-opens-alike` (proofs/Theorems) says
+  -- that it might
+  unfoldable pub fullQueue : Stop → List ℕ
+  fullQueue p = inOrder (filter (λ t. ltb 0 (ranked E t)) (range 0 tiles)) p
 
 -- ---- the run
 

@@ -5,7 +5,7 @@ use mathlib.Core.List.{List}
 use mathlib.Core.Path.{_≡_, sym, ap, _∙_}
 use native.Mathlib.Nat.{zero-add}
 use lib.ListN.{length, getD}
-use Rattle.base.specs.Refusal.{accepted}
+use Rattle.base.specs.Refusal.{accepted, refused}
 use Rattle.blocks.specs.Block.{blockAt}
 use Rattle.blocks.specs.Directory.{boxAt, countAt}
 use Rattle.blocks.specs.declared.header.Header.{Header}
@@ -39,6 +39,10 @@ module _ (f : List ℕ) (h : Header) (t : ℕ) where
       inside (boxAt f t) (sitePoint (siteAt f h t slot)) ≡ true
   unfolding siteAt
   opened-inside e slot l = laws.open-good f h t e .inside slot l
+
+  -- a refused opening names the tile's own block
+  pub opening-refused : {n p : ℕ} → openTile f h t ≡ refused n p → p ≡ tilePosition h t
+  opening-refused = laws.open-at f h t
 
   -- the list of a tile's sites has the site of each slot
   pub sites-length : length (sitesAt f h t) ≡ countAt f t

@@ -1,24 +1,53 @@
--- What an accepted tile and an accepted file show, and that this is enough. Assumes nothing.
+-- What an accepted tile and an accepted file show, and that this is enough; where a tile is refused. Assumes nothing.
 use Prim.Native.Nat.{ℕ}
+use mathlib.Core.Bool.{Bool, true, false}
 use mathlib.Core.List.{List}
-use mathlib.Core.Path.{_≡_, sym, ap, _∙_}
+use mathlib.Core.Path.{_≡_, refl, sym, ap, _∙_}
 use native.Mathlib.Nat.{zero-add}
 use lib.IntN.{ℤ}
+use lib.Dec.{eqb}
+use lib.ListN.{getD}
 use borrow.Author.Tests.{eqb-true, eq-eqb}
-use Rattle.base.specs.Refusal.{accepted}
-use Rattle.blocks.specs.Block.{entriesIn, blockHead}
+use Rattle.base.specs.Every.{every}
+use Rattle.base.specs.Refusal.{Outcome, accepted, refused, require, andThen, #sync, #check, #kind, #position}
+use Rattle.base.specs.Refusal.{#entries, #padding, #stray}
+use Rattle.blocks.specs.Block.{positionIn, entriesIn, kindDue, blockHead}
+use Rattle.blocks.specs.Checksum.{checkAgrees}
 use Rattle.blocks.specs.Directory.{directory, countAt}
-use Rattle.blocks.specs.Layout.{tileKind}
+use Rattle.blocks.specs.Layout.{syncByte, tileKind}
 use Rattle.blocks.specs.Outcome.{inTurn}
 use Rattle.blocks.specs.declared.header.Header.{Header}
-use Rattle.base.proofs.Outcomes.{accepted-injective, require-accepted, andThen-accepted}
+use Rattle.base.proofs.Outcomes.{accepted-injective, accepted-refused, require-accepted, andThen-accepted}
 use Rattle.blocks.proofs.BlockLaws.{head-good, head-enough}
 use Rattle.blocks.proofs.DirectoryLaws.{directory-good, directory-enough}
 use Rattle.blocks.proofs.OutcomeLaws.{turns-each, turns-all}
 use Rattle.base.proofs.Every.{every-at, every-holds}
 use Rattle.tiles.specs.Accepted.{GoodTileBlock, GoodTile, GoodFile}
-use Rattle.tiles.specs.Tile.{tileBlock, siteInside, openTile}
+use Rattle.tiles.specs.Tile.{tileBlock, tilePadding, siteInside, tilePosition, openTile}
 use Rattle.tiles.specs.Validate.{openAll, validate}
+
+-- what refuses at block p: a row of the table, or what comes next
+at-require : {A : Type 0} (test : Bool) (x p : ℕ) (o : Outcome A) {n q : ℕ} → require test x p o ≡ refused n q
+    → (o ≡ refused n q → q ≡ p) → q ≡ p
+at-require true x p o e next = next e
+at-require false x p o e next = cc
+
+at-then : {A B : Type 0} (o : Outcome A) (next : A → Outcome B) {p n q : ℕ} → andThen o next ≡ refused n q
+    → (o ≡ refused n q → q ≡ p) → ((a : A) → next a ≡ refused n q → q ≡ p) → q ≡ p
+at-then (accepted a) next e f g = g a e
+at-then (refused m b) next {n = n} {q} e f g =
+    let x : m ≡ n = cc in
+    let y : b ≡ q = cc in
+    f (rw (x, y))
+
+head-at : (s : List ℕ) (p : ℕ) {n q : ℕ} → blockHead tileKind s p ≡ refused n q → q ≡ p
+unfolding blockHead
+head-at s p e =
+    at-require (eqb (getD s 0 0) syncByte) #sync p _ e
+    (λ e. at-require (checkAgrees s) #check p _ e
+    (λ e. at-require (kindDue tileKind s) #kind p _ e
+    (λ e. at-require (eqb (positionIn s) p) #position p (accepted tt) e
+    (λ e. accepted-refused refl e))))
 
 module _ (s : List ℕ) (p : ℕ) (bounds : List (List ℤ)) (count : ℕ) where
   pub tile-good : {n : ℕ} → tileBlock s p bounds count ≡ accepted n → GoodTileBlock s p bounds count
@@ -41,7 +70,19 @@ module _ (s : List ℕ) (p : ℕ) (bounds : List (List ℤ)) (count : ℕ) where
       let v = every-holds (siteInside bounds s) count (g .inside) in
       rw (head-enough tileKind s p (g .head), eq-eqb (entriesIn s) count (g .entries), g .padding, v)
 
+  tile-at : {n q : ℕ} → tileBlock s p bounds count ≡ refused n q → q ≡ p
+  unfolding tileBlock
+  tile-at e = at-then (blockHead tileKind s p) _ e (head-at s p)
+      (λ _ e. at-require (eqb (entriesIn s) count) #entries p _ e
+      (λ e. at-require (tilePadding s count) #padding p _ e
+      (λ e. at-require (every (siteInside bounds s) count) #stray p (accepted count) e
+      (λ e. accepted-refused refl e))))
+
 module _ (f : List ℕ) (h : Header) where
+  pub open-at : (t : ℕ) {n p : ℕ} → openTile f h t ≡ refused n p → p ≡ tilePosition h t
+  unfolding openTile
+  open-at t e = tile-at _ _ _ _ e
+
   pub open-good : (t : ℕ) {n : ℕ} → openTile f h t ≡ accepted n → GoodTile f h t
   unfolding openTile
   open-good t e = tile-good _ _ _ _ e
