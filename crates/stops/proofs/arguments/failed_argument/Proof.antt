@@ -39,8 +39,7 @@ stops-due-requires c κs = search needs
 returns-2 : tie.Need-returns-2
 unfolding arguments
 returns-2 c =
-    let k : tie.Else1 = search in
-    rw (k-good k, sym (c .before .stops-due .ensures) ∙ not-true (c .before .stops-due .result) (c .if2 .taken))
+    rw (k-good search, sym (c .before .stops-due .ensures) ∙ not-true (c .before .stops-due .result) (c .if2 .taken))
 
 valid-stops-requires : tie.Need-valid-stops-requires
 unfolding cols
@@ -51,15 +50,11 @@ valid-stops-requires c κs =
 
 returns-3 : tie.Need-returns-3
 unfolding arguments cols
-returns-3 c =
-    let n : tie.Else2 = search in
-    let k : tie.Else1 = search in
-    rw (
-      k-good k,
-      stops-good n,
-      sym (c .before .valid-stops .ensures)
-          ∙ not-true (c .before .valid-stops .result) (c .if3 .taken),
-    )
+returns-3 c = rw (
+  k-good search,
+  stops-good search,
+  sym (c .before .valid-stops .ensures) ∙ not-true (c .before .valid-stops .result) (c .if3 .taken),
+)
 
 mul-n : tie.Need-mul-n
 unfolding cols
@@ -74,31 +69,21 @@ room-requires c κs = search needs
 
 returns-4 : tie.Need-returns-4
 unfolding arguments cols
-returns-4 c =
-    let p : tie.Else3 = search in
-    let n : tie.Else2 = search in
-    let k : tie.Else1 = search in
-    rw (
-      k-good k,
-      stops-good n,
-      spots-good p,
-      sym (c .before .room .ensures)
-          ∙ not-true (c .before .room .result) (c .if4 .taken),
-    )
+returns-4 c = rw (
+  k-good search,
+  stops-good search,
+  spots-good search,
+  sym (c .before .room .ensures) ∙ not-true (c .before .room .result) (c .if4 .taken),
+)
 
 returns-5 : tie.Need-returns-5
 unfolding arguments cols
-returns-5 c =
-    let p : tie.Else3 = search in
-    let n : tie.Else2 = search in
-    let k : tie.Else1 = search in
-    rw (
-      k-good k,
-      stops-good n,
-      spots-good p,
-      sym (c .before .room .ensures)
-          ∙ not-false (c .before .room .result) (c .if4 .left),
-    )
+returns-5 c = rw (
+  k-good search,
+  stops-good search,
+  spots-good search,
+  sym (c .before .room .ensures) ∙ not-false (c .before .room .result) (c .if4 .left),
+)
 
 pub failed-argument-spec : {M : Type 1} → statement M
 failed-argument-spec = tie.close (tie.spec valid-k-requires returns stops-due-requires returns-2 valid-stops-requires
