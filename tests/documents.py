@@ -23,6 +23,7 @@ ROOT = pathlib.Path(__file__).resolve().parent.parent
 MADE = ROOT / "target" / "class"
 NEEDED = ("target/bin/nearby", "target/lib/libnearby.a", "target/lib/libnearby.so")
 SECONDS = 300
+SHELLS = ("", "sh", "bash", "shell", "shell-session")
 FENCE = re.compile(r"^( *)(`{3,}|~{3,})\s*([^\s`]*)[^`]*$")
 # What would let a command print something else on another machine.
 LEFT_OUT = ("MAKEFLAGS", "MFLAGS", "MAKELEVEL", "MAKEOVERRIDES", "NEARBY_LIB", "LD_LIBRARY_PATH", "PKG_CONFIG_PATH")
@@ -117,10 +118,10 @@ def run_document(path):
                     fault(command.line, f"$ {command.text}")
                     difference = difflib.unified_diff(command.shown, found, "shown", "printed", lineterm="", n=1)
                     print("\n".join("    " + line for line in difference))
-        else:
+        elif tag in SHELLS:
             for number, line in enumerate(lines, first):
                 if line.startswith("$ "):
-                    fault(number, f"a command that no test runs: the block is tagged '{tag}', not 'console'")
+                    fault(number, "a command that no test runs: the block is not tagged 'console'")
     return count, faults
 
 
