@@ -44,11 +44,14 @@ target/bin/nearby:
 	@mkdir -p target
 	@rt check nearby >target/run.log 2>&1 || { cat target/run.log; exit 1; }
 
+# The tool for towns is a script and its modules: they go to lib/nearby, and bin/nearby-town is a link to the script.
 tree = $(DESTDIR)$(PREFIX)
-installed = include/nearby.h lib/libnearby.a lib/libnearby.so.1 lib/libnearby.so lib/pkgconfig/nearby.pc bin/nearby bin/nearby-town
+installed = include/nearby.h lib/libnearby.a lib/libnearby.so.1 lib/libnearby.so lib/pkgconfig/nearby.pc lib/nearby \
+    bin/nearby bin/nearby-town
+prefix_is_whole = case "$(PREFIX)" in /?*) ;; *) echo "PREFIX has to be a whole path, /.." >&2; exit 1;; esac
 
 install: libraries target/bin/nearby
-	@case "$(PREFIX)" in /*) ;; *) echo "PREFIX has to start with /" >&2; exit 1;; esac
+	@$(prefix_is_whole)
 	@install -d "$(tree)/include" "$(tree)/lib/pkgconfig" "$(tree)/bin"
 	@install -m 644 include/nearby.h "$(tree)/include/nearby.h"
 	@install -m 644 target/lib/libnearby.a target/lib/libnearby.so.1 "$(tree)/lib"
@@ -57,10 +60,16 @@ install: libraries target/bin/nearby
 	    'Description: the k nearest sound sites of each stop of a tram track' 'Version: $(VERSION)' \
 	    'Libs: -L$${libdir} -lnearby' 'Cflags: -I$${includedir}' >"$(tree)/lib/pkgconfig/nearby.pc"
 	@install -m 755 target/bin/nearby "$(tree)/bin/nearby"
-	@if [ -e tools/town ]; then install -m 755 tools/town "$(tree)/bin/nearby-town"; fi
+	@if [ -e tools/town ]; then \
+	    (cd tools && find town towns -type f ! -name '*.pyc') | \
+	        while read -r file; do install -D -m 644 "tools/$$file" "$(tree)/lib/nearby/$$file"; done; \
+	    chmod 755 "$(tree)/lib/nearby/town"; \
+	    ln -sf ../lib/nearby/town "$(tree)/bin/nearby-town"; \
+	fi
 
 uninstall:
-	@for file in $(installed); do rm -f "$(tree)/$$file"; done
+	@$(prefix_is_whole)
+	@for each in $(installed); do rm -rf "$(tree)/$$each"; done
 
 version:
 	@echo $(VERSION)

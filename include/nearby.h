@@ -47,11 +47,11 @@ enum {
 
 /* Where. With the number goes a block: the position in the file of the block refused, from 0. It is 0 for NEARBY_LENGTH, for
  * NEARBY_K to NEARBY_SUPPLY, for the box of nearby_prune, and for every refusal by nearby_write.
- * A file has d directory blocks, d = T/24 rounded up, then the block of each tile. A refusal does not say T, but the length does:
- * d = (file_len / 512 + 24) / 25 in whole numbers. A block below d belongs to the directory: block p has the entries of tiles
- * 24 * p to 24 * p + 23, as far as there are any. Any other block is that of tile block - d. So block 12 is that of tile 11 in a
- * file of 25 blocks, where d is 1, and a directory block in one of 400, where d is 16. The whole directory is tested before a
- * tile is opened: where a tile is refused, T and all boxes and counts are good.
+ * A file has d directory blocks, d = T/24 rounded up, then the block of each tile. A refusal does not say T, but the length
+ * says d: (file_len / 512 + 24) / 25 in whole numbers. A block below d belongs to the directory: block p has the entries of
+ * tiles 24 * p to 24 * p + 23, as far as there are any. Any other block is that of tile block - d. So block 12 is that of tile
+ * 11 in a file of 25 blocks, where d is 1, and a directory block in one of 400, where d is 16. The whole directory is tested
+ * before a tile is opened: where a tile is refused, T and all boxes and counts are good.
  *
  * What to do.
  * - The caller's mistake, and the same call would be refused again: NEARBY_K to NEARBY_SUPPLY; NEARBY_BOX for the box of
@@ -100,7 +100,7 @@ struct nearby_joined {
 
 /* The k nearest sites of each stop. Stop i is at (x[i], y[i]); place j of stop i is element i * k + j of dist (squared
  * distance), site (tile * 40 + slot) and cue, nearest first, then by tile, then by slot. Places past `used` are 0.
- * marks has a byte for each tile: 2 opened, 1 struck (see nearby_prune, for the smallest box around the stops), 0 neither.
+ * marks has a byte for each tile: 2 opened, 1 struck as by nearby_prune for the smallest box around the stops, 0 neither.
  *
  * Needs n * k elements in dist, site and cue, and T in marks. Elements past these never change.
  * Refuses, first that applies: NEARBY_LENGTH; of each directory block NEARBY_SYNC to NEARBY_BOX; NEARBY_K, NEARBY_STOPS,
@@ -119,12 +119,12 @@ struct nearby_pruned {
     uint32_t pruned; /* tiles struck: as many marks are 1 */
 };
 
-/* Marks with 1 each tile that is struck, from the directory alone: the tiles nearer than it from all of the box x0..x1 by y0..y1
- * have k sites or more, so it cannot hold one of the k nearest sites of any point of the box. The others are marked 0.
+/* Marks with 1 each tile that is struck, from the directory alone: the tiles nearer than it from all of the box x0..x1 by
+ * y0..y1 have k sites or more, so it cannot hold one of the k nearest sites of any point of the box. The others are marked 0.
  *
  * Needs T elements in marks; elements past these never change. Refuses, first that applies: NEARBY_LENGTH; of each directory
- * block NEARBY_SYNC to NEARBY_BOX; NEARBY_K; NEARBY_BOX for the box (block 0); NEARBY_SHORT. Then marks is as it was. If the box
- * is good, NEARBY_BOX with block 0 is that of the directory. */
+ * block NEARBY_SYNC to NEARBY_BOX; NEARBY_K; NEARBY_BOX for the box (block 0); NEARBY_SHORT. Then marks is as it was. If the
+ * box is good, NEARBY_BOX with block 0 is that of the directory. */
 struct nearby_pruned nearby_prune(const uint8_t *file, size_t file_len,
                                   int32_t x0, int32_t x1, int32_t y0, int32_t y1, uint32_t k,
                                   uint8_t *marks, size_t marks_len);

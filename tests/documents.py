@@ -4,10 +4,11 @@
     tests/documents.py              all documents: *.md here and in docs/
     tests/documents.py FILE ..      these only
 
-Commands stand in fenced blocks tagged `console`. A line that starts with `$ ` is a command, run by `bash -c` in the repository's
-root; if it ends in a backslash it goes on in the next line. The lines after it, up to the next command or the end of the block,
-are what it prints, errors too; a last line `status N` says that its exit status is N and not 0. Files that commands make go to
-target/class/, which is cleared before each document, so that no document rests on another or on an earlier run.
+Commands stand in fenced blocks tagged `console`. A line that starts with `$ ` is a command, run by `bash -c` in the
+repository's root; if it ends in a backslash it goes on in the next line. The lines after it, up to the next command or the end
+of the block, are what it prints, errors too; a last line `status N` says that its exit status is N and not 0. Files that
+commands make go to target/class/, which is cleared before each document, so that no document rests on another or on an earlier
+run.
 
 It needs the program and the libraries: `make run` and `make lib`.
 """

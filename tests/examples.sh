@@ -72,7 +72,7 @@ says 7 12 "block 12, tile 11" "$built/tile.town"
 says 7 0 "block 0 of the directory" "$built/entries.town"
 says 1 0 "the length" /dev/null
 # With 384 tiles the directory has 16 blocks.
-yes 'tile 0 0 1 1' | head -n 384 | "$built/town" >"$built/384.town"
+printf 'tile 0 0 1 1 # %s\n' {1..384} | "$built/town" >"$built/384.town"
 recount "$built/384.town" 12 23 >"$built/384-12.town"
 recount "$built/384.town" 16 1 >"$built/384-16.town"
 says 7 12 "block 12 of the directory" "$built/384-12.town"
