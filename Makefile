@@ -18,7 +18,7 @@ run:
 lib:
 	@mkdir -p target/class
 	@rt staticlib host >target/lib.log 2>&1 || { cat target/lib.log; exit 1; }
-	@$(MAKE) --no-print-directory libraries
+	@$(MAKE) --silent --no-print-directory libraries
 	@echo "target/lib/libnearby.a and target/lib/libnearby.so, with include/nearby.h"
 
 libraries: target/lib/libnearby.a target/lib/libnearby.so

@@ -70,7 +70,7 @@ int main(int argc, char **argv) {
         return refused(whole.number, whole.block, length);
     }
 
-    /* The box of the cab's stretch of track, a crossing, and a depot behind it: is the crossing nearer from all of the track? */
+    /* The box of the cab's stretch of track, a crossing, a depot behind it: is the crossing nearer from all of the track? */
     int64_t margin = nearby_margin(0, 1000, 0, 0, 2000, 3000, 0, 0, 6000, 7000, 0, 0);
     printf("margin %" PRId64 ": the crossing is %s\n", margin, margin < 0 ? "nearer" : "not nearer");
 

@@ -54,10 +54,10 @@ enum {
  * before a tile is opened: where a tile is refused, T and all boxes and counts are good.
  *
  * What to do.
- * - The caller's mistake, and the same call would be refused again: NEARBY_K to NEARBY_SUPPLY; NEARBY_BOX for the box of
- *   nearby_prune; NEARBY_LENGTH of nearby_block_check; every refusal by nearby_write.
+ * - The caller's mistake, and the same call would be refused again: NEARBY_K to NEARBY_SUPPLY, NEARBY_BOX for the box of
+ *   nearby_prune, and every refusal by nearby_write.
  * - All others speak of the file: copy it again from where it came, the whole of it.
- *     NEARBY_LENGTH, NEARBY_TILES: cut short, or something else than a town's file.
+ *     NEARBY_LENGTH, NEARBY_TILES: cut short or too long, or something else than a town's file.
  *     NEARBY_SYNC, NEARBY_CHECK: damaged, or something else than a town's file.
  *     NEARBY_KIND, NEARBY_POSITION: blocks lost, doubled or in another order, or damage that the check does not see.
  *     NEARBY_ENTRIES, NEARBY_STRAY in a tile: directory and tile are of different files, or such damage.

@@ -35,8 +35,8 @@ chmod +x "$work/no-rt/rt"
 make_without_rt() { PATH=$work/no-rt:$PATH make --no-print-directory "$@"; }
 make_without_rt install PREFIX="$tree"
 
-# What the header says of every call: nothing is allocated, no pointer kept, and calls may run at the same time. The library asks
-# for memset only, makes no system call, and has no data that can be written.
+# What the header says of every call: nothing is allocated, no pointer kept, and calls may run at the same time. The library
+# asks for memset only, makes no system call, and has no data that can be written.
 archive=$tree/lib/libnearby.a
 undefined=$(nm -u "$archive" | sed -n 's/^ *U //p' | sort -u | xargs)
 [ "$undefined" = memset ] || failed "libnearby.a asks for $undefined"
