@@ -60,16 +60,16 @@ install: libraries target/bin/nearby
 	    'Description: the k nearest sound sites of each stop of a tram track' 'Version: $(VERSION)' \
 	    'Libs: -L$${libdir} -lnearby' 'Cflags: -I$${includedir}' >"$(tree)/lib/pkgconfig/nearby.pc"
 	@install -m 755 target/bin/nearby "$(tree)/bin/nearby"
-	@if [ -e tools/town ]; then \
+	@set -e; if [ -e tools/town ]; then \
 	    (cd tools && find town towns -type f ! -name '*.pyc') | \
-	        while read -r file; do install -D -m 644 "tools/$$file" "$(tree)/lib/nearby/$$file"; done; \
+	        while read -r file; do install -D -m 644 "tools/$$file" "$(tree)/lib/nearby/$$file" || exit 1; done; \
 	    chmod 755 "$(tree)/lib/nearby/town"; \
 	    ln -sf ../lib/nearby/town "$(tree)/bin/nearby-town"; \
 	fi
 
 uninstall:
 	@$(prefix_is_whole)
-	@for each in $(installed); do rm -rf "$(tree)/$$each"; done
+	@for each in $(installed); do rm -rf "$(tree)/$$each" || exit 1; done
 
 version:
 	@echo $(VERSION)

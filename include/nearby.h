@@ -1,7 +1,8 @@
 /* Violetjoist for hosts in C: the k nearest sound sites of each stop, from a town's file.
  *
  * Link with libnearby.a or libnearby.so: `make lib` puts them into target/lib, and after `make install` pkg-config knows them
- * as nearby. Every function here is proved against its definition in crates/host/specs; this header says the same in words.
+ * as nearby. Every function here is proved against its definition in crates/host/specs; this header says the same in words,
+ * and docs/PROOF.md, "What is assumed", says which of them are proved and which tested or measured.
  *
  * For all functions:
  * - A slice is a pointer and the number of its elements. The pointer is not NULL, not even for 0 elements, and has that many

@@ -17,6 +17,7 @@ import os
 import pathlib
 import re
 import shutil
+import signal
 import subprocess
 import sys
 
@@ -76,19 +77,22 @@ def printed(command):
     """The lines that a command prints, and its status if that is not 0."""
     environment = {name: value for name, value in os.environ.items() if name not in LEFT_OUT}
     environment.update(LC_ALL="C.UTF-8", COLUMNS="120", PYTHONDONTWRITEBYTECODE="1")
+    run = subprocess.Popen(
+        ["bash", "-c", command.text],
+        cwd=ROOT,
+        env=environment,
+        stdin=subprocess.DEVNULL,
+        stdout=subprocess.PIPE,
+        stderr=subprocess.STDOUT,
+        start_new_session=True,
+    )
     try:
-        run = subprocess.run(
-            ["bash", "-c", command.text],
-            cwd=ROOT,
-            env=environment,
-            stdin=subprocess.DEVNULL,
-            stdout=subprocess.PIPE,
-            stderr=subprocess.STDOUT,
-            timeout=SECONDS,
-        )
+        text = run.communicate(timeout=SECONDS)[0].decode("utf-8", "backslashreplace")
     except subprocess.TimeoutExpired:
+        # With all that it started, which may hold the pipe.
+        os.killpg(run.pid, signal.SIGKILL)
+        run.communicate()
         return [f"(no end after {SECONDS} seconds)"]
-    text = run.stdout.decode("utf-8", "backslashreplace")
     lines = text.removesuffix("\n").split("\n") if text else []
     return lines + ([f"status {run.returncode}"] if run.returncode else [])
 
@@ -134,6 +138,8 @@ def main(names):
     paths = paths or sorted(ROOT.glob("*.md")) + sorted(ROOT.glob("docs/**/*.md"))
     documents, commands, faults = 0, 0, 0
     for path in paths:
+        if not path.is_file():
+            sys.exit(f"documents: there is no {path}")
         count, wrong = run_document(path)
         documents, commands, faults = documents + (count > 0), commands + count, faults + wrong
     if faults:
