@@ -1,6 +1,9 @@
 /* A sound host: host FILE
  *
- * Checks a town's file as a host would when it arrives, then drives along a track and says which cues to play at each stop. */
+ * Checks a town's file as a host would when it arrives, then drives along a track and says which cues to play at each stop.
+ *
+ *     gcc examples/host.c $(pkg-config --cflags --libs nearby) -o host        after make install
+ *     gcc -Iinclude examples/host.c target/lib/libnearby.a -o host            after make lib */
 #include "nearby.h"
 
 #include <inttypes.h>
@@ -13,6 +16,7 @@ static uint8_t file[NEARBY_MAX_FILE + 1];
 static size_t load(const char *name) {
     FILE *f = fopen(name, "rb");
     if (!f) {
+        perror(name);
         return 0;
     }
     size_t length = fread(file, 1, sizeof file, f);
@@ -34,6 +38,25 @@ static unsigned check_blocks(size_t length) {
     return bad;
 }
 
+/* What a host says, and does, about a refusal (include/nearby.h, "Where" and "What to do"). Gives the exit status. */
+static int refused(uint32_t number, uint32_t block, size_t length) {
+    size_t directory = (length / NEARBY_BLOCK_SIZE + 24) / 25;
+    printf("refused %" PRIu32, number);
+    if (number >= NEARBY_K) {
+        printf(": the question is wrong\n");
+        return 2;
+    }
+    if (number == NEARBY_LENGTH) {
+        printf(", the length");
+    } else if (block < directory) {
+        printf(", block %" PRIu32 " of the directory", block);
+    } else {
+        printf(", block %" PRIu32 ", tile %zu", block, block - directory);
+    }
+    printf(": copy the whole file again\n");
+    return 1;
+}
+
 int main(int argc, char **argv) {
     if (argc != 2) {
         fprintf(stderr, "host FILE\n");
@@ -43,8 +66,11 @@ int main(int argc, char **argv) {
     printf("blocks %zu bad %u\n", length / NEARBY_BLOCK_SIZE, check_blocks(length));
     struct nearby_validated whole = nearby_validate(file, length);
     printf("full check: number %" PRIu32 " block %" PRIu32 " tiles %" PRIu32 "\n", whole.number, whole.block, whole.tiles);
+    if (whole.number != NEARBY_OK) {
+        return refused(whole.number, whole.block, length);
+    }
 
-    /* The box of the cab's stretch of track, a crossing, and a depot behind it: is the crossing nearer from all of the track? */
+    /* The box of the cab's stretch of track, a crossing, a depot behind it: is the crossing nearer from all of the track? */
     int64_t margin = nearby_margin(0, 1000, 0, 0, 2000, 3000, 0, 0, 6000, 7000, 0, 0);
     printf("margin %" PRId64 ": the crossing is %s\n", margin, margin < 0 ? "nearer" : "not nearer");
 
@@ -56,10 +82,9 @@ int main(int argc, char **argv) {
     struct nearby_joined r = nearby_join(file, length, x, STOPS, y, STOPS, K, dist, STOPS * K, site, STOPS * K, cue,
                                          STOPS * K, marks, sizeof marks);
     if (r.number != NEARBY_OK) {
-        printf("refused %" PRIu32 " block %" PRIu32 "\n", r.number, r.block);
-        return 0;
+        return refused(r.number, r.block, length);
     }
-    printf("tiles %" PRIu32 " opened %" PRIu32 " ruled out %" PRIu32 "\n", r.tiles, r.opened, r.pruned);
+    printf("tiles %" PRIu32 " opened %" PRIu32 " struck %" PRIu32 "\n", r.tiles, r.opened, r.pruned);
     for (int i = 0; i < STOPS; i++) {
         printf("stop %d plays", i);
         for (uint32_t j = 0; j < r.used; j++) {

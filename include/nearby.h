@@ -1,7 +1,8 @@
 /* Violetjoist for hosts in C: the k nearest sound sites of each stop, from a town's file.
  *
- * Link with target/staticlib/libhost.a (`make lib`). Every function here is proved against its definition in
- * crates/host/specs; this header says the same in words.
+ * Link with libnearby.a or libnearby.so: `make lib` puts them into target/lib, and after `make install` pkg-config knows them
+ * as nearby. Every function here is proved against its definition in crates/host/specs; this header says the same in words,
+ * and docs/PROOF.md, "What is assumed", says which of them are proved and which tested or measured.
  *
  * For all functions:
  * - A slice is a pointer and the number of its elements. The pointer is not NULL, not even for 0 elements, and has that many
@@ -21,32 +22,56 @@
 extern "C" {
 #endif
 
-/* The number of a refusal; 0 is an answer. The block is the position in the file of the block refused, from 0; it is 0 for
- * NEARBY_LENGTH, for NEARBY_K to NEARBY_SUPPLY, for the box of nearby_prune, and for every refusal by nearby_write. */
+/* The number of a refusal, with what was due; 0 is an answer. docs/FORMAT.md of the sources says what a block holds. */
 enum {
     NEARBY_OK = 0,
-    NEARBY_LENGTH = 1,   /* file of 0 bytes, not a multiple of 512, or over 512,000 */
-    NEARBY_SYNC = 2,     /* byte 0 of a block */
-    NEARBY_CHECK = 3,    /* bytes 510-511 of a block */
-    NEARBY_KIND = 4,     /* not the kind of block due at this position */
-    NEARBY_POSITION = 5, /* a block that says another position */
-    NEARBY_TILES = 6,    /* number of tiles 0, over 960, unlike block 0, or not that of the file's blocks */
-    NEARBY_ENTRIES = 7,  /* number of entries not as due */
-    NEARBY_PADDING = 8,  /* a byte due to be zero is not */
-    NEARBY_BOX = 9,      /* coordinate beyond the limits, low above high, or more than 40 sites */
-    NEARBY_STRAY = 10,   /* a site outside its tile's box */
-    NEARBY_K = 11,       /* k is 0 or over 64 */
-    NEARBY_STOPS = 12,   /* no stop, over 256 stops, or unequal x and y slices */
-    NEARBY_SPOT = 13,    /* a stop beyond the limits */
-    NEARBY_SHORT = 14,   /* an output slice is too short */
-    NEARBY_SUPPLY = 15   /* the writer's lists do not fit together */
+    /* A file, or a block by itself, that cannot be taken. */
+    NEARBY_LENGTH = 1,   /* of the file; due: 512 to 512,000 bytes, a multiple of 512. nearby_block_check: 512 bytes */
+    NEARBY_SYNC = 2,     /* byte 0 of the block; due: D6 hex */
+    NEARBY_CHECK = 3,    /* bytes 510-511; due: the two sums over bytes 1 to 509 */
+    NEARBY_KIND = 4,     /* byte 1; due: 1 in a directory block, 2 in a tile's block */
+    NEARBY_POSITION = 5, /* bytes 2-3; due: the position of the block in the file, from 0 */
+    NEARBY_TILES = 6,    /* T, bytes 6-7 of a directory block; due: 1 to 960, as in block 0, and T + d blocks in the file */
+    NEARBY_ENTRIES = 7,  /* bytes 4-5; due: in directory block p the smaller of 24 and T - 24 * p; in a tile's block the count
+                            that the directory has for the tile */
+    NEARBY_PADDING = 8,  /* a byte that is not 0; due to be 0: each that the format has no use for */
+    NEARBY_BOX = 9,      /* an entry of the directory; due: coordinates within the limits, no low end above its high end, at
+                            most 40 sites */
+    NEARBY_STRAY = 10,   /* a site of the tile; due: inside the box that the directory has for the tile */
+    /* A question that cannot be taken. */
+    NEARBY_K = 11,       /* due: k from 1 to 64 */
+    NEARBY_STOPS = 12,   /* due: 1 to 256 stops, as many y as x */
+    NEARBY_SPOT = 13,    /* a stop; due: both coordinates within the limits */
+    NEARBY_SHORT = 14,   /* an output slice; due: as many elements as the function needs, or more */
+    NEARBY_SUPPLY = 15   /* the writer's lists; due: four numbers a tile in boxes, a site for each that counts says */
 };
 
+/* Where. With the number goes a block: the position in the file of the block refused, from 0. It is 0 for NEARBY_LENGTH, for
+ * NEARBY_K to NEARBY_SUPPLY, for the box of nearby_prune, and for every refusal by nearby_write.
+ * A file has d directory blocks, d = T/24 rounded up, then the block of each tile. A refusal does not say T, but the length
+ * says d: (file_len / 512 + 24) / 25 in whole numbers. A block below d belongs to the directory: block p has the entries of
+ * tiles 24 * p to 24 * p + 23, as far as there are any. Any other block is that of tile block - d. So block 12 is that of tile
+ * 11 in a file of 25 blocks, where d is 1, and a directory block in one of 400, where d is 16. The whole directory is tested
+ * before a tile is opened: where a tile is refused, T and all boxes and counts are good.
+ *
+ * What to do.
+ * - The caller's mistake, and the same call would be refused again: NEARBY_K to NEARBY_SUPPLY, NEARBY_BOX for the box of
+ *   nearby_prune, and every refusal by nearby_write.
+ * - All others speak of the file: copy it again from where it came, the whole of it.
+ *     NEARBY_LENGTH, NEARBY_TILES: cut short or too long, or something else than a town's file.
+ *     NEARBY_SYNC, NEARBY_CHECK: damaged, or something else than a town's file.
+ *     NEARBY_KIND, NEARBY_POSITION: blocks lost, doubled or in another order, or damage that the check does not see.
+ *     NEARBY_ENTRIES, NEARBY_STRAY in a tile: directory and tile are of different files, or such damage.
+ *     NEARBY_ENTRIES in the directory, NEARBY_PADDING, NEARBY_BOX: such damage, or a file not made by nearby_write.
+ *   Do not put in the refused block alone: one of an older file may pass every test, and its sites are wrong.
+ *   If a full copy is refused alike, the file is bad where it came from: make it again from its town.
+ * - Check a file with nearby_validate when it arrives: if it passes, nearby_join and nearby_prune refuse only the caller's
+ *   mistakes. */
 enum {
     NEARBY_BLOCK_SIZE = 512,
     NEARBY_MAX_TILES = 960,
     NEARBY_MAX_SITES = 40, /* in a tile */
-    NEARBY_MAX_STOPS = 256,
+    NEARBY_MAX_STOPS = 256, /* the program `nearby` takes 128 */
     NEARBY_MAX_K = 64,
     NEARBY_MAX_FILE = 512000 /* bytes */
 };
@@ -71,12 +96,12 @@ struct nearby_joined {
     uint32_t used;   /* places used for each stop: the smaller of k and the number of all sites */
     uint32_t tiles;  /* T, the tiles of the file */
     uint32_t opened; /* tiles whose block was read: as many marks are 2 */
-    uint32_t pruned; /* tiles that the directory alone rules out: as many marks are 1 */
+    uint32_t pruned; /* tiles struck: as many marks are 1 */
 };
 
 /* The k nearest sites of each stop. Stop i is at (x[i], y[i]); place j of stop i is element i * k + j of dist (squared
  * distance), site (tile * 40 + slot) and cue, nearest first, then by tile, then by slot. Places past `used` are 0.
- * marks has a byte for each tile: 2 opened, 1 ruled out, 0 neither.
+ * marks has a byte for each tile: 2 opened, 1 struck as by nearby_prune for the smallest box around the stops, 0 neither.
  *
  * Needs n * k elements in dist, site and cue, and T in marks. Elements past these never change.
  * Refuses, first that applies: NEARBY_LENGTH; of each directory block NEARBY_SYNC to NEARBY_BOX; NEARBY_K, NEARBY_STOPS,
@@ -89,25 +114,26 @@ struct nearby_joined nearby_join(const uint8_t *file, size_t file_len,
                                  uint32_t *cue, size_t cue_len, uint8_t *marks, size_t marks_len);
 
 struct nearby_pruned {
-    uint32_t number;
+    uint32_t number; /* NEARBY_OK, or the refusal; then block says where, and the other numbers are 0 */
     uint32_t block;
-    uint32_t tiles;
-    uint32_t pruned;
+    uint32_t tiles;  /* T */
+    uint32_t pruned; /* tiles struck: as many marks are 1 */
 };
 
-/* Marks with 1 each tile that cannot hold one of the k nearest sites of any point of the box x0..x1 by y0..y1, from the
- * directory alone: the tiles nearer than it from the box have k sites or more. The others are marked 0.
+/* Marks with 1 each tile that is struck, from the directory alone: the tiles nearer than it from all of the box x0..x1 by
+ * y0..y1 have k sites or more, so it cannot hold one of the k nearest sites of any point of the box. The others are marked 0.
  *
  * Needs T elements in marks; elements past these never change. Refuses, first that applies: NEARBY_LENGTH; of each directory
- * block NEARBY_SYNC to NEARBY_BOX; NEARBY_K; NEARBY_BOX for the box (block 0); NEARBY_SHORT. Then marks is as it was. */
+ * block NEARBY_SYNC to NEARBY_BOX; NEARBY_K; NEARBY_BOX for the box (block 0); NEARBY_SHORT. Then marks is as it was. If the
+ * box is good, NEARBY_BOX with block 0 is that of the directory. */
 struct nearby_pruned nearby_prune(const uint8_t *file, size_t file_len,
                                   int32_t x0, int32_t x1, int32_t y0, int32_t y1, uint32_t k,
                                   uint8_t *marks, size_t marks_len);
 
 struct nearby_validated {
-    uint32_t number;
+    uint32_t number; /* NEARBY_OK, or the refusal; then block says where, and tiles is 0 */
     uint32_t block;
-    uint32_t tiles;
+    uint32_t tiles;  /* T */
 };
 
 /* The full check: the directory, then every tile in order. Gives T or the first refusal: NEARBY_LENGTH; of each directory
@@ -116,9 +142,9 @@ struct nearby_validated {
 struct nearby_validated nearby_validate(const uint8_t *file, size_t file_len);
 
 struct nearby_written {
-    uint32_t number;
-    uint32_t block; /* always 0 */
-    size_t length;  /* of the file, in bytes: 512 * (T + T/24 rounded up) */
+    uint32_t number; /* NEARBY_OK, or the refusal; then length is 0 */
+    uint32_t block;  /* always 0 */
+    size_t length;   /* of the file, in bytes: 512 * (T + T/24 rounded up) */
 };
 
 /* Writes the file of a town to the start of out. T is counts_len; boxes has four numbers for each tile: low x, low y, high x,

@@ -6,7 +6,7 @@ cd "$(dirname "$0")/.."
 built=target/examples
 mkdir -p "$built"
 for name in town host; do
-    gcc -std=c11 -O2 -Wall -Wextra -Werror -Iinclude "examples/$name.c" target/staticlib/libhost.a -o "$built/$name"
+    gcc -std=c11 -O2 -Wall -Wextra -Werror -Iinclude "examples/$name.c" target/lib/libnearby.a -o "$built/$name"
 done
 
 runs=0
@@ -39,15 +39,62 @@ head -c 12799 samples/riverside.town >"$built/cut.town"
 with_byte() { head -c 11000 samples/riverside.town; printf "$1"; tail -c +11002 samples/riverside.town; }
 with_byte '\x01' >"$built/one.town"
 with_byte '\xff' >"$built/255.town"
+# recount FILE BLOCK ENTRIES: the file with another number of entries in a block, whose check is made anew
+recount() { python3 - "$@" <<'END'
+import sys
+name, block, entries = sys.argv[1], int(sys.argv[2]), int(sys.argv[3])
+data = bytearray(open(name, "rb").read())
+start = 512 * block
+data[start + 4 : start + 6] = entries.to_bytes(2, "little")
+a = c = 0
+for byte in data[start + 1 : start + 510]:
+    a = (a + byte) % 255
+    c = (c + a) % 255
+data[start + 510 : start + 512] = bytes([a, c])
+sys.stdout.buffer.write(data)
+END
+}
+recount samples/riverside.town 12 9 >"$built/tile.town"
+recount samples/riverside.town 0 23 >"$built/entries.town"
 compare <(echo "refused 1 block 0") ask "$built/cut.town" 3 1200,3000
 compare <(echo "refused 3 block 21") ask "$built/one.town" 3 2600,3100
 compare <(echo "refused 8 block 21") ask "$built/255.town" 3 2600,3100
+# says NUMBER BLOCK WHERE FILE: what the sound host prints of a bad file, besides its lines for each block
+host() { "$built/host" "$1" | grep -v '^block'; }
+says() {
+    compare <(printf '%s\n' "full check: number $1 block $2 tiles 0" "refused $1, $3: copy the whole file again" "status 1") \
+        host "$4"
+}
+says 1 0 "the length" "$built/cut.town"
+says 3 21 "block 21, tile 20" "$built/one.town"
+says 8 21 "block 21, tile 20" "$built/255.town"
+says 7 12 "block 12, tile 11" "$built/tile.town"
+says 7 0 "block 0 of the directory" "$built/entries.town"
+says 1 0 "the length" /dev/null
+# With 384 tiles the directory has 16 blocks.
+printf 'tile 0 0 1 1 # %s\n' {1..384} | "$built/town" >"$built/384.town"
+recount "$built/384.town" 12 23 >"$built/384-12.town"
+recount "$built/384.town" 16 1 >"$built/384-16.town"
+says 7 12 "block 12 of the directory" "$built/384-12.town"
+says 7 16 "block 16, tile 0" "$built/384-16.town"
 compare <(echo "refused 11 block 0") ask samples/riverside.town 65 0,0
 compare <(echo "refused 12 block 0") ask samples/riverside.town 3
 compare <(echo "refused 13 block 0") ask samples/riverside.town 3 0,1000001
 compare <(echo input) ask samples/riverside.town 3 $(yes 0,0 | head -n 129)
-compare <(printf 'town: line 2: neither a tile nor a site\nstatus 1\n') lines_to_town 'tile 0 0 1 1\nsight 1 1 1\n'
-compare <(printf 'town: refused 10\nstatus 1\n') lines_to_town 'tile 0 0 1 1\nsite 2 1 1\n'
-compare <(printf 'town: refused 6\nstatus 1\n') lines_to_town '# nothing\n'
-compare <(printf 'town: line 1: a number beyond 32 bits\nstatus 1\n') lines_to_town 'tile 0 0 1 4294967296\n'
+# fails WHY LINES: what town says to a text, given to printf
+fails() { compare <(printf 'town: %s\nstatus 1\n' "$1") lines_to_town "$2"; }
+bad_box="a coordinate beyond 1,000,000, or a low end above its high end"
+fails "line 2: neither a tile nor a site" 'tile 0 0 1 1\nsight 1 1 1\n'
+fails "line 2: neither a tile nor a site" '# a word and a number in one\ntile5 0 1 1\n'
+fails "line 1: a number beyond 32 bits" 'tile 0 0 1 4294967296\n'
+fails "line 2: a number beyond 32 bits" 'tile 0 0 1 1\nsite 0 0 -1\n'
+fails "line 1: a site before the first tile" 'site 0 0 1\n'
+fails "line 3: tile 1, slot 0: the site is outside the tile's box" 'tile 0 0 1 1\ntile 0 0 1 1\nsite 2 1 1\n'
+fails "line 4: tile 0, slot 1: the site is outside the tile's box" 'tile 0 0 1 1\n\nsite 1 1 1\nsite 1 -1 1'
+fails "line 2: tile 1: $bad_box" 'tile 0 0 1 1\ntile 5 0 4 1\n'
+fails "line 1: tile 0: $bad_box" 'tile 0 0 1 1000001\n'
+fails "line 42: tile 0: more than 40 sites" "tile 0 0 1 1\n$(yes 'site 1 1 1\n' | head -n 41 | tr -d '\n')"
+fails "line 961: more than 960 tiles" "$(yes 'tile 0 0 1 1\n' | head -n 961 | tr -d '\n')"
+fails "line 1: longer than 254 characters" "# $(yes long | head -n 60 | xargs)\n"
+fails "there is no tile" '# nothing\n'
 echo "examples: 2 C programs built without a warning, $runs runs compared"

@@ -11,6 +11,7 @@ missing=()
 command -v gcc >/dev/null || missing+=(gcc libc6-dev)
 command -v cargo >/dev/null || missing+=(cargo)
 command -v python3 >/dev/null || missing+=(python3)
+command -v pkg-config >/dev/null || missing+=(pkg-config)
 if [ ${#missing[@]} -gt 0 ]; then
     apt-get update
     apt-get install -y --no-install-recommends "${missing[@]}"
@@ -21,7 +22,10 @@ tests/believed.py
 rt ci | tee "$log"
 make --no-print-directory lib
 tests/examples.sh
+tests/install.sh
 docs/figures/draw.py --check
+# The tool for towns, and the documents; the commands of all of them last.
+tests/documents.py
 cargo build --quiet --release --offline --manifest-path tests/independent/Cargo.toml
 tests/independent/target/release/independent target/bin/nearby
 tail -n 1 "$log"
