@@ -1,0 +1,629 @@
+#!/usr/bin/env python3
+"""docs/FORMAT.md and examples/reader.c against the sample town and the engine (target/lib/libnearby.so).
+
+From the document are taken its tables, dumps, sums, orders of tests and pieces of C; each is compared with the bytes of
+samples/riverside.town, with what the engine answers, or with examples/reader.c. The reader is built with every warning an
+error, and run on good and on damaged files: its number and block have to be those of nearby_validate, and the text that
+it prints has to give the same file by nearby_write. Every failure is printed; the status is 1 if there is one.
+
+use: format.py
+"""
+import ctypes
+import itertools
+import re
+import struct
+import subprocess
+import sys
+from pathlib import Path
+
+ROOT = Path(__file__).resolve().parent.parent
+BLOCK, BAD_BOX = 512, 9_000_000_000_000_000_000
+failures, done = [], {"facts": 0, "files": 0}
+
+
+def expect(what, got, due):
+    done["facts"] += 1
+    if got != due:
+        failures.append(f"{what}: {got!r}, due is {due!r}")
+
+
+# The engine
+
+def report(*names):
+    kinds = {"length": ctypes.c_size_t}
+    fields = [(name, kinds.get(name, ctypes.c_uint32)) for name in ("number", "block", *names)]
+    return type("Report", (ctypes.Structure,), {"_fields_": fields})
+
+
+class Engine:
+    """The calls of include/nearby.h on bytes and lists; what is lent to a call is in `lent` afterwards."""
+
+    def __init__(self, path):
+        self.calls = ctypes.CDLL(str(path))
+        for name, gives in [("join", report("used", "tiles", "opened", "pruned")), ("prune", report("tiles", "pruned")),
+                            ("validate", report("tiles")), ("write", report("length")),
+                            ("block_check", ctypes.c_uint32), ("margin", ctypes.c_int64)]:
+            getattr(self.calls, "nearby_" + name).restype = gives
+
+    @staticmethod
+    def slice(kind, values):
+        values = list(values)
+        return (kind * max(1, len(values)))(*values), ctypes.c_size_t(len(values))
+
+    def bytes(self, data):
+        return ctypes.c_char_p(bytes(data) or b"\0"), ctypes.c_size_t(len(data))
+
+    def block_check(self, block):
+        return self.calls.nearby_block_check(*self.bytes(block))
+
+    def validate(self, file):
+        answer = self.calls.nearby_validate(*self.bytes(file))
+        return answer.number, answer.block, answer.tiles
+
+    def write(self, boxes, counts, x, y, cues, room=512000):
+        out = ctypes.create_string_buffer(max(1, room))
+        signed, unsigned = ctypes.c_int32, ctypes.c_uint32
+        answer = self.calls.nearby_write(
+            *self.slice(signed, boxes), *self.slice(unsigned, counts), *self.slice(signed, x), *self.slice(signed, y),
+            *self.slice(unsigned, cues), out, ctypes.c_size_t(room))
+        return answer.number, answer.block, out.raw[:answer.length]
+
+    def join(self, file, x, y, k, rooms):
+        kinds = ctypes.c_uint64, ctypes.c_uint32, ctypes.c_uint32, ctypes.c_uint8
+        self.lent = [self.slice(kind, [77] * room) for kind, room in zip(kinds, rooms)]
+        answer = self.calls.nearby_join(
+            *self.bytes(file), *self.slice(ctypes.c_int32, x), *self.slice(ctypes.c_int32, y), ctypes.c_uint32(k),
+            *itertools.chain(*self.lent))
+        return answer.number, answer.block
+
+    def prune(self, file, box, k, room):
+        self.lent = [self.slice(ctypes.c_uint8, [77] * room)]
+        answer = self.calls.nearby_prune(*self.bytes(file), *map(ctypes.c_int32, box), ctypes.c_uint32(k), *self.lent[0])
+        return answer.number, answer.block
+
+    def margin(self, *numbers):
+        return self.calls.nearby_margin(*map(ctypes.c_int32, numbers))
+
+    def slices_hold(self, value):
+        return all(set(part[:length.value]) <= {value} for part, length in self.lent)
+
+
+# Files
+
+def sums(data, modulus=255):
+    a = c = 0
+    for byte in data:
+        a = (a + byte) % modulus
+        c = (c + a) % modulus
+    return a, c
+
+
+def mended(file, position):
+    """The file with the check of a block computed anew."""
+    file, at = bytearray(file), BLOCK * position
+    file[at + 510:at + 512] = sums(file[at + 1:at + 510])
+    return bytes(file)
+
+
+def put(file, at, data):
+    return file[:at] + bytes(data) + file[at + len(data):]
+
+
+def block_of(file, position):
+    return file[BLOCK * position:BLOCK * position + BLOCK]
+
+
+def directory_blocks(tiles):
+    return -(-tiles // 24)
+
+
+def lists_of(text):
+    """The writer's lists of a town's text."""
+    boxes, counts, x, y, cues = [], [], [], [], []
+    for line in text.splitlines():
+        word, *numbers = line.partition("#")[0].split() or [""]
+        if word == "tile":
+            boxes += map(int, numbers)
+            counts.append(0)
+        elif word == "site":
+            counts[-1] += 1
+            for column, number in zip((x, y, cues), numbers):
+                column.append(int(number))
+    return boxes, counts, x, y, cues
+
+
+def town(tiles, sites=2):
+    """Lists of a town with this many tiles, and as many sites in each."""
+    boxes = [number for t in range(tiles) for number in (10 * t, -5, 10 * t + 9, 5)]
+    x = [10 * t + slot % 10 for t in range(tiles) for slot in range(sites)]
+    return boxes, [sites] * tiles, x, [-1] * len(x), list(range(1, len(x) + 1))
+
+
+# The document
+
+class Document:
+    def __init__(self, path):
+        self.parts, self.fences, self.whole = {}, [], path.read_text()
+        part, fence = "", None
+        for line in self.whole.splitlines():
+            if fence is not None and line == "```":
+                fence = None
+            elif fence is not None:
+                fence[1].append(line)
+            elif line.startswith("```"):
+                fence = (line[3:], [])
+                self.fences.append((part, *fence))
+            elif re.match(r"##+ ", line):
+                part = line.lstrip("# ")
+            else:
+                self.parts.setdefault(part, []).append(line)
+
+    def tables(self, head):
+        """The rows of the tables whose first row has these first cells."""
+        found, rows = [], None
+        for line in itertools.chain(*(lines + [""] for lines in self.parts.values())):
+            cells = [cell.strip() for cell in line.strip("|").split("|")] if line.startswith("|") else None
+            if cells is None:
+                rows = None
+            elif rows is None and cells[:len(head)] == head:
+                found.append(rows := [])
+            elif rows is None:
+                rows = []
+            elif not set(line) <= set("|-"):
+                rows.append(cells)
+        if not found:
+            failures.append(f"docs/FORMAT.md: no table {head}")
+        return found
+
+    def table(self, *head):
+        return (self.tables(list(head)) + [[]])[0]
+
+    def steps(self, title):
+        """The numbered list of a part: refusals by number, and its other steps by their first words."""
+        steps = []
+        for line in self.parts.get(title, []):
+            step = re.match(r"\d+\. (?:\*\*(\d+) (\w+)\*\*|(\w+(?: \w+)?))", line)
+            if step:
+                steps.append(int(step[1]) if step[1] else step[3])
+                if step[1]:
+                    expect(f"{title}: name of {step[1]}", step[2], NAMES.get(int(step[1])))
+        return steps
+
+
+def number(text):
+    return int(text.replace(",", ""))
+
+
+def count_of(expression, n):
+    """The value of a formula such as `16 + 20 × n`."""
+    if not re.fullmatch(r"[\dn ×+-]+", expression):
+        raise ValueError(expression)
+    return eval(expression.replace("×", "*"), {"n": n})
+
+
+def dumped(lines):
+    """The bytes that od printed with -A d -t x1."""
+    data, repeat = b"", False
+    for line in lines:
+        if line == "*":
+            repeat = True
+        elif re.fullmatch(r"\d{7}( [0-9a-f]{2})*", line):
+            at = int(line[:7])
+            while repeat and len(data) < at:
+                data += data[-16:]
+            repeat = False
+            expect("a dump's line number", len(data), at)
+            data += bytes.fromhex(line[7:])
+    return data
+
+
+def header_names():
+    text = (ROOT / "include/nearby.h").read_text()
+    return {int(value): name.lower() for name, value in re.findall(r"NEARBY_(\w+) = (\d+),? +/\* ", text)
+            if 1 <= int(value) <= 15}
+
+
+# What the document says of numbers, sizes and sums
+
+def check_arithmetic(document):
+    """Every equation between numbers, in running text and in tables."""
+    text = re.sub(r"(?<=\d),(?=\d{3})", "", document.whole)
+    equations = re.findall(r"(?<![\w.])(\d+(?: [×+-] \d+)+) = (-?\d+)\b", text)
+    for left, right in equations:
+        expect(f"{left} = {right}", eval(left.replace("×", "*")), int(right))
+    for left, right in re.findall(r"(\d+) mod 255 (?:=|is) (\d+)", text):
+        expect(f"{left} mod 255", int(right), int(left) % 255)
+    expect("there are equations", len(equations) > 15, True)
+
+
+def check_limits(document, engine):
+    def number_of(*lists, room=512000):
+        return engine.write(*lists, room=room)[0]
+
+    def one(low, high, sites=0, cue=0):
+        return number_of([low, 0, high, 0], [sites], [low] * sites, [0] * sites, [cue] * sites)
+
+    limits = {row[0]: (number(row[1]), number(row[2])) for row in document.table("What", "Least", "Most")}
+    least, most = limits["tiles, T"]
+    expect("T within and beyond its limits",
+           [number_of(*town(tiles, 0)) for tiles in (least - 1, least, most, most + 1)], [6, 0, 0, 6])
+    low, high = limits["coordinate"]
+    expect("coordinates", [one(low, low), one(high, high), one(low - 1, low), one(high, high + 1)], [0, 0, 9, 9])
+    fewest, sites = limits["sites of a tile"]
+    expect("sites of a tile", [one(0, 0, fewest), one(0, 0, sites), one(0, 0, sites + 1)], [0, 0, 9])
+    expect("cues", [one(0, 0, 1, cue) for cue in limits["cue"]], [0, 0])
+    expect("cues of 32 bits", limits["cue"], (0, 2 ** 32 - 1))
+    expect("d", limits["directory blocks, d"], (directory_blocks(least), directory_blocks(most)))
+    blocks = least + directory_blocks(least), most + directory_blocks(most)
+    expect("blocks", limits["blocks of a file"], blocks)
+    expect("bytes", limits["bytes of a file"], tuple(BLOCK * n for n in blocks))
+    expect("bytes of files", tuple(len(engine.write(*town(n, 0))[2]) for n in (least, most)), limits["bytes of a file"])
+    expect("entries", limits["entries of a directory block"], (1, (510 - 16) // 20))
+    expect("sites", limits["sites of a town"], (0, most * sites))
+    expect("site numbers", limits["site number"], (0, (most - 1) * 40 + sites - 1))
+
+
+def check_worked_block(document, engine, sample):
+    """The dump of block 2, its fields and its sums."""
+    dumps = {part: dumped(lines) for part, tag, lines in document.fences if any("| od " in line for line in lines)}
+    block = dumps["Worked through with a pencil"]
+    expect("the dump of block 2", block, block_of(sample, 2))
+    expect("its check to the engine", engine.block_check(block), 0)
+
+    at = 0
+    for bytes_, hexa, field, read in document.table("Bytes", "Hex", "Field"):
+        first, last = map(int, (bytes_.split("-") * 2)[:2])
+        expect(f"field {field}: first byte", first, at)
+        at = last + 1
+        there = block[first:at]
+        expect(f"field {field}", bytes(len(there)) if hexa.endswith("..") else bytes.fromhex(hexa), there)
+        value = int(re.search(r"\d+", read.split("=")[-1])[0])
+        expect(f"field {field} as a number", value, int.from_bytes(there, "little"))
+    expect("the fields' end", at, BLOCK)
+
+    at = 1
+    for bytes_, value, a, c, _ in document.table("Bytes", "Value", "a", "c"):
+        if bytes_ == "before":
+            expect("sums before", (a, c), ("0", "0"))
+        elif bytes_ == "stored":
+            expect("stored sums", (int(a), int(c)), tuple(block[510:]))
+        else:
+            first, last = map(int, (bytes_.split("-") * 2)[:2])
+            expect("next bytes of the sums", first, at)
+            at = last + 1
+            expect(f"value of bytes {bytes_}", set(block[first:at]), {int(value)})
+            expect(f"sums after byte {last}", (int(a), int(c)), sums(block[1:at]))
+    expect("the sums' last byte", at, 510)
+    for changed in (510, 511):
+        for value in range(256):
+            due = 0 if value == block[changed] else 3
+            expect("a stored sum to the engine", engine.block_check(put(block, changed, [value])), due)
+
+    *rows, total = document.table("Byte i", "Value", "510 - i")
+    rows = [tuple(map(int, row)) for row in rows]
+    expect("bytes that are not zero", [row[:2] for row in rows], [(i, block[i]) for i in range(1, 510) if block[i]])
+    expect("times", [row[2:] for row in rows], [(510 - i, value * (510 - i)) for i, value, _, _ in rows])
+    expect("totals", total, ["sum", str(sum(row[1] for row in rows)), "", str(sum(row[3] for row in rows))])
+
+    before_a = sum(sum(block[1:i]) for i in range(1, 510)) % 255
+    mistakes = {
+        "byte 0 is summed too": sums(block[:510]),
+        "bytes 510 and 511 are summed too": sums(block[1:]),
+        "bytes 510 and 511 are summed too, as zeros": sums(block[1:510] + bytes(2)),
+        "bytes 2 and 3 are left out": sums(block[1:2] + block[4:510]),
+        "bytes 2 and 3 are summed as zeros": sums(block[1:2] + bytes(2) + block[4:510]),
+        "only the payload, bytes 16 to 495, is summed": sums(block[16:496]),
+        "c is added to before a": (sums(block[1:510])[0], before_a),
+        "the remainder is that of 256": sums(block[1:510], 256),
+    }
+    said = {row[0]: (int(row[1]), int(row[2])) for row in document.table("Mistake", "a", "c")}
+    expect("mistakes", said, mistakes)
+    worst = [255] * 509
+    expect("sums without remainders", [sum(worst), sum(itertools.accumulate(worst))],
+           [number(text) for text in re.search(r"a is at most ([\d,]+) and c at most ([\d,]*\d)",
+                                               " ".join(document.parts["The two sums"])).groups()])
+
+    example = next(lines for part, tag, lines in document.fences if lines[0].startswith("# y is 0"))
+    for line, numbered in enumerate(re.findall(r"site (\d+) × 40 \+ (\d+)", "\n".join(example))):
+        expect("numbering in the text", numbered, (str(line), "0"))
+    expect("the dump of the text's town", dumps["5. The text of a town"],
+           engine.write(*lists_of("\n".join(example)))[2][:BLOCK])
+
+
+def check_what_is_seen(engine, sample):
+    """Part 4, 'What it sees and what not'."""
+    for position in (0, 2):
+        block = block_of(sample, position)
+        for at in range(BLOCK):
+            for value in {block[at] ^ 1, block[at] ^ 0x80, 255 - block[at], 0, 255} - {block[at]}:
+                unseen = 1 <= at <= 509 and {value, block[at]} == {0, 255}
+                due = 2 if at == 0 else 0 if unseen else 3
+                expect(f"byte {at} as {value}", engine.block_check(put(block, at, [value])), due)
+        for at in range(1, 509):
+            pair = block[at:at + 2]
+            due = 0 if pair[0] % 255 == pair[1] % 255 else 3
+            expect(f"bytes {at} and {at + 1} swapped", engine.block_check(put(block, at, pair[::-1])), due)
+        for at in range(1, 255):
+            apart = put(put(block, at, block[at + 255:at + 256]), at + 255, block[at:at + 1])
+            expect(f"bytes {at} and {at + 255} swapped", engine.block_check(apart), 0)
+    zero = put(bytes(BLOCK), 0, [0xD6])
+    expect("zeros", [engine.block_check(put(zero, at, [255])) for at in (1, 509, 510, 511)], [0, 0, 3, 3])
+
+
+# What the document says of blocks
+
+def check_byte_tables(document, engine, reader, sample):
+    """The tables of part 3: no byte is left out, the sample reads as its text, and each field is refused as said."""
+    tables = document.tables(["Offset", "Length", "Name", "What is due", "Else refused with"])
+    directory, entry, tile, site = tables
+    for table, size, most in (directory, BLOCK, 24), (entry, 20, 0), (tile, BLOCK, 40), (site, 12, 0):
+        for n in range(most + 1):
+            at = 0
+            for offset, length, name, *_ in table:
+                expect(f"offset of {name}", count_of(offset, n), at)
+                at += count_of(length, n)
+            expect("the size of a table's whole", at, size)
+
+    def field(table, name, data, start=0, signed=False):
+        offset, length = next((row[0], row[1]) for row in table if row[2] == name)
+        at = start + count_of(offset, 0)
+        return int.from_bytes(data[at:at + count_of(length, 0)], "little", signed=signed)
+
+    tiles, lines = field(directory, "T", sample), []
+    for t in range(tiles):
+        start, count = 16 + 20 * (t % 24) + BLOCK * (t // 24), 0
+        box = [field(entry, name, sample, start, True) for name in ("low x", "low y", "high x", "high y")]
+        lines.append("tile {} {} {} {}".format(*box))
+        block = block_of(sample, directory_blocks(tiles) + t)
+        expect("entries", field(tile, "entries", block), field(entry, "count", sample, start))
+        for slot in range(field(entry, "count", sample, start)):
+            point = [field(site, name, block, 16 + 12 * slot, name != "cue") for name in ("x", "y", "cue")]
+            lines.append("site {} {} {}".format(*point))
+    due = [line for line in (ROOT / "samples/riverside.txt").read_text().splitlines() if line[0] != "#"]
+    expect("the sample read by the tables", lines, due)
+
+    # each byte of each field set to 7f, so that coordinates and counts are beyond all limits in their high bytes
+    for table, position, start, n in (directory, 0, 0, 24), (entry, 0, 16 + 20 * 3, 0), (tile, 2, 0, 1), (site, 2, 16, 0):
+        for offset, length, name, _, refusal in table:
+            if refusal == "" and name != "cue":
+                continue
+            last = count_of(offset, n) + count_of(length, n) - 1
+            file = put(sample, BLOCK * position + start + last, [0x7F])
+            file = file if name in ("a", "c") else mended(file, position)
+            due = (int(refusal.split()[0]), position) if refusal else (0, 0)
+            expect(f"{name} as 7f", engine.validate(file)[:2], due)
+            reader.compare(file)
+            expect(f"name of {refusal}", refusal.split()[1:], [NAMES[due[0]]] if refusal else [])
+
+
+def fault_in_directory(file, number, position):
+    at = BLOCK * position
+    head = {2: (0, [0]), 4: (1, [2]), 5: (2, [position + 1]), 6: (6, [29]), 7: (4, [7]), 8: (16 + 18, [0, 1])}
+    return put(file, at + 16 + 12, struct.pack("<i", -6)) if number == 9 else put(file, at + head[number][0], head[number][1])
+
+
+def fault_in_tile(file, number, position):
+    at = BLOCK * position
+    head = {2: (0, [0]), 4: (1, [1]), 5: (2, [position - 1]), 7: (4, [1]), 8: (6, [30])}
+    return put(file, at + 28 + 4, struct.pack("<i", 6)) if number == 10 else put(file, at + head[number][0], head[number][1])
+
+
+def with_faults(file, make, numbers, position):
+    """A block with these faults; the check is right but for fault 3."""
+    for one in numbers:
+        file = file if one == 3 else make(file, one, position)
+    file = mended(file, position)
+    return put(file, BLOCK * position + 511, [file[BLOCK * position + 511] ^ 1]) if 3 in numbers else file
+
+
+def check_orders_in_blocks(document, engine, reader):
+    file = engine.write(*town(30))[2]
+    d = directory_blocks(30)
+    for title, make, positions, due in [
+            ("Order of tests: a directory block", fault_in_directory, range(d), [2, 3, 4, 5, 6, 7, 8, 9]),
+            ("Order of tests: the opening of a tile", fault_in_tile, (d, d + 24, d + 29), [2, 3, 4, 5, 7, 8, 10])]:
+        steps = document.steps(title)
+        expect(title, steps, due)
+        for position in positions:
+            for first, second in itertools.combinations_with_replacement(steps, 2):
+                bad = with_faults(file, make, {first, second}, position)
+                expect(f"{title}: {first} and {second}", engine.validate(bad)[:2], (first, position))
+                reader.compare(bad)
+        # the last fault of a block before the first of the next
+        bad = with_faults(file, make, {steps[-1]}, positions[0])
+        bad = with_faults(bad, make, {2}, positions[0] + 1)
+        expect(f"{title}: two blocks", engine.validate(bad)[:2], (steps[-1], positions[0]))
+        reader.compare(bad)
+
+
+# What the document says of calls
+
+def first_of(title, steps, faults, call):
+    """Every fault by itself and every two of them: the one whose step comes first decides."""
+    expect(title, steps, [name for name, _, _ in faults])
+    for one, other in itertools.combinations_with_replacement(range(len(faults)), 2):
+        name, due, change = faults[one]
+        expect(f"{title}: {name} before {faults[other][0]}", call(**{**faults[other][2], **change}), due)
+
+
+def check_orders_of_calls(document, engine):
+    file = engine.write(*town(30))[2]
+    bad_tiles = file
+    for tile in range(30):
+        bad_tiles = with_faults(bad_tiles, fault_in_tile, {10}, 2 + tile)
+
+    def damaged(directory, tile, length):
+        made = bad_tiles if tile else file
+        made = with_faults(made, fault_in_directory, {9}, 1) if directory else made
+        return made + b"\0" if length else made
+
+    def join(length=0, directory=0, tile=0, k=3, x=(0, 500), y=(0, 0), spot=0, short=0):
+        x = [1_000_001, *x[1:]] if spot and x else x
+        n = len(x) * k
+        answer = engine.join(damaged(directory, tile, length), x, y, k, [n, n, n - short, 30] if n else [9] * 4)
+        if answer[0] and not engine.slices_hold(0 if answer == (10, 2) else 77):
+            failures.append(f"the join, refused with {answer}: its slices are not as said")
+        return answer
+
+    first_of("join", document.steps("Order of tests: the join, `nearby_join`"), [
+        (1, (1, 0), {"length": 1}), ("The directory", (9, 1), {"directory": 1}), (11, (11, 0), {"k": 65}),
+        (12, (12, 0), {"y": (0,)}), (13, (13, 0), {"spot": 1}), (14, (14, 0), {"short": 1}),
+        ("Openings", (10, 2), {"tile": 1})], join)
+    for change in {"x": (), "y": ()}, {"x": (0,) * 257, "y": (0,) * 257}, {"x": (0,)}:
+        expect("stops of the join", join(**change), (12, 0))
+    expect("k of the join", [join(k=k)[0] for k in (0, 1, 64, 65)], [11, 0, 0, 11])
+
+    def prune(length=0, directory=0, k=3, box=(0, 0, 0, 0), room=30):
+        answer = engine.prune(damaged(directory, 1, length), box, k, room)
+        if answer[0] and not engine.slices_hold(77):
+            failures.append(f"the strike call, refused with {answer}: its marks are not as they were")
+        return answer
+
+    first_of("strike", document.steps("Order of tests: the strike call, `nearby_prune`"), [
+        (1, (1, 0), {"length": 1}), ("The directory", (9, 1), {"directory": 1}), (11, (11, 0), {"k": 0}),
+        (9, (9, 0), {"box": (1, 0, 0, 0)}), (14, (14, 0), {"room": 29})], prune)
+    expect("the strike call opens no tile", prune(), (0, 0))
+
+    first_of("full check", document.steps("Order of tests: the full check, `nearby_validate`"), [
+        (1, (1, 0), {"length": 1}), ("The directory", (9, 1), {"directory": 1}), ("The opening", (10, 2), {"tile": 1})],
+        lambda length=0, directory=0, tile=0: engine.validate(damaged(directory, tile, length))[:2])
+
+    def write(tiles=30, numbers=0, box=0, lists=0, stray=0, short=0):
+        boxes, counts, x, y, cues = town(tiles)
+        boxes[1] = 6 if box else boxes[1]
+        x[-1] += 10 * stray
+        room = BLOCK * (tiles + directory_blocks(tiles)) - short
+        number, block, out = engine.write(boxes[:len(boxes) - numbers], counts, x, y, cues[:len(cues) - lists], room)
+        return number, block
+
+    first_of("writer", document.steps("Order of tests: the writer, `nearby_write`"), [
+        (6, (6, 0), {"tiles": 961}), (15, (15, 0), {"numbers": 1}), (9, (9, 0), {"box": 1}), (15, (15, 0), {"lists": 1}),
+        (10, (10, 0), {"stray": 1}), (14, (14, 0), {"short": 1})], write)
+
+    first_of("block check", document.steps("Order of tests: the block check, `nearby_block_check`"), [
+        (1, 1, {"cut": 1}), (2, 2, {"sync": 1}), (3, 3, {"check": 1})],
+        lambda cut=0, sync=0, check=0: engine.block_check(
+            put(put(file, 0, [0]) if sync else file, 511, [255] if check else [])[:BLOCK - cut]))
+    good = (0, 1, 0, 1)
+    for bad in (1, 0, 0, 0), (0, 0, 1, 0), (-1_000_001, 0, 0, 0), (0, 0, 0, 1_000_001):
+        for boxes in itertools.permutations([good, good, bad]):
+            expect("a margin of a bad box", engine.margin(*itertools.chain(*boxes)), BAD_BOX)
+    expect("the bad box's number", "is 9,000,000,000,000,000,000" in document.whole.replace("\n", " "), True)
+
+
+def check_refusals(document):
+    for head in ["No.", "Name", "Refused when"], ["No.", "What has mostly happened"]:
+        rows = document.table(*head)
+        expect(f"numbers of {head}", [int(row[0]) for row in rows], list(range(1, 16 if head[1] == "Name" else 11)))
+    for row in document.table("No.", "Name", "Refused when"):
+        expect(f"name of {row[0]}", row[1], NAMES.get(int(row[0])))
+
+
+def check_block_12(document, engine, reader):
+    for length, blocks, d, tiles, kind, due in document.table("Bytes of the file", "N", "d", "T"):
+        tiles, entries = number(tiles), None
+        file = engine.write(*town(tiles, 3))[2]
+        expect("block 12: length, N, d", [number(length), number(blocks), number(d)],
+               [len(file), len(file) // BLOCK, directory_blocks(tiles)])
+        expect("block 12: what it is", file[12 * BLOCK + 1], 2 if kind.startswith("tile") else 1)
+        if kind.startswith("tile"):
+            expect("block 12: the tile", kind, f"tile {12 - number(d)}")
+            at = int(re.search(r"at byte (\d+) of the file", due)[1])
+            entries = int.from_bytes(file[at:at + 2], "little")
+        else:
+            entries = int(due.split("=")[-1])
+        expect("block 12: entries", entries, file[12 * BLOCK + 4])
+        for other in range(41):
+            bad = mended(put(file, 12 * BLOCK + 4, [other]), 12)
+            expect(f"block 12 with {other} entries", engine.validate(bad)[:2], (0, 0) if other == entries else (7, 12))
+        reader.compare(bad)
+    lengths = {tiles + directory_blocks(tiles): tiles for tiles in range(1, 961)}
+    for blocks in range(1, 1001):
+        d = -(-blocks // 25)
+        expect(f"{blocks} blocks", lengths.get(blocks), None if blocks % 25 == 1 else blocks - d)
+
+
+# The reader
+
+class Reader:
+    """examples/reader.c, built, and compared with the full check."""
+
+    def __init__(self, engine):
+        self.engine, self.program = engine, ROOT / "target/examples/reader"
+        self.program.parent.mkdir(parents=True, exist_ok=True)
+        flags = ["-std=c11", "-O2", "-Wall", "-Wextra", "-Werror"]
+        subprocess.run(["gcc", *flags, ROOT / "examples/reader.c", "-o", self.program], check=True)
+
+    def compare(self, file):
+        done["files"] += 1
+        ran = subprocess.run([self.program], input=file, capture_output=True)
+        number, block, tiles = self.engine.validate(file)
+        said = f"refused {number} block {block}\n".encode()
+        expect("the reader's status and refusal", (ran.returncode, ran.stderr), (1, said) if number else (0, b""))
+        if number:
+            expect("what the reader prints of a refused file", ran.stdout, b"")
+        else:
+            expect("tiles in the reader's text", ran.stdout.count(b"tile"), tiles)
+            expect("the file of the reader's text", self.engine.write(*lists_of(ran.stdout.decode()))[2] == file, True)
+
+
+def check_reader(document, engine, reader, sample):
+    source = (ROOT / "examples/reader.c").read_text()
+    pieces = ["\n".join(lines) for _, tag, lines in document.fences if tag == "c"]
+    expect("pieces of C in the document", [piece in source for piece in pieces], [True] * len(pieces))
+    expect("there are pieces of C", len(pieces) > 1, True)
+
+    large = engine.write(*town(960, 40))[2]
+    mixed = engine.write(*lists_of("tile -1000000 -1000000 1000000 1000000\nsite -1000000 1000000 4294967295\n"
+                                   "site -1 -256 0\ntile -7 -7 -7 -7\nsite -7 -7 255\ntile 0 0 0 0\n"))[2]
+    for good in sample, large, mixed, engine.write(*town(1, 0))[2], engine.write(*town(24))[2], engine.write(*town(25))[2]:
+        expect("a good file", engine.validate(good)[0], 0)
+        reader.compare(good)
+
+    lengths = [0, 1, 511, 512, 513, 1024, 12288, 12799]
+    damaged = [sample[:length] for length in lengths] + [sample + b"\0", sample + bytes(BLOCK), sample * 2]
+    damaged += [large + bytes(1), large + bytes(BLOCK), large + bytes(BLOCK * 30), large[:-BLOCK], large[BLOCK:]]
+    for position in 0, 2:  # each byte changed, with the check mended; of some also with the check as it was
+        for at in range(BLOCK * position, BLOCK * position + BLOCK):
+            bad = put(sample, at, [sample[at] ^ 0xFF if at % 2 else (sample[at] + 1) % 256])
+            damaged += [mended(bad, position)] if at % 8 else [mended(bad, position), bad]
+    for one, other in (0, 1), (1, 2), (2, 24), (3, 7), (23, 24):  # blocks that change places; then they say so
+        moved = put(put(sample, BLOCK * one, block_of(sample, other)), BLOCK * other, block_of(sample, one))
+        says = put(put(moved, BLOCK * one + 2, [one]), BLOCK * other + 2, [other])
+        damaged += [moved, mended(mended(says, one), other), put(sample, BLOCK * one, block_of(sample, other))]
+    two = engine.write(*town(30))[2]
+    for tiles in 0, 1, 23, 24, 25, 29, 31, 48, 49, 960, 961, 24 + 256, 65535:  # another T, in one directory block or in both
+        other = put(two, 6, struct.pack("<H", tiles))
+        damaged += [mended(put(sample, 6, struct.pack("<H", tiles)), 0), mended(other, 0)]
+        damaged += [mended(put(two, BLOCK + 6, struct.pack("<H", tiles)), 1)]
+        damaged += [mended(mended(put(other, BLOCK + 6, struct.pack("<H", tiles)), 0), 1)]
+    for bad in damaged:
+        reader.compare(bad)
+
+
+def main():
+    library = ROOT / "target/lib/libnearby.so"
+    if not library.exists():
+        sys.exit("format: no target/lib/libnearby.so: `make lib` makes it")
+    engine, document = Engine(library), Document(ROOT / "docs/FORMAT.md")
+    reader, sample = Reader(engine), (ROOT / "samples/riverside.town").read_bytes()
+    check_arithmetic(document)
+    check_limits(document, engine)
+    check_worked_block(document, engine, sample)
+    check_what_is_seen(engine, sample)
+    check_byte_tables(document, engine, reader, sample)
+    check_refusals(document)
+    check_orders_in_blocks(document, engine, reader)
+    check_orders_of_calls(document, engine)
+    check_block_12(document, engine, reader)
+    check_reader(document, engine, reader, sample)
+    for failure in failures[:20]:
+        print("format:", failure)
+    if failures:
+        sys.exit(f"format: {len(failures)} failures")
+    print(f"format: {done['facts']} facts of docs/FORMAT.md hold, reader.c agrees with the engine on {done['files']} files")
+
+
+NAMES = header_names()
+if __name__ == "__main__":
+    main()
