@@ -40,7 +40,7 @@ tiles-good h first blocks e =
       },
     )
 
-pub tiles-enough : (h : Header) (blocks : ℕ) → GoodTiles h blocks → tilesDue h h blocks ≡ true
+tiles-enough : (h : Header) (blocks : ℕ) → GoodTiles h blocks → tilesDue h h blocks ≡ true
 unfolding tilesDue
 tiles-enough h blocks g =
     let t = h .tiles in
@@ -63,7 +63,7 @@ length-good n e =
       most = leb-true n maxLength (h .1);
     }
 
-pub length-enough : (n : ℕ) → GoodLength n → lengthDue n ≡ true
+length-enough : (n : ℕ) → GoodLength n → lengthDue n ≡ true
 unfolding lengthDue
 length-enough n g = rw (le-leb 1 n (g .least), eq-eqb (n % blockSize) 0 (g .whole), le-leb n maxLength (g .most))
 
@@ -84,7 +84,7 @@ module _ (s : List ℕ) (p : ℕ) where
   unfolding entryValid
   entry-enough i b c = rw (b, le-leb (entryCount s i) (maxSites axes) c)
 
-  pub block-good : (first : Header) (blocks : ℕ) {h : Header} → directoryBlock s p first blocks ≡ accepted h →
+  block-good : (first : Header) (blocks : ℕ) {h : Header} → directoryBlock s p first blocks ≡ accepted h →
       (h ≡ first)
       × GoodTiles h blocks × GoodDirectoryBlock s p h
   unfolding directoryBlock
@@ -109,7 +109,7 @@ module _ (s : List ℕ) (p : ℕ) where
       } in
       (sym q ∙ w .0, rw q at (w .1), rw q at g)
 
-  pub block-enough : (h : Header) (blocks : ℕ) → GoodTiles h blocks → GoodDirectoryBlock s p h →
+  block-enough : (h : Header) (blocks : ℕ) → GoodTiles h blocks → GoodDirectoryBlock s p h →
       directoryBlock s p h blocks ≡ accepted h
   unfolding directoryBlock
   block-enough h blocks w g =

@@ -40,7 +40,7 @@ module _ {s : List ℕ} {i : ℕ} {vs : List ℕ} (h : Holds s i vs) where
   }
 
   -- at an index that is the same
-  pub holds-at : {k : ℕ} → k ≡ i → Holds s k vs
+  holds-at : {k : ℕ} → k ≡ i → Holds s k vs
   holds-at e = rw e h
 
   pub holds-run : {ws : List ℕ} → vs ≡ ws → Holds s i ws

@@ -34,7 +34,7 @@ pub fn u32_at(s: &[u8], at: usize) -> u32
 }
 
 // The signed number with the 32 bits of n.
-pub fn signed(n: u32) -> i32
+fn signed(n: u32) -> i32
     ensures { λ r. ⌜ r ≡ signed n ⌝ }
 {
     if n < LIMIT_SIGNED {

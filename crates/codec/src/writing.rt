@@ -33,7 +33,7 @@ pub fn put_u32(d: &mut [u8], at: usize, n: u32)
 }
 
 // The 32 bits of a signed number.
-pub fn bits(x: i32) -> u32
+fn bits(x: i32) -> u32
     ensures { λ r. ⌜ r ≡ bits x ⌝ }
 {
     if 0 <= x {

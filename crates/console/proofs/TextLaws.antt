@@ -17,7 +17,7 @@ use Rattle.codec.proofs.Over.{length-over, over-nil, over-cons, over-next, over
 use Rattle.console.specs.Text.{widthUpTo, width, digits, decimal, labelled, Wrote}
 
 -- ---- digits
-pub length-digits : (w n : ℕ) → length (digits w n) ≡ w
+length-digits : (w n : ℕ) → length (digits w n) ≡ w
 unfolding digits
 length-digits zero n = refl
 length-digits (suc w) n = length-append (digits w (n / 10)) _ ∙ ap (λ k. k + 1) (length-digits w (n / 10)) ∙ add-one w
@@ -86,7 +86,7 @@ module _ (g : ℕ → List ℕ) (n : ℕ) (l : List ℕ) (at : ℕ) where
 
 -- ---- the number of digits
 -- a number below 10^(w + 1) has at most w + 1 digits
-pub width-few : (w more n : ℕ) → n < 10 ^ suc w → widthUpTo more n ≤ suc w
+width-few : (w more n : ℕ) → n < 10 ^ suc w → widthUpTo more n ≤ suc w
 unfolding widthUpTo
 width-few w zero n l = omega arith
 width-few zero (suc more) n l = rw (lt-ltb n 10 l) (omega arith)
@@ -98,7 +98,7 @@ pub decimal-width : (n : ℕ) → length (decimal n) ≡ width n
 unfolding decimal
 decimal-width n = length-digits (width n) n
 
-pub decimal-short : (w n : ℕ) → n < 10 ^ suc w → length (decimal n) ≤ suc w
+decimal-short : (w n : ℕ) → n < 10 ^ suc w → length (decimal n) ≤ suc w
 unfolding width
 decimal-short w n l = omega (arith, decimal-width n, width-few w 19 n l)
 

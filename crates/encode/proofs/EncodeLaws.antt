@@ -97,7 +97,7 @@ unfolding tileBytesOf tilePosition
 tile-of counts spots cues t e₁ e₂ e₃ = rw (e₁, e₂, e₃)
 
 -- ---- the check, which is over bytes 1 to 509
-pub sums-front : (s r : List ℕ) → take checkAt s ≡ take checkAt r → sums s ≡ sums r
+sums-front : (s r : List ℕ) → take checkAt s ≡ take checkAt r → sums s ≡ sums r
 unfolding sums
 sums-front s r e = ap (λ l. sumsFrom 0 0 (drop 1 l)) e
 

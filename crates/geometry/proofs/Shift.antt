@@ -154,7 +154,7 @@ limited-between a z b h k s t =
     record { from = omega arith; to = omega arith; small = m }
 
 -- the difference of two coordinates, either way
-pub gap-bound : (a b : ℤ) → Limited a → Limited b → gap a b ≤ 2000000
+gap-bound : (a b : ℤ) → Limited a → Limited b → gap a b ≤ 2000000
 gap-bound a b h k = omega (arith, gap-shift a b (h .small) (k .small))
 
 pub gap-comm : (a b : ℤ) → Limited a → Limited b → gap a b ≡ gap b a

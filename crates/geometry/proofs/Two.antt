@@ -4,7 +4,7 @@ use mathlib.Core.Bool.{_&&_}
 use mathlib.Core.List.{List, [], _∷_}
 use mathlib.Core.Path.{_≡_, refl, ap}
 use lib.Dec.{eqb}
-use lib.IntN.{ℤ, pos}
+use lib.IntN.{ℤ}
 use lib.ListN.{getD, length}
 use Rattle.geometry.specs.Around.{equalColumns}
 use Rattle.geometry.specs.Corners.{endAt, corner}
@@ -17,18 +17,12 @@ pub two-columns : (n : ℕ) (xs ys : List ℤ) → eqb (length xs) n && eqb (len
 unfolding equalColumns
 two-columns n xs ys = by-test (eqb (length ys) n) (λ e. rw e) (λ e. rw e)
 
--- the axes of a box, the coordinates of a point
+-- the axes of a box
 abbrev pub axis-x : List (List ℤ) → List ℤ
 axis-x b = getD b 0 []
 
 abbrev pub axis-y : List (List ℤ) → List ℤ
 axis-y b = getD b 1 []
-
-abbrev pub at-x : List ℤ → ℤ
-at-x p = getD p 0 (pos 0)
-
-abbrev pub at-y : List ℤ → ℤ
-at-y p = getD p 1 (pos 0)
 
 pub corner-2 : (o : List (List ℤ)) (c : ℕ) → length o ≡ 2
     → corner o c ≡ endAt (axis-x o) c ∷ endAt (axis-y o) (c / 2) ∷ []

@@ -93,7 +93,7 @@ fn run(
     let tiles = h.tiles;
     match answer {
         Serving::Served(used) => {
-            let opened = count_opened(marks, tiles);
+            let opened = count_opened(marks, h);
             JoinAnswer::Joined {
                 used: used as u32,
                 tiles: tiles as u32,
@@ -131,7 +131,7 @@ fn join_accepted(
         cue: cue.len(),
         marks: marks.len(),
     };
-    let number = failed_argument(h.tiles, xs, ys, k, lengths);
+    let number = failed_argument(h, xs, ys, k, lengths);
     if number != 0 {
         return refused(number);
     }

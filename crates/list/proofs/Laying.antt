@@ -70,7 +70,7 @@ module _ (show : Place → ℕ) where
       let n = length-map a show in
       over-next l i (i + length a) (map show a) (map show b) (omega arith) ∙ ap (over l i) (sym (map-append show a b))
 
-  pub shown-last : (l : List ℕ) (i n : ℕ) (a : List Place) (y : Place) → n ≡ i + length a
+  shown-last : (l : List ℕ) (i n : ℕ) (a : List Place) (y : Place) → n ≡ i + length a
       → over (set l n (show y)) i (map show a) ≡ over l i (map show (a ++ y ∷ []))
   shown-last l i n a y e =
       let m = length-map a show in

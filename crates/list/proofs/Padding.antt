@@ -59,7 +59,7 @@ padded-is k l h =
 
 module _ (k : ℕ) (o : Lists) (at : ℕ) (l : List Place) (z : Clear o at (at + k)) (few : length l ≤ k) where
   -- over zeros a list is its k places
-  pub lay-padded : lay o at (padded k l) ≡ lay o at l
+  lay-padded : lay o at (padded k l) ≡ lay o at l
   unfolding places
   lay-padded =
       let n = k - length l in

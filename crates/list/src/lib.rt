@@ -13,7 +13,7 @@ use search::ahead_of_key;
 use search::ranks_before;
 
 // The place at index i.
-pub fn place_at(dist: &[u64], site: &[u32], cue: &[u32], i: usize) -> Place
+fn place_at(dist: &[u64], site: &[u32], cue: &[u32], i: usize) -> Place
     requires { ⌜ (i < length (now dist)) × (i < length (now site)) × (i < length (now cue)) ⌝ }
     ensures { λ r. ⌜ r ≡ placeAt (lists (now (dist .entry)) (now (site .entry)) (now (cue .entry))) i ⌝ }
 {

@@ -49,7 +49,7 @@ module _ (f : List ℕ) (h : Header) (t : ℕ) where
   unfolding openingOf
   opening-town e = sym (accepted-injective (andThen-accepted (openTile f h t) (λ _. accepted (sitesAt f h t)) e .2))
 
-  pub opening-accepted : {n : ℕ} → openTile f h t ≡ accepted n → openingOf f h t ≡ accepted (townOf f h t)
+  opening-accepted : {n : ℕ} → openTile f h t ≡ accepted n → openingOf f h t ≡ accepted (townOf f h t)
   unfolding openingOf
   opening-accepted e = rw e
 
@@ -74,11 +74,12 @@ module _ (f : List ℕ) (h : Header) (t : ℕ) where
           few = count-small good t l;
           valid = λ slot i. inside-valid (boxAt f t) _ (box-valid good t l) (opened-inside f h t o slot i);
         };
+        is = refl;
         own = refl;
       })
 
   module _ (bytes : Bytes f) where
-    pub opened-fills : {n : ℕ} → openTile f h t ≡ accepted n → Fills (entries f h) t (townOf f h t)
+    opened-fills : {n : ℕ} → openTile f h t ≡ accepted n → Fills (entries f h) t (townOf f h t)
     unfolding sitesAt
     opened-fills e = record {
       counted = sites-length f h t;
@@ -86,7 +87,7 @@ module _ (f : List ℕ) (h : Header) (t : ℕ) where
           (λ i l. rw (zero-add i) (opened-inside f h t e i l, cue-small f bytes h t i));
     }
 
-    pub opening-fills : {l : List Site} → openingOf f h t ≡ accepted l → Fills (entries f h) t l
+    opening-fills : {l : List Site} → openingOf f h t ≡ accepted l → Fills (entries f h) t l
     unfolding openingOf
     opening-fills e =
         rw (opening-town e) (opened-fills (andThen-accepted (openTile f h t) (λ _. accepted (sitesAt f h t)) e .1))

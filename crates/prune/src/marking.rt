@@ -66,11 +66,11 @@ fn reaches_among(
 }
 
 // Where the few tiles from t on end.
-fn few_after(t: usize, tiles: usize) -> usize
-    requires { ⌜ t ≤ tiles ⌝ }
-    ensures { λ r. ⌜ r ≡ min tiles (t + few) ⌝ }
+fn few_after(t: usize, h: Header) -> usize
+    requires { ⌜ t ≤ h .tiles ⌝ }
+    ensures { λ r. ⌜ r ≡ min (h .tiles) (t + few) ⌝ }
 {
-    if tiles - t < FEW { tiles } else { t + FEW }
+    if h.tiles - t < FEW { h.tiles } else { t + FEW }
 }
 
 // Whether those of all tiles add up to at least k. A few tiles from `middle` on, which lie about O, are tried first:
@@ -79,7 +79,7 @@ fn reaches(f: &[u8], h: Header, far: &[u64], middle: usize, near: [u64; CORNERS]
     requires { ⌜ (directory (now f) ≡ accepted h) × (length (now far) ≡ farSize) × (middle ≤ h .tiles) ⌝ }
     ensures { λ r. ⌜ r ≡ leb k (sumBelow (now (f .entry)) h (now (far .entry)) near 0 (h .tiles)) ⌝ }
 {
-    let to = few_after(middle, h.tiles);
+    let to = few_after(middle, h);
     if reaches_among(f, h, far, near, middle, to, k) {
         return true;
     }
@@ -98,12 +98,13 @@ fn prune_tile(f: &[u8], h: Header, far: &[u64], middle: usize, o: Region, k: usi
     0
 }
 
-// A tile that lies about O: of the first `tiles` the one with the least far from two opposite corners. It is only where
+// A tile that lies about O: of all tiles the one with the least far from two opposite corners. It is only where
 // the sums start: nothing rests on it.
-fn middle_tile(far: &[u64], tiles: usize) -> usize
-    requires { ⌜ (tiles ≤ maxTiles) × (length (now far) ≡ farSize) ⌝ }
-    ensures { λ r. ⌜ r ≤ tiles ⌝ }
+fn middle_tile(far: &[u64], h: Header) -> usize
+    requires { ⌜ (h .tiles ≤ maxTiles) × (length (now far) ≡ farSize) ⌝ }
+    ensures { λ r. ⌜ r ≤ h .tiles ⌝ }
 {
+    let tiles = h.tiles;
     let opposite = (CORNERS - 1) * MAX_TILES;
     let mut middle: usize = 0;
     let mut least: u64 = 18_446_744_073_709_551_615;
@@ -126,7 +127,7 @@ fn prune_all(f: &[u8], h: Header, far: &[u64], o: Region, k: usize, marks: &mut 
     ensures { λ r. ⌜ (r ≡ prunedCount (entries (now (f .entry)) h) o k) × (r ≤ h .tiles) ⌝ }
     ensures { λ r. ⌜ now (marks .exit) ≡ over (now (marks .entry)) 0 (pruneMarks (now (f .entry)) h o k) ⌝ }
 {
-    let middle = middle_tile(far, h.tiles);
+    let middle = middle_tile(far, h);
     let mut count: usize = 0;
     let mut t: usize = 0;
     while t < h.tiles {

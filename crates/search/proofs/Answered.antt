@@ -111,7 +111,7 @@ module _ {G : Geometry} {E : Directory G} {O : G .Box} (L : Lawful E O) (k : ℕ
     as-town : (g : Town G) → Fits E read opened g → join E O k (readTown g) ps ≡ join E O k read ps
     as-town g f = join-same E O k read (readTown g) ps (all-map opened (λ t e. sym e) (f .blocks))
 
-    pub answer-lists : (g : Town G) → Fits E read opened g → ls ≡ map (λ p. firstOf E k p g) ps
+    answer-lists : (g : Town G) → Fits E read opened g → ls ≡ map (λ p. firstOf E k p g) ps
     answer-lists g f =
         let e = sym answers ∙ ap (λ (r : Run (List (List Place))). r .outcome) (sym (as-town g f))
         ∙ join-town g (f .directory) ps hs in

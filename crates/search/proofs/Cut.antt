@@ -32,7 +32,7 @@ use Rattle.search.proofs.Walk.{by-outcome, walk, cut, cutOut, walks}
 -- ---- putting in
 
 -- the first k of what was found and of more: the more put into the first k of what was found
-pub cut-append : {A : Type 0} (lt : A → A → Bool) (o : Order lt) (P : A
+cut-append : {A : Type 0} (lt : A → A → Bool) (o : Order lt) (P : A
     → Type 0) (tight : Tight lt P) (k : ℕ) (l m : List A)
     → All P (l ++ m) → take k (sort lt (l ++ m)) ≡ inserts lt k m (take k (sort lt l))
 unfolding inserts sort

@@ -41,7 +41,7 @@ lex-ahead a b c d e = by-test (ltb a c)
     (λ f. by-test (eqb a c) (λ g. inr (eqb-true a c g, ltb-true b d (rw (f, g) at e)))
     (λ g. clash (rw (f, g) at e) refl))
 
-pub lex-behind : (a b c d : ℕ) → lex a b c d ≡ false → Behind a b c d
+lex-behind : (a b c d : ℕ) → lex a b c d ≡ false → Behind a b c d
 lex-behind a b c d e = by-test (ltb a c)
     (λ f. clash (lex-less b d (ltb-true a c f)) e)
     (λ f. by-test (eqb a c)
@@ -52,7 +52,7 @@ lex-behind a b c d e = by-test (ltb a c)
     ))
     (λ g. inl (let u = ltb-false a c f in let v : a ≢ c = eqb-false a c g in omega arith)))
 
-pub lex-no : (a b c d : ℕ) → (Ahead a b c d → ⊥) → lex a b c d ≡ false
+lex-no : (a b c d : ℕ) → (Ahead a b c d → ⊥) → lex a b c d ≡ false
 lex-no a b c d h = by-test (lex a b c d) (λ e. absurd (h (lex-ahead a b c d e))) (λ e. e)
 
 -- one that is ahead is not behind, and being not ahead passes on

@@ -183,7 +183,7 @@ module _ {G : Geometry} (E : Directory G) where
     -- ---- places against keys
 
     -- no place of a tile whose key is not sooner is ahead of a key
-    pub not-ahead : (t u : ℕ) (y : Place) → byKey E p u t ≡ false → Known p g u y → ahead E p t y ≡ false
+    not-ahead : (t u : ℕ) (y : Place) → byKey E p u t ≡ false → Known p g u y → ahead E p t y ≡ false
     unfolding ahead aheadOf byKey
     not-ahead t u y f i =
         lex-negtrans (y .dist) (y .site / slots) (minDist p (box u)) u (minDist p (box t)) t

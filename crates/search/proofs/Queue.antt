@@ -39,7 +39,7 @@ module _ {G : Geometry} (E : Directory G) (O : G .Box) (k : ℕ) where
     unfolding queue
     queue-all P h = all-perm P (Permᴰ·symm (sort-is-perm (byKey E p) _)) h
 
-    pub queue-candidates : All (λ t. candidate E O k t ≡ true) (queue E O k p)
+    queue-candidates : All (λ t. candidate E O k t ≡ true) (queue E O k p)
     queue-candidates = queue-all (λ t. candidate E O k t ≡ true) (filter-passes (candidate E O k) (range 0 tiles))
 
     pub queue-tiles : All (λ t. t < tiles) (queue E O k p)

@@ -33,7 +33,7 @@ pub struct Place {
 }
 
 // (a, b) is ahead of (c, d): by the first parts, and where these are equal by the second.
-pub fn lex(a: u64, b: u32, c: u64, d: u32) -> bool
+fn lex(a: u64, b: u32, c: u64, d: u32) -> bool
     ensures { λ r. ⌜ r ≡ lex a b c d ⌝ }
 {
     if a < c {

@@ -33,10 +33,11 @@ pub fn open_once(f: &[u8], h: Header, t: usize, marks: &mut [u8]) -> Opening
 }
 
 // How many of the first T tiles are marked as opened.
-pub fn count_opened(marks: &[u8], tiles: usize) -> usize
-    requires { ⌜ tiles ≤ length (now marks) ⌝ }
-    ensures { λ r. ⌜ (r ≡ count (λ m. eqb m openedMark) (take tiles (now (marks .entry)))) × (r ≤ tiles) ⌝ }
+pub fn count_opened(marks: &[u8], h: Header) -> usize
+    requires { ⌜ h .tiles ≤ length (now marks) ⌝ }
+    ensures { λ r. ⌜ (r ≡ count (λ m. eqb m openedMark) (take (h .tiles) (now (marks .entry)))) × (r ≤ h .tiles) ⌝ }
 {
+    let tiles = h.tiles;
     let mut opened: usize = 0;
     let mut t: usize = 0;
     while t < tiles {

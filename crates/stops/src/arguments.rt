@@ -5,6 +5,7 @@ ghost use Rattle.blocks.specs.Inner.Number.{numberOutcome};
 ghost use Rattle.stops.specs.Arguments.{stopsDue, room, arguments};
 use crate::around::valid_stops;
 use base::both;
+use blocks::header::Header;
 use search::MAX_STOPS;
 use search::valid_k;
 
@@ -25,18 +26,18 @@ fn stops_due(xs: &[i32], ys: &[i32]) -> bool
 }
 
 // Test 14: n places in each of three slices, and T marks.
-fn room(n: usize, tiles: usize, l: Lengths) -> bool
-    ensures { λ r. ⌜ r ≡ room n tiles l ⌝ }
+fn room(n: usize, h: Header, l: Lengths) -> bool
+    ensures { λ r. ⌜ r ≡ room n (h .tiles) l ⌝ }
 {
     both(
         both(n <= l.dist, n <= l.site),
-        both(n <= l.cue, tiles <= l.marks),
+        both(n <= l.cue, h.tiles <= l.marks),
     )
 }
 
 // The number of the first test that the arguments fail, or 0.
-pub fn failed_argument(tiles: usize, xs: &[i32], ys: &[i32], k: u32, l: Lengths) -> u32
-    ensures { λ r. ⌜ numberOutcome r 0 ≡ arguments tiles (now (xs .entry) ∷ now (ys .entry) ∷ []) k l ⌝ }
+pub fn failed_argument(h: Header, xs: &[i32], ys: &[i32], k: u32, l: Lengths) -> u32
+    ensures { λ r. ⌜ numberOutcome r 0 ≡ arguments (h .tiles) (now (xs .entry) ∷ now (ys .entry) ∷ []) k l ⌝ }
 {
     if !valid_k(k) {
         return base::K;
@@ -48,7 +49,7 @@ pub fn failed_argument(tiles: usize, xs: &[i32], ys: &[i32], k: u32, l: Lengths)
         return base::SPOT;
     }
     let n = xs.len() * (k as usize);
-    if !room(n, tiles, l) {
+    if !room(n, h, l) {
         return base::SHORT;
     }
     0

@@ -64,7 +64,7 @@ module _ (s : List ℕ) (p : ℕ) (bounds : List (List ℤ)) (count : ℕ) where
         inside = λ slot l. every-at (siteInside bounds s) count slot (c .0) l;
       }
 
-  pub tile-enough : GoodTileBlock s p bounds count → tileBlock s p bounds count ≡ accepted count
+  tile-enough : GoodTileBlock s p bounds count → tileBlock s p bounds count ≡ accepted count
   unfolding tileBlock siteInside
   tile-enough g =
       let v = every-holds (siteInside bounds s) count (g .inside) in

@@ -6,6 +6,7 @@ use mathlib.Core.Path.{_≡_}
 use lib.IntN.{ℤ}
 use lib.ListN.{length}
 use Rattle.base.specs.Refusal.{accepted}
+use Rattle.blocks.specs.Block.{blockAt}
 use Rattle.blocks.specs.Directory.{directory, boxAt}
 use Rattle.blocks.specs.Layout.{blockSize}
 use Rattle.blocks.specs.declared.header.Header.{Header}
@@ -15,10 +16,9 @@ use Rattle.geometry.specs.Corners.{corner, corners}
 use Rattle.geometry.specs.Distance.{D, maxDist}
 use Rattle.search.specs.Plan.{slots}
 use Rattle.search.specs.declared.Place.{Place}
-use Rattle.tiles.specs.Tile.{sitePoint, siteIn}
+use Rattle.tiles.specs.Tile.{sitePoint, siteIn, tilePosition}
 use Rattle.tiles.specs.declared.tile.Site.{Site}
-use Rattle.plan.specs.FilePlan.{openingOf, townOf}
-use Rattle.plan.specs.FilePlan.{axisCount}
+use Rattle.plan.specs.FilePlan.{axisCount, openingOf, townOf}
 
 -- a tile of a file whose directory is accepted
 pub record TileOf (f : List ℕ) (h : Header) (t : ℕ) : Type 0 where
@@ -61,5 +61,6 @@ pub record Sited (s : List ℕ) (n : ℕ) : Type 0 where
 
 -- the block of a tile that opens, with n sites: those of the file's own town
 pub record BlockOf (f : List ℕ) (h : Header) (t : ℕ) (s : List ℕ) (n : ℕ) : Type 0 where
+  pub is : s ≡ blockAt f (tilePosition h t)
   pub sited : Sited s n
   pub own : tabulate (siteIn s) 0 n ≡ townOf f h t

@@ -14,10 +14,10 @@ use Rattle.serve.proofs.marks.count_opened.Statement.{statement}
 use Rattle.serve.proofs.marks.count_opened.Tie as tie
 
 abbrev Inv-loop : tie.InvT-loop
-Inv-loop marks tiles opened₀ t₀ opened t = (t ≤ tiles) × ((opened ≤ t) × (opened ≡ count (λ m. eqb m 2) (take t marks)))
+Inv-loop marks h tiles opened₀ t₀ opened t = (t ≤ tiles) × ((opened ≤ t) × (opened ≡ count (λ m. eqb m 2) (take t marks)))
 
 abbrev μ-loop : tie.MeasureT-loop
-μ-loop marks tiles opened₀ t₀ opened t = tiles - t
+μ-loop marks h tiles opened₀ t₀ opened t = tiles - t
 
 loop-holds : tie.Need-loop-holds Inv-loop μ-loop
 unfolding count
