@@ -122,11 +122,11 @@ def marked(numbers, marks, mark):
 
 def struck():
     rows = []
+    by_k = {k: prune(FILE, O, k)[1] for k in range(1, 65)}
     for b in ALL:
         tiles = nearer_than(b)
         total = sum(COUNTS[e] for e in tiles)
-        for k in range(1, 65):
-            assert (prune(FILE, O, k)[1][b] == 1) == (k <= total)
+        assert all((marks[b] == 1) == (k <= total) for k, marks in by_k.items())
         counted = ", ".join(f"{e} ({COUNTS[e]})" for e in tiles) or "none"
         rows.append([b, counted, total, "yes" if MARKS[b] == 1 else "no"])
     return table(["B", "Tiles nearer than B (count)", "Sites", "Struck for k = 2"], *rows)
@@ -306,6 +306,29 @@ def sentences():
     ]  # fmt: skip
 
 
+# ---- a second opinion: the words of the page, by trying all points and all sites
+
+
+def inside(box):
+    return list(itertools.product(range(box[0], box[2] + 1), range(box[1], box[3] + 1)))
+
+
+def squared(p, q):
+    return (p[0] - q[0]) ** 2 + (p[1] - q[1]) ** 2
+
+
+def second_opinion():
+    from_o = {(o, t): [squared(o, q) for q in inside(BOXES[t])] for o in inside(O) for t in ALL}
+    for (o, t), distances in from_o.items():
+        assert (near(o, BOXES[t]), far(o, BOXES[t])) == (min(distances), max(distances))
+    for (e, b), held in MARGINS.items():
+        assert held == max(max(from_o[o, e]) - min(from_o[o, b]) for o in inside(O))
+    for k in range(1, 11):
+        for stop, listed_places in zip(STOPS, join(FILE, STOPS, k)[1]):
+            every = [(squared(stop, s), 40 * t + i, s[2]) for t in ALL for i, s in enumerate(TILES[t][1])]
+            assert listed_places == sorted(every)[:k]
+
+
 # ---- what the page says of tiles that are not opened
 
 
@@ -314,9 +337,8 @@ def unread():
     tried = 0
     shut = [t for t in ALL if MARKS[t] != 2]
     for t in shut:
-        x0, y0, x1, y1 = BOXES[t]
         assert COUNTS[t] <= 1
-        for x, y in itertools.product(range(x0, x1 + 1), range(y0, y1 + 1)) if COUNTS[t] else []:
+        for x, y in inside(BOXES[t]) if COUNTS[t] else []:
             assert join(refilled(t, 0, (x, y, 99)), STOPS, K)[1:] == (LISTS, MARKS)
             tried += 1
     for byte in (0, 1, 255):
@@ -364,6 +386,7 @@ def main(arguments):
         sys.exit("why: docs/WHY.md has a table that this test does not know")
     if arguments == ["--write"]:
         PAGE.write_text(page)
+    second_opinion()
     words = " ".join(page.split())
     said = sentences()
     for sentence in said:

@@ -65,15 +65,15 @@ def write(tiles):
     _, xs = lent(ctypes.c_int32, [x for x, _, _ in sites])
     _, ys = lent(ctypes.c_int32, [y for _, y, _ in sites])
     _, cues = lent(ctypes.c_uint32, [cue for _, _, cue in sites])
-    file, out = lent(ctypes.c_uint8, [0] * 512000)
+    file, out = lent(ctypes.c_uint8, bytes(512 * (len(tiles) + (len(tiles) + 23) // 24)))
     made = LIBRARY.nearby_write(*boxes, *counts, *xs, *ys, *cues, *out)
     assert made.number == 0, f"the writer refuses with {made.number}"
-    return bytes(file)[: made.length]
+    return bytes(file)
 
 
 def join(file, stops, k):
     """The answer, the places used of each stop, and the marks. A refusal has empty lists and no marks."""
-    _, content = lent(ctypes.c_uint8, list(file))
+    _, content = lent(ctypes.c_uint8, file)
     _, xs = lent(ctypes.c_int32, [x for x, _ in stops])
     _, ys = lent(ctypes.c_int32, [y for _, y in stops])
     dist, dist_out = lent(ctypes.c_uint64, [0] * len(stops) * k)
@@ -90,7 +90,7 @@ def join(file, stops, k):
 
 def prune(file, box, k):
     """The answer and the marks of the strike call."""
-    _, content = lent(ctypes.c_uint8, list(file))
+    _, content = lent(ctypes.c_uint8, file)
     marks, marks_out = lent(ctypes.c_uint8, [0] * 960)
     answer = LIBRARY.nearby_prune(*content, *pairs(box), ctypes.c_uint32(k), *marks_out)
     return answer, list(marks)[: answer.tiles]
@@ -98,7 +98,7 @@ def prune(file, box, k):
 
 def validate(file):
     """The full check."""
-    return LIBRARY.nearby_validate(*lent(ctypes.c_uint8, list(file))[1])
+    return LIBRARY.nearby_validate(*lent(ctypes.c_uint8, file)[1])
 
 
 def from_text(name):
