@@ -137,6 +137,12 @@ def after(taken, stop, k):
     return join(write([(box, sites if t in taken else []) for t, (box, sites) in enumerate(TILES)]), [stop], k)[1][0]
 
 
+def keys(stop, k=K):
+    """The keys of the tiles that wait at first, in their order."""
+    marks = prune(FILE, O, k)[1]
+    return sorted((near(stop, BOXES[t]), t) for t in ALL if COUNTS[t] and marks[t] != 1)
+
+
 def walk(number, k=K):
     """The steps of a stop: the next key, the listed places ahead of it, what happens, the list afterwards.
 
@@ -145,10 +151,8 @@ def walk(number, k=K):
     """
     stop = STOPS[number]
     opened = marked(ALL, join(FILE, STOPS[:number], k)[2], 2) if number else []
-    struck_tiles = marked(ALL, prune(FILE, O, k)[1], 1)
-    waiting = sorted((near(stop, BOXES[t]), t) for t in ALL if COUNTS[t] and t not in struck_tiles)
     steps, taken, places = [], [], []
-    for key in waiting:
+    for key in keys(stop, k):
         ahead = [p for p in places if (p[0], p[1] // 40) < key]
         if len(ahead) == k:
             steps.append((key, len(ahead), "the stop ends", places))
@@ -294,6 +298,8 @@ def sentences():
         f" Of the {pairs} pairs of tiles in this town, {compared} can be compared and {pairs - compared} cannot.",
         f"stop 0 ends at the key ({end_0[0]}, {end_0[1]}). Tile 4 would have the key ({near_of((0, 0), 4)}, 4),"
         f" tile 5 the key ({near_of((0, 0), 5)}, 5).",
+        f"the keys in their order are {', '.join(f'({n}, {t})' for n, t in keys(STOPS[0]))}.",
+        f"with near from (6,2): {', '.join(f'({n}, {t})' for n, t in keys(STOPS[1]))}.",
         f"near of tile 1 is {near_of((0, 0), 1)}, so it may have sites nearer than"
         f" {' and '.join(str(p[0]) for p in after([0], (0, 0), K))}.",
         f"the next key is ({end_0[0]}, {end_0[1]}), and the places are {' and '.join(map(place, LISTS[0]))}.",
