@@ -4,83 +4,28 @@
     docs/figures/draw.py            writes the figures
     docs/figures/draw.py --check    fails if a figure is not what it would write
 
-Every number in a figure comes from a call of the proved library (`make lib`): margins of boxes, and joins of towns that the
-library's writer made.
+Every number in a figure comes from a call of the proved library (`make lib`): margins of boxes, and joins of towns that
+the library's writer made.
 """
-import ctypes
 import pathlib
-import subprocess
 import sys
 
+sys.dont_write_bytecode = True
+import engine
+
 HERE = pathlib.Path(__file__).resolve().parent
-ROOT = HERE.parent.parent
 WIDTH = 640
 
 # Colours that can be told apart in grey, too.
 INK, SOFT, O_COLOUR, E_COLOUR, B_COLOUR = "#1b1b1b", "#777777", "#4477aa", "#228833", "#cc6677"
-
-
-# ---- the engine
-
-
-def load():
-    """The static library as a shared one, which is what Python can call."""
-    shared = ROOT / "target" / "figures" / "libnearby.so"
-    shared.parent.mkdir(parents=True, exist_ok=True)
-    archive = ROOT / "target" / "staticlib" / "libhost.a"
-    subprocess.run(
-        ["gcc", "-shared", "-o", shared, "-Wl,--whole-archive", archive, "-Wl,--no-whole-archive"], check=True
-    )
-    library = ctypes.CDLL(str(shared))
-    library.nearby_margin.restype = ctypes.c_int64
-    library.nearby_join.restype = Joined
-    library.nearby_write.restype = Written
-    return library
-
-
-class Joined(ctypes.Structure):
-    _fields_ = [(name, ctypes.c_uint32) for name in ("number", "block", "used", "tiles", "opened", "pruned")]
-
-
-class Written(ctypes.Structure):
-    _fields_ = [("number", ctypes.c_uint32), ("block", ctypes.c_uint32), ("length", ctypes.c_size_t)]
-
-
-def lent(kind, values):
-    """A slice, as a pointer and a length."""
-    array = (kind * max(1, len(values)))(*values)
-    return array, [ctypes.byref(array), ctypes.c_size_t(len(values))]
+# A tile by its mark: opened, struck, neither.
+WORD = {2: "opened", 1: "struck", 0: "neither"}
+FILL = {2: "#ffffff", 1: "#bbbbbb", 0: "#eeeeee"}
 
 
 def margin(o, e, b):
     """The margin of three stretches of the x axis."""
-    numbers = [n for low, high in (o, e, b) for n in (low, high, 0, 0)]
-    return LIBRARY.nearby_margin(*[ctypes.c_int32(n) for n in numbers])
-
-
-def join(tiles, stop, k):
-    """Tiles are (low x, low y, high x, high y), [(x, y, cue), ..]. Gives the answer, the k places of the stop, the marks."""
-    sites = [site for _, of_tile in tiles for site in of_tile]
-    _, boxes = lent(ctypes.c_int32, [n for box, _ in tiles for n in box])
-    _, counts = lent(ctypes.c_uint32, [len(of_tile) for _, of_tile in tiles])
-    _, xs = lent(ctypes.c_int32, [x for x, _, _ in sites])
-    _, ys = lent(ctypes.c_int32, [y for _, y, _ in sites])
-    _, cues = lent(ctypes.c_uint32, [cue for _, _, cue in sites])
-    file, out = lent(ctypes.c_uint8, [0] * 512 * (len(tiles) + 1))
-    made = LIBRARY.nearby_write(*boxes, *counts, *xs, *ys, *cues, *out)
-    assert made.number == 0, made.number
-    _, stop_x = lent(ctypes.c_int32, [stop[0]])
-    _, stop_y = lent(ctypes.c_int32, [stop[1]])
-    dist, dist_out = lent(ctypes.c_uint64, [0] * k)
-    site, site_out = lent(ctypes.c_uint32, [0] * k)
-    cue, cue_out = lent(ctypes.c_uint32, [0] * k)
-    marks, marks_out = lent(ctypes.c_uint8, [0] * len(tiles))
-    answer = LIBRARY.nearby_join(
-        ctypes.byref(file), ctypes.c_size_t(made.length), *stop_x, *stop_y, ctypes.c_uint32(k),
-        *dist_out, *site_out, *cue_out, *marks_out,
-    )  # fmt: skip
-    assert answer.number == 0, answer.number
-    return answer, list(zip(dist, site, cue)), list(marks)
+    return engine.margin(*[(low, 0, high, 0) for low, high in (o, e, b)])
 
 
 # ---- drawing
@@ -102,6 +47,16 @@ def rectangle(x, y, w, h, colour, fill):
 
 def dot(x, y, colour, radius=4):
     return f'<circle cx="{x:g}" cy="{y:g}" r="{radius}" fill="{colour}"/>'
+
+
+def site(x, y, listed):
+    """A site: filled if a list has it, else hollow."""
+    colour, fill = (E_COLOUR, E_COLOUR) if listed else (B_COLOUR, "white")
+    return f'<circle cx="{x:g}" cy="{y:g}" r="4" stroke="{colour}" stroke-width="2" fill="{fill}"/>'
+
+
+def square(x, y, colour):
+    return f'<rect x="{x - 5:g}" y="{y - 5:g}" width="10" height="10" fill="{colour}"/>'
 
 
 def ring(x, y, radius, colour):
@@ -178,44 +133,98 @@ def zero_is_not_nearer():
     assert margin(o, e, b) == 0
     # the same two boxes as tiles: B is tile 0, E is tile 1, each with a site at their common point
     tiles = [((30, 0, 70, 0), [(30, 0, 8)]), ((20, 0, 30, 0), [(30, 0, 9)])]
-    answer, places, marks = join(tiles, (0, 0), 1)
-    (dist, site, cue) = places[0]
-    assert site == 0 and answer.pruned == 0
+    answer, [[(dist, where, cue)]], _ = engine.join(engine.write(tiles), [(0, 0)], 1)
+    assert where == 0 and answer.pruned == 0
     return svg(190, stretches(o, e, b, 40) + [
         text(WIDTH / 2, 140, "margin 0: a site at 30 may be in E or in B, at the same distance"),
-        text(WIDTH / 2, 166, f"with B as tile 0 and E as tile 1, the list from 0 has site {site}, cue {cue}, D {dist}: it is B's"),
+        text(WIDTH / 2, 166, f"if B is tile 0 and E tile 1, a stop at 0 lists the site of B: D {dist}, cue {cue}"),
     ])  # fmt: skip
 
 
+def town_of_the_page():
+    """The town, the stops, the box around them and k that run through docs/WHY.md."""
+    return engine.from_text("samples/crossing.txt"), [(0, 0), (6, 2)], (0, 0, 6, 2), 2
+
+
 def stop_at_k():
-    stop, k = (0, 0), 1
-    tiles = [
-        ((-2, -6, 12, 6), [(10, 4, 7)]),
-        ((-9, -4, -3, 4), [(-5, 2, 8)]),
-        ((14, -5, 20, 5), [(15, 0, 9)]),
-    ]
-    answer, places, marks = join(tiles, stop, k)
-    dist, site, cue = places[0]
-    assert marks == [2, 2, 1] and site == 40
-    meaning = {2: "opened", 1: "ruled out", 0: "not needed"}
-    scale = 14
-    at = lambda x, y: (240 + scale * x, 165 - scale * y)
-    parts = [ring(*at(*stop), scale * 116**0.5, SOFT), ring(*at(*stop), scale * dist**0.5, E_COLOUR)]
-    for number, ((x0, y0, x1, y1), sites) in enumerate(tiles):
-        opened = marks[number] == 2
+    tiles, stops, _, k = town_of_the_page()
+    stop = stops[0]
+    # the list after tile 0 is that of the town in which only tile 0 has sites
+    first = [(box, sites if number == 0 else []) for number, (box, sites) in enumerate(tiles)]
+    _, [early], _ = engine.join(engine.write(first), [stop], k)
+    _, [final, _], marks = engine.join(engine.write(tiles), stops, k)
+    assert len(early) == len(final) == k and early != final and marks[:4] == [2, 2, 2, 0]
+    scale = 27
+    at = lambda x, y: (330 + scale * x, 150 - scale * y)
+    circles = ((early, SOFT), (final, E_COLOUR))
+    parts = [ring(*at(*stop), scale * places[-1][0] ** 0.5, colour) for places, colour in circles]
+    for number in (0, 1, 3):
+        (x0, y0, x1, y1), sites = tiles[number]
         left, top = at(x0, y1)
-        parts.append(rectangle(left, top, scale * (x1 - x0), scale * (y1 - y0), INK if opened else SOFT, "none"))
-        parts.append(text(left, top + scale * (y1 - y0) + 16, f"tile {number}: {meaning[marks[number]]}", INK, 12, "start"))
-        for x, y, its_cue in sites:
-            parts.append(dot(*at(x, y), E_COLOUR if its_cue == cue else B_COLOUR))
-            parts.append(text(at(x, y)[0], at(x, y)[1] - 8, f"D {x * x + y * y}", INK, 12))
-    parts.append(dot(*at(*stop), O_COLOUR, 6))
-    parts.append(text(at(*stop)[0], at(*stop)[1] + 20, "stop", O_COLOUR, 13))
-    parts.append(text(WIDTH / 2, 352, f"k = 1: tile 0 gives a site at D 116, but tile 1 starts at D 9 and holds D {dist}"))
-    return svg(365, parts)
+        colour = INK if marks[number] == 2 else SOFT
+        parts.append(rectangle(left, top, scale * (x1 - x0), scale * (y1 - y0), colour, "none"))
+        label = f"tile {number}: near {engine.near(stop, (x0, y0, x1, y1))}"
+        spot = (left - 5, top + 12, "end") if number == 0 else (left, top + scale * (y1 - y0) + 15, "start")
+        parts.append(text(*spot[:2], label, INK, 12, spot[2]))
+        for x, y, cue in sites:
+            parts.append(site(*at(x, y), cue in [place[2] for place in final]))
+            parts.append(text(at(x, y)[0] + 7, at(x, y)[1] - 5, f"{x * x + y * y}", INK, 12, "start"))
+    parts.append(square(*at(*stop), O_COLOUR))
+    parts.append(text(at(*stop)[0] + 8, at(*stop)[1] + 18, "stop 0", O_COLOUR, 12))
+    near_1, near_3 = [engine.near(stop, tiles[number][0]) for number in (1, 3)]
+    said = [
+        f"k = 2. After tile 0 the second place is at {early[-1][0]} (grey circle), but near of tile 1 is {near_1}.",
+        f"After tile 1 it is at {final[-1][0]} (green circle), and near of tile 3 is {near_3}: the stop ends.",
+    ]
+    return svg(345, parts + [text(WIDTH / 2, 311 + 20 * row, words, INK, 13) for row, words in enumerate(said)])
+
+
+def crossing():
+    tiles, stops, o, k = town_of_the_page()
+    _, lists, marks = engine.join(engine.write(tiles), stops, k)
+    listed = {where for places in lists for _, where, _ in places}
+    scale = 19
+    at = lambda x, y: (395 + scale * x, 118 - scale * y)
+    box_of = lambda box, colour, fill: rectangle(
+        *at(box[0], box[3]), scale * (box[2] - box[0]), scale * (box[3] - box[1]), colour, fill
+    )
+    parts = []
+    for number, (box, sites) in enumerate(tiles):
+        parts.append(box_of(box, INK if marks[number] == 2 else SOFT, FILL[marks[number]]))
+        left, top = at(box[0], box[3])
+        parts.append(text(left + 3, top - 5, f"{number}", INK, 13, "start"))
+        for slot, (x, y, _) in enumerate(sites):
+            parts.append(site(*at(x, y), 40 * number + slot in listed))
+        if not sites:
+            parts.append(text(*at((box[0] + box[2]) / 2, box[1] + 0.3), "empty", INK, 11))
+    left, top = at(o[0], o[3])
+    parts.append(
+        f'<rect x="{left:g}" y="{top:g}" width="{scale * (o[2] - o[0])}" height="{scale * (o[3] - o[1])}"'
+        f' stroke="{O_COLOUR}" stroke-width="2" stroke-dasharray="5 4" fill="none"/>'
+    )
+    parts.append(text(left + 28, top + scale * 2 - 5, "O", O_COLOUR, 14))
+    for number, stop in enumerate(stops):
+        parts.append(square(*at(*stop), O_COLOUR))
+        parts.append(text(at(*stop)[0], at(*stop)[1] + (18 if number == 0 else -9), f"stop {number}", O_COLOUR, 12))
+    # an axis below, and what the kinds of boxes and sites mean
+    for x in range(-20, 12, 4):
+        parts.append(text(at(x, 0)[0], 236, f"{x}", SOFT, 11))
+        parts.append(line(at(x, 0)[0], 218, at(x, 0)[0], 224, SOFT))
+    parts.append(line(at(-20, 0)[0], 218, at(11, 0)[0], 218, SOFT))
+    parts.append(text(at(11, 0)[0] + 20, 236, "x", SOFT, 12))
+    for y in (-4, 0, 4):
+        parts.append(text(at(11, y)[0] + 24, at(11, y)[1] + 4, f"y {y}", SOFT, 11))
+    for step, mark in enumerate((2, 1, 0)):
+        parts.append(rectangle(40 + 95 * step, 256, 16, 16, INK if mark == 2 else SOFT, FILL[mark]))
+        parts.append(text(62 + 95 * step, 269, WORD[mark], INK, 13, "start"))
+    for step, (listed, words) in enumerate(((True, "site in a list (k = 2)"), (False, "site in no list"))):
+        parts.append(site(345 + 160 * step, 264, listed))
+        parts.append(text(355 + 160 * step, 269, words, INK, 13, "start"))
+    return svg(285, parts)
 
 
 FIGURES = {
+    "crossing.svg": crossing,
     "far-against-near.svg": far_against_near,
     "middle-only.svg": middle_only,
     "stop-at-k.svg": stop_at_k,
@@ -234,5 +243,4 @@ def main(arguments):
     print(f"figures: {len(FIGURES)} drawn from the engine's answers")
 
 
-LIBRARY = load()
 main(sys.argv[1:])
