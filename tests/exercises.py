@@ -266,25 +266,26 @@ def yes(test):
 
 def margins(engine, document):
     heading = "Answer 1"
-    by_b, by_y = document.tables(heading)
+    by_m, by_y = document.tables(heading)
     o, e = (0, 0, 10, 0), (20, 0, 30, 0)
 
     def difference(at, b):
         far, near = engine.far((at, 0), e), engine.near((at, 0), b)
         return f"{far} - {near} = {far - near}"
 
-    def row(b):
-        box = (b, 0, 70, 0)
+    def row(m):
+        box = (m, 0, 70, 0)
         margin = engine.margin(o, e, box)
-        return [str(b), difference(0, box), difference(10, box), str(margin), yes(margin < 0)]
+        return [str(m), difference(0, box), difference(10, box), str(margin), yes(margin < 0)]
 
-    same("the margins of exercise 1", by_b, [row(b) for b in (31, 29, 30)])
-    least = min(b for b in range(11, 71) if engine.margin(o, e, (b, 0, 70, 0)) < 0)
-    document.says(heading, f"The least b for which E is nearer is {least}.")
-    low_end = [engine.margin((0, 0, 0, 0), e, (b, 0, 70, 0)) - engine.margin((10, 0, 10, 0), e, (b, 0, 70, 0))
-               for b in range(11, 71)]
-    equal = 11 + low_end.index(0)
-    same("the ends of O in exercise 1", [gain > 0 for gain in low_end], [b < equal for b in range(11, 71)])
+    same("the margins of exercise 1", by_m, [row(m) for m in (31, 29, 30)])
+    starts = range(11, 71)
+    least = min(m for m in starts if engine.margin(o, e, (m, 0, 70, 0)) < 0)
+    document.says(heading, f"The least m for which E is nearer is {least}.")
+    gains = [engine.margin((0, 0, 0, 0), e, (m, 0, 70, 0)) - engine.margin((10, 0, 10, 0), e, (m, 0, 70, 0))
+             for m in starts]
+    equal = starts[gains.index(0)]
+    same("the ends of O in exercise 1", [gain > 0 for gain in gains], [m < equal for m in starts])
     document.says(heading, f"Below {equal} the low end gives more, above {equal} the high end, and at {equal} both")
 
     def with_y(high):
@@ -330,17 +331,20 @@ def one_stop(engine, document):
     same("the steps of exercise 2", steps, rows)
     same("the list of exercise 2", found, lists[0])
     document.says(heading, f"Marks: {', '.join(map(str, marks))}.")
+    (empty,) = [tile for tile, (_, sites) in enumerate(town) if not sites and marks[tile] == 1]
+    document.says(heading, f"Tile {empty} is empty, and struck all the same")
     same("the counts of exercise 2", [marks.count(2), marks.count(1)], [report.opened, report.struck])
 
 
 def changes(engine, document):
     heading, stop, k = "Answer 3", (0, 0), 2
     (rows,) = document.tables(heading)
-    harbour = document.town("harbour")
+    harbour, struck = document.town("harbour"), []
 
     def ask(tile, sites):
         town = [(box, sites if number == tile else held) for number, (box, held) in enumerate(harbour)]
-        report, _, lists = engine.join(engine.write(town), k, [stop])
+        report, marks, lists = engine.join(engine.write(town), k, [stop])
+        struck.append({number for number, mark in enumerate(marks) if mark == 1})
         return [listed(lists[0]), str(report.opened), str(report.struck)]
 
     # What the exercise says in words: the tile, and its sites after the change.
@@ -348,6 +352,10 @@ def changes(engine, document):
     found = [[str(number), str(tile), sites, *ask(tile, [tuple(map(int, site.split())) for site in sites.split(";")])]
              for number, (tile, sites) in enumerate(asked, 1)]
     same("the changes of exercise 3", rows, found)
+    (new,) = struck[2] - struck[0]
+    document.says(heading, f"Tile 1 has two sites now, and it is nearer than tile {new}: tile {new} is struck.")
+    same("the tiles that tile 6 is nearer than, exercise 3",
+         [], [tile for tile, (box, _) in enumerate(harbour) if engine.margin((*stop, *stop), harbour[6][0], box) < 0])
 
     document.says(heading, f"its far is {engine.far(stop, harbour[6][0])}.")
     document.says(heading, f"the new site is at D = {engine.near(stop, (-5, 3, -5, 3))},")
@@ -365,7 +373,8 @@ def changes(engine, document):
     damaged = file[:2600] + b"\1" + file[2601:]
     same("the answer for a damaged tile, exercise 3", listed(engine.join(damaged, k, [stop])[2][0]), usual[0])
     checked = engine.validate(damaged)
-    same("the full check of exercise 3", (3, 5), (checked.number, checked.block))
+    same("the full check of exercise 3", 3, checked.number)
+    document.says(heading, f"and refuses the file at block {checked.block}:")
 
 
 def mistakes(engine, document):
