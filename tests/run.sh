@@ -24,7 +24,12 @@ make --no-print-directory lib
 tests/examples.sh
 tests/install.sh
 docs/figures/draw.py --check
-# The tool for towns, and the documents; the commands of all of them last.
+# The tool for towns, and the documents: what they say of the engine, then every command that they show.
+tests/tool.py
+tests/page.py
+tests/format.py
+tests/why.py
+tests/exercises.py
 tests/documents.py
 cargo build --quiet --release --offline --manifest-path tests/independent/Cargo.toml
 tests/independent/target/release/independent target/bin/nearby
