@@ -3,7 +3,7 @@ import os
 import re
 import sys
 
-from . import ask, text, town, words
+from . import ask, page, text, town, words
 from .engine import MAX_FILE, Engine, NoLibrary, Refused
 
 USAGE = """\
@@ -60,6 +60,9 @@ ended; a slider for k, which begins at K; and for two tiles E and B the margin a
 the engine, asked when the page is written. The file must pass the full check.
 """,
 }
+
+
+SHOWN = 20  # faults of a text
 
 
 class Usage(Exception):
@@ -120,7 +123,10 @@ def make(arguments):
     try:
         tiles, file = text.make(Engine(), content.decode("utf-8", "replace"))
     except text.Faulty as faulty:
-        raise Wrong(*(f"{source}: {fault}" for fault in faulty.faults)) from None
+        given = "standard input" if source == "-" else source
+        lines = [f"{given}: {fault}" for fault in faulty.faults]
+        more = [f"{len(lines) - SHOWN} more like these"] if len(lines) > SHOWN else []
+        raise Wrong(*lines[:SHOWN], *more) from None
     _save(target, file)
     print(f"{target}: {len(tiles)} tiles, {sum(len(tile.sites) for tile in tiles)} sites, {len(file)} bytes")
 
@@ -157,7 +163,19 @@ def ask_(arguments):
 
 
 def draw(arguments):
-    raise Wrong("not yet")
+    name, *question, target = arguments
+    k, stops = _question(question)
+    engine = Engine()
+    content = _good(engine, name)
+    try:
+        ask.ask(engine, content, stops, k)  # refuses what cannot be asked
+        held = page.html(engine, os.path.basename(name), content, town.read(content), stops, k).encode()
+    except Refused as refused:
+        raise _refused(name, content, refused, stops, k) from None
+    except page.Disagrees as disagrees:
+        raise Wrong(str(disagrees)) from None
+    _save(target, held)
+    print(f"{target}: {len(stops)} stops, {len(held)} bytes")
 
 
 # For each command: what does it, and the least and the largest number of its arguments.
@@ -191,7 +209,7 @@ def main(arguments):
         print(f"town: {usage}", file=sys.stderr)
         return 2
     except (Wrong, NoLibrary) as wrong:
-        print(f"town: {wrong}", file=sys.stderr)
+        print(wrong, file=sys.stderr)
         return 1
     except BrokenPipeError:
         # Whoever read the output has enough of it.

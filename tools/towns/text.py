@@ -148,7 +148,7 @@ def make(engine, text):
             return source.tiles, engine.write(source.tiles)
         except Refused as caught:
             refused = caught
-    faults = sorted(faults + list(_town_faults(source)), key=lambda fault: fault.line)
+    faults = sorted(faults + list(_town_faults(source)), key=lambda fault: fault.line or float("inf"))
     raise Faulty(faults or [Fault(0, None, None, str(refused))])
 
 
