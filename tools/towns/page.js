@@ -401,13 +401,16 @@
     }
   });
   function zoom(to) {
-    // The middle of the frame stays; coming from the whole town, the stop comes to the middle.
-    const frame = $("frame"), [x, y] = data.stops[state.stop];
-    let middle = [(frame.scrollLeft + frame.clientWidth / 2) * unit, (frame.scrollTop + frame.clientHeight / 2) * unit];
-    if (state.zoom === 1) middle = [x - view.x, -y - view.y];
+    // The stop stays where it is in the frame if it can be seen, else the middle of the frame.
+    const frame = $("frame"), [x, y] = data.stops[state.stop], seen = [frame.clientWidth, frame.clientHeight];
+    let fixed = [x - view.x, -y - view.y], at = [fixed[0] / unit - frame.scrollLeft, fixed[1] / unit - frame.scrollTop];
+    if (at.some((pixel, axis) => pixel < 0 || pixel > seen[axis])) {
+      at = seen.map((size) => size / 2);
+      fixed = [(frame.scrollLeft + at[0]) * unit, (frame.scrollTop + at[1]) * unit];
+    }
     state.zoom = Math.max(1, Math.min(16, to));
     layout();
-    frame.scrollTo(middle[0] / unit - frame.clientWidth / 2, middle[1] / unit - frame.clientHeight / 2);
+    frame.scrollTo(fixed[0] / unit - at[0], fixed[1] / unit - at[1]);
   }
   $("zoom-in").addEventListener("click", () => zoom(state.zoom * 1.5));
   $("zoom-out").addEventListener("click", () => zoom(state.zoom / 1.5));
