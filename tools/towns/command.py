@@ -63,6 +63,8 @@ the engine, asked when the page is written. The file must pass the full check.
 
 
 SHOWN = 20  # faults of a text
+NUMBER = "[+-]?[0-9]{1,30}"
+STOP = f"{NUMBER},{NUMBER}"
 
 
 class Usage(Exception):
@@ -98,23 +100,18 @@ def _refused(name, content, refused, stops=(), k=0):
     return Wrong(f"{name}: {head}" if refused.number <= 10 else head, *rest)
 
 
-def _whole(part, what):
-    if not re.fullmatch(r"[+-]?[0-9]{1,30}", part):
-        raise Usage(f"{what} is a whole number, not `{part}`")
-    return int(part)
-
-
 def _stop(part):
-    ends = part.split(",")
-    if len(ends) != 2:
-        raise Usage(f"a stop is X,Y, not `{part}`")
-    return tuple(_whole(end, "a coordinate") for end in ends)
+    if not re.fullmatch(STOP, part):
+        raise Usage(f"a stop is X,Y, two whole numbers, not `{part}`")
+    x, y = part.split(",")
+    return int(x), int(y)
 
 
 def _question(arguments):
     k, *stops = arguments
-    k = _whole(k, "K")
-    return k, [_stop(stop) for stop in stops]
+    if not re.fullmatch(NUMBER, k):
+        raise Usage(f"K is a whole number, not `{k}`")
+    return int(k), [_stop(stop) for stop in stops]
 
 
 def make(arguments):
@@ -165,6 +162,8 @@ def ask_(arguments):
 def draw(arguments):
     name, *question, target = arguments
     k, stops = _question(question)
+    if re.fullmatch(STOP, target):
+        raise Usage(f"the last argument is the page to write, and `{target}` is a stop")
     engine = Engine()
     content = _good(engine, name)
     try:

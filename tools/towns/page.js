@@ -81,7 +81,7 @@
   defs.append(hatch);
   svg.append(defs);
   const layer = {};
-  for (const name of ["tiles", "taken", "numbers", "o", "sites", "rings", "chosen", "pair", "stops", "orders"]) {
+  for (const name of ["tiles", "taken", "numbers", "o", "sites", "rings", "chosen", "pair", "orders", "stops"]) {
     layer[name] = draw("g", {id: "layer-" + name});
     svg.append(layer[name]);
   }

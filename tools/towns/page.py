@@ -17,8 +17,8 @@ from .ask import OPENED, STRUCK
 from .engine import MAX_K, MAX_SITES
 from .town import around
 
-STEPS = 3000  # lists after an opening, in a page
-PAIRS = 40_000  # margins, in a page
+STEPS = 2000  # lists after an opening, in a page
+PAIRS = 30_000  # margins, in a page
 
 
 class Disagrees(Exception):
