@@ -463,14 +463,14 @@ def large_pages(engine, rng):
         tiles.append(town.Tile((x, y, x + 999, y + 999), [(x + rng.randrange(1000), y + rng.randrange(1000), 7)
                                                           for _ in range(rng.randint(0, 40))]))
     stops = [(rng.randrange(40000), 12000 + rng.randrange(1000)) for _ in range(40)]
-    made = page.html(engine, "large", engine.write(tiles), tiles, stops, 5)
+    made, _ = page.html(engine, "large", engine.write(tiles), tiles, stops, 5)
     holds(len(made) < 2_000_000, f"the page of a large town has {len(made)} bytes")
     holds("The margin is here for E among 31 tiles" in made, "the page says which margins it has")
     sparse = [town.Tile((10 * t, 0, 10 * t + 9, 9), [(10 * t, 5, t)]) for t in range(120)]
     stops = [(rng.randrange(1200), 0) for _ in range(200)]
-    made = page.html(engine, "sparse", engine.write(sparse), sparse, stops, 2)
+    made, _ = page.html(engine, "sparse", engine.write(sparse), sparse, stops, 2)
     holds("The slider ends at k = " in made, "the page says where the slider ends")
-    made = page.html(engine, "sparse", engine.write(sparse), sparse, stops, 64)
+    made, _ = page.html(engine, "sparse", engine.write(sparse), sparse, stops, 64)
     holds("The list after each opening is here for stops 0 to " in made, "the page says for which stops it has the steps")
 
 

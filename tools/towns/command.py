@@ -168,13 +168,14 @@ def draw(arguments):
     content = _good(engine, name)
     try:
         ask.ask(engine, content, stops, k)  # refuses what cannot be asked
-        held = page.html(engine, os.path.basename(name), content, town.read(content), stops, k).encode()
+        tiles = town.read(content)
+        held, most = page.html(engine, os.path.basename(name), content, tiles, stops, k)
     except Refused as refused:
         raise _refused(name, content, refused, stops, k) from None
     except page.Disagrees as disagrees:
         raise Wrong(str(disagrees)) from None
-    _save(target, held)
-    print(f"{target}: {len(stops)} stops, {len(held)} bytes")
+    _save(target, held.encode())
+    print(f"{target}: {len(tiles)} tiles, {len(stops)} stops, k from 1 to {most}")
 
 
 # For each command: what does it, and the least and the largest number of its arguments.

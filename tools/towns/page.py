@@ -201,9 +201,11 @@ def data(engine, name, content, tiles, stops, k):
 
 
 def html(engine, name, content, tiles, stops, k):
-    """The page, as text. Raises Refused for a question that the engine refuses, Disagrees if it contradicts itself."""
+    """The page as text, and its largest k. Raises Refused for a question that the engine refuses, Disagrees if two of its
+    answers do."""
     page = pkgutil.get_data("towns", "page.html").decode()
-    held = json.dumps(data(engine, name, content, tiles, stops, k), separators=(",", ":")).replace("<", "\\u003c")
+    shown = data(engine, name, content, tiles, stops, k)
+    held = json.dumps(shown, separators=(",", ":")).replace("<", "\\u003c")
     for part, file in (("/*STYLE*/", "page.css"), ("/*SCRIPT*/", "page.js")):
         page = page.replace(part, pkgutil.get_data("towns", file).decode())
-    return page.replace("/*DATA*/", held)
+    return page.replace("/*DATA*/", held), shown["kmax"]
