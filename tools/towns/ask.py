@@ -1,0 +1,70 @@
+"""A question: the lists of the stops, and what became of each tile."""
+from typing import NamedTuple
+
+from .engine import MAX_SITES, Joined
+from .town import around, entry
+
+OPENED, STRUCK, NEITHER = 2, 1, 0
+
+
+class Answer(NamedTuple):
+    """An answer of the join; for each opened tile the stop that it was opened for."""
+    joined: Joined
+    opened_for: dict
+
+
+def _as_taken(stops, k):
+    """The question in the 32 bits that the engine takes. What does not fit is refused as well at their ends."""
+    low, high = -2**31, 2**31 - 1
+    return [tuple(min(max(end, low), high) for end in stop) for stop in stops], min(max(k, 0), 2**32 - 1)
+
+
+def ask(engine, content, stops, k):
+    """Asks the engine. Raises Refused.
+
+    Stops are taken in turn, so the tiles opened for the first i stops are those opened by a call with these stops alone. Such
+    a call has a smaller box O and may strike other tiles, but striking changes neither which tiles are opened nor their order
+    (the theorem pruning-opens-alike of the crate `search`).
+    """
+    stops, k = _as_taken(stops, k)
+    file = engine.file(content)
+    joined = engine.join(file, stops, k)
+    opened_for = {}
+    for i in range(len(stops)):
+        marks = joined.marks if i + 1 == len(stops) else engine.join(file, stops[:i + 1], k).marks
+        for tile, mark in enumerate(marks):
+            if mark == OPENED:
+                opened_for.setdefault(tile, i)
+        if len(opened_for) == joined.opened:
+            break
+    return Answer(joined, opened_for)
+
+
+def by_key(engine, content, stop, tiles):
+    """Tiles in the order in which a stop takes them: by key, which is near, then the tile's number."""
+    return sorted(tiles, key=lambda tile: (engine.near(tuple(stop), entry(content, tile)[0]), tile))
+
+
+def _tiles(content, numbers):
+    if not numbers:
+        return "none"
+    return ", ".join(f"{tile}" + ("" if entry(content, tile)[1] else " (empty)") for tile in numbers)
+
+
+def report(engine, content, stops, k):
+    """The answer as lines."""
+    answer = ask(engine, content, stops, k)
+    joined, total = answer.joined, len(answer.joined.marks)
+    o = around(stops)
+    lines = [f"k {k}, stops {len(stops)}, O x {o[0]}..{o[2]}, y {o[1]}..{o[3]}",
+             f"tiles {total}: opened {joined.opened}, struck {joined.struck}, neither {total - joined.opened - joined.struck}"]
+    for i, stop in enumerate(stops):
+        first = [tile for tile, of in answer.opened_for.items() if of == i]
+        lines.append(f"opened for stop {i}: {_tiles(content, by_key(engine, content, stop, first))}")
+    for mark, word in ((STRUCK, "struck"), (NEITHER, "neither")):
+        lines.append(f"{word}: {_tiles(content, [tile for tile, held in enumerate(joined.marks) if held == mark])}")
+    for i, (stop, places) in enumerate(zip(stops, joined.lists)):
+        lines.append(f"stop {i} at {stop[0]},{stop[1]}:" + ("" if places else " no site"))
+        for dist, site, cue in places:
+            lines.append(f"  D {dist}, site {site} (tile {site // MAX_SITES} slot {site % MAX_SITES}), cue {cue}")
+    return lines

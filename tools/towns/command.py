@@ -1,0 +1,217 @@
+"""The commands and their arguments. Status 0: done; 1: refused or wrong; 2: a command that cannot be understood."""
+import os
+import re
+import sys
+
+from . import ask, page, text, town, words
+from .engine import MAX_FILE, Engine, NoLibrary, Refused
+
+USAGE = """\
+town: the tool for towns
+
+  town make TEXT FILE           makes the file of a town from text
+  town show FILE                prints a file as that text
+  town check FILE               the full check; says of a refusal what was due and what stood there
+  town ask FILE K X,Y ..        the K nearest sites of each stop, and which tiles were opened, struck, neither
+  town draw FILE K X,Y .. PAGE  the same as one page of HTML, to look at in a browser
+
+town COMMAND --help says more of a command. Coordinates are whole centimetres from -1000000 to 1000000.
+Exit status: 0 done, 1 refused or wrong, 2 a command that cannot be understood.
+"""
+
+HELP = {
+    "make": """\
+town make TEXT FILE
+
+Makes the file of a town from text; TEXT may be - for standard input. A line of the text is
+
+  tile LOW_X LOW_Y HIGH_X HIGH_Y   a tile and its box
+  site X Y CUE                     a site of the tile above it
+
+in whole centimetres; what follows a # is left out. Tiles are numbered from 0 in their order, the sites of a tile from slot 0.
+A town has 1 to 960 tiles, a tile at most 40 sites, all inside its box, ends included. A cue is a number from 0 to 4294967295.
+What is wrong is said with line, tile and slot; then no file is written.
+""",
+    "show": """\
+town show FILE
+
+Prints a file as the text that `town make` takes, with the numbers of tiles and sites in comments. The file must pass the full
+check.
+""",
+    "check": """\
+town check FILE
+
+The full check: the directory, then every tile in order. A refusal is printed with its number, name and block, what was due
+and what stood there.
+""",
+    "ask": """\
+town ask FILE K X,Y ..
+
+Prints for each stop X,Y its K nearest sites, nearest first: D (the squared distance), the site (tile x 40 + slot) and its cue.
+Before them: O, the smallest box around the stops; the tiles opened for each stop, in this order; the tiles struck; and those
+neither opened nor struck. K is 1 to 64; there are 1 to 256 stops. An opened tile is named at the first stop that needs it.
+""",
+    "draw": """\
+town draw FILE K X,Y .. PAGE
+
+Writes a page of HTML for a town and its stops, which opens in any browser and needs no network. It shows the boxes by mark
+(opened, struck, neither), the sites, the stops and O; for a stop its queue by key, the list after each opening, and why it
+ended; a slider for k, which begins at K; and for two tiles E and B the margin and its three points. All numbers are those of
+the engine, asked when the page is written. The file must pass the full check.
+""",
+}
+
+
+SHOWN = 20  # faults of a text
+NUMBER = "[+-]?[0-9]{1,30}"
+STOP = f"{NUMBER},{NUMBER}"
+
+
+class Usage(Exception):
+    """Arguments that cannot be understood."""
+
+
+class Wrong(Exception):
+    """Something that is said in lines on standard error."""
+
+    def __init__(self, *lines):
+        super().__init__("\n".join(lines))
+
+
+def _content(name):
+    try:
+        with open(name, "rb") as file:
+            # One byte more than a file may have is enough to see that it is too long, unless it is a plain file.
+            return file.read() if os.path.isfile(name) else file.read(MAX_FILE + 1)
+    except OSError as error:
+        raise Wrong(f"{name}: {error.strerror}") from None
+
+
+def _save(name, content):
+    try:
+        with open(name, "wb") as file:
+            file.write(content)
+    except OSError as error:
+        raise Wrong(f"{name}: {error.strerror}") from None
+
+
+def _refused(name, content, refused, stops=(), k=0):
+    head, *rest = words.refusal(content, refused, stops, k)
+    return Wrong(f"{name}: {head}" if refused.number <= 10 else head, *rest)
+
+
+def _stop(part):
+    if not re.fullmatch(STOP, part):
+        raise Usage(f"a stop is X,Y, two whole numbers, not `{part}`")
+    x, y = part.split(",")
+    return int(x), int(y)
+
+
+def _question(arguments):
+    k, *stops = arguments
+    if not re.fullmatch(NUMBER, k):
+        raise Usage(f"K is a whole number, not `{k}`")
+    return int(k), [_stop(stop) for stop in stops]
+
+
+def make(arguments):
+    source, target = arguments
+    content = sys.stdin.buffer.read() if source == "-" else _content(source)
+    try:
+        tiles, file = text.make(Engine(), content.decode("utf-8", "replace"))
+    except text.Faulty as faulty:
+        given = "standard input" if source == "-" else source
+        lines = [f"{given}: {fault}" for fault in faulty.faults]
+        more = [f"{len(lines) - SHOWN} more like these"] if len(lines) > SHOWN else []
+        raise Wrong(*lines[:SHOWN], *more) from None
+    _save(target, file)
+    print(f"{target}: {len(tiles)} tiles, {sum(len(tile.sites) for tile in tiles)} sites, {len(file)} bytes")
+
+
+def _good(engine, name):
+    """The content of a file that passes the full check."""
+    content = _content(name)
+    try:
+        engine.validate(content)
+    except Refused as refused:
+        raise _refused(name, content, refused) from None
+    return content
+
+
+def show(arguments):
+    sys.stdout.write(text.show(town.read(_good(Engine(), *arguments))))
+
+
+def check(arguments):
+    tiles = town.read(_good(Engine(), *arguments))
+    blocks = town.directory_blocks(len(tiles))
+    print(f"{arguments[0]}: good: {len(tiles)} tiles, {sum(len(tile.sites) for tile in tiles)} sites, "
+          f"{blocks + len(tiles)} blocks, {blocks} of them of the directory")
+
+
+def ask_(arguments):
+    name, *question = arguments
+    k, stops = _question(question)
+    content = _content(name)
+    try:
+        print("\n".join(ask.report(Engine(), content, stops, k)))
+    except Refused as refused:
+        raise _refused(name, content, refused, stops, k) from None
+
+
+def draw(arguments):
+    name, *question, target = arguments
+    k, stops = _question(question)
+    if re.fullmatch(STOP, target):
+        raise Usage(f"the last argument is the page to write, and `{target}` is a stop")
+    engine = Engine()
+    content = _good(engine, name)
+    try:
+        ask.ask(engine, content, stops, k)  # refuses what cannot be asked
+        tiles = town.read(content)
+        held, most = page.html(engine, os.path.basename(name), content, tiles, stops, k)
+    except Refused as refused:
+        raise _refused(name, content, refused, stops, k) from None
+    except page.Disagrees as disagrees:
+        raise Wrong(str(disagrees)) from None
+    _save(target, held.encode())
+    print(f"{target}: {len(tiles)} tiles, {len(stops)} stops, k from 1 to {most}")
+
+
+# For each command: what does it, and the least and the largest number of its arguments.
+COMMANDS = {"make": (make, 2, 2), "show": (show, 1, 1), "check": (check, 1, 1), "ask": (ask_, 2, None), "draw": (draw, 4, None)}
+
+
+def _run(arguments):
+    if not arguments:
+        raise Usage("which command? make, show, check, ask or draw")
+    name, *rest = arguments
+    if name in ("--help", "-h", "help"):
+        sys.stdout.write(USAGE)
+        return
+    if name not in COMMANDS:
+        raise Usage(f"there is no command `{name}`; there are make, show, check, ask and draw")
+    if rest and rest[0] in ("--help", "-h"):
+        sys.stdout.write(HELP[name])
+        return
+    action, least, most = COMMANDS[name]
+    if len(rest) < least or most is not None and len(rest) > most:
+        raise Usage(f"usage: {HELP[name].splitlines()[0]}")
+    action(rest)
+
+
+def main(arguments):
+    try:
+        _run(arguments)
+        sys.stdout.flush()
+        return 0
+    except Usage as usage:
+        print(f"town: {usage}", file=sys.stderr)
+        return 2
+    except (Wrong, NoLibrary) as wrong:
+        print(wrong, file=sys.stderr)
+        return 1
+    except BrokenPipeError:
+        # Whoever read the output has enough of it.
+        os.dup2(os.open(os.devnull, os.O_WRONLY), sys.stdout.fileno())
+        return 1

@@ -1,0 +1,162 @@
+"""A town as text, and back.
+
+A line is `tile LOW_X LOW_Y HIGH_X HIGH_Y`, or `site X Y CUE` for a site of the tile above it, in centimetres; what follows a
+# is left out. Tiles are numbered from 0 in their order, and the sites of a tile from slot 0.
+"""
+import re
+from typing import NamedTuple, Optional
+
+from .engine import LIMIT, MAX_SITES, MAX_TILES, Refused
+from .town import Tile, number
+
+FORMS = {"tile": ("LOW_X", "LOW_Y", "HIGH_X", "HIGH_Y"), "site": ("X", "Y", "CUE")}
+MAX_CUE = 2**32 - 1
+WHOLE = re.compile(r"[+-]?[0-9]{1,30}")
+
+
+class Fault(NamedTuple):
+    """Something wrong in a text: where, and what in words. Line 0 stands for the text as a whole."""
+    line: int
+    tile: Optional[int]
+    slot: Optional[int]
+    words: str
+
+    def __str__(self):
+        at = [f"line {self.line}: "] if self.line else []
+        if self.tile is not None:
+            at.append(f"tile {self.tile}: " if self.slot is None else f"tile {self.tile} slot {self.slot}: ")
+        return "".join(at) + self.words
+
+
+class Faulty(Exception):
+    """A text that is no town; the faults in the order of the lines."""
+
+    def __init__(self, faults):
+        super().__init__("; ".join(map(str, faults)))
+        self.faults = faults
+
+
+class Source(NamedTuple):
+    """A text's tiles, and the line of each tile and of each site."""
+    tiles: list
+    tile_lines: list
+    site_lines: list
+
+
+def _numbers(word, given):
+    """The numbers after `tile` or `site`, or what is wrong with them."""
+    names = FORMS[word]
+    if len(given) != len(names):
+        return None, f"`{word}` takes {len(names)} numbers, {' '.join(names)}; here are {len(given)}"
+    for name, part in zip(names, given):
+        if not WHOLE.fullmatch(part):
+            return None, f"{name} is `{part[:40]}`, not a whole number"
+    return [int(part) for part in given], None
+
+
+def parse(text):
+    """The source, and the faults of lines that cannot be read at all."""
+    source, faults = Source([], [], []), []
+    for line, content in enumerate(text.splitlines(), 1):
+        word, *given = content.split("#")[0].split() or [""]
+        if not word:
+            continue
+        here = len(source.tiles) - 1 if word == "site" and source.tiles else None
+        if word not in FORMS:
+            faults.append(Fault(line, None, None, f"`{word[:40]}` is neither `tile` nor `site`"))
+            continue
+        numbers, wrong = _numbers(word, given)
+        if word == "tile":
+            # A tile that cannot be read still counts, so that the numbers of those after it are right.
+            source.tiles.append(Tile(tuple(numbers) if numbers else None, []))
+            source.tile_lines.append(line)
+            source.site_lines.append([])
+            here = len(source.tiles) - 1
+            slot = None
+        elif here is None:
+            faults.append(Fault(line, None, None, "a site before the first tile"))
+            continue
+        else:
+            slot = len(source.tiles[here].sites)
+            source.tiles[here].sites.append(tuple(numbers) if numbers else None)
+            source.site_lines[here].append(line)
+        if wrong:
+            faults.append(Fault(line, here, slot, wrong))
+    return source, faults
+
+
+def _beyond(name, value):
+    return None if -LIMIT <= value <= LIMIT else f"{name} is {value}, beyond the limits, {-LIMIT} to {LIMIT}"
+
+
+def _box_faults(box):
+    for name, value in zip(("low x", "low y", "high x", "high y"), box):
+        if _beyond(name, value):
+            yield _beyond(name, value)
+    for axis, low, high in (("x", box[0], box[2]), ("y", box[1], box[3])):
+        if low > high:
+            yield f"low {axis} {low} is above high {axis} {high}"
+
+
+def _site_faults(box, site):
+    x, y, cue = site
+    wrong = [words for words in (_beyond("x", x), _beyond("y", y)) if words]
+    yield from wrong
+    if not 0 <= cue <= MAX_CUE:
+        yield f"the cue is {cue}, not a number from 0 to {MAX_CUE}"
+    if box and not wrong:
+        yield from outside(box, x, y)
+
+
+def outside(box, x, y):
+    """That a site is outside its box, in words, if it is."""
+    if not (box[0] <= x <= box[2] and box[1] <= y <= box[3]):
+        yield f"the site at ({x}, {y}) is outside its box, x {box[0]}..{box[2]}, y {box[1]}..{box[3]}"
+
+
+def _town_faults(source):
+    """What no town may have, in words: the engine refuses the same without saying where."""
+    if not source.tiles:
+        yield Fault(0, None, None, f"no tile; a town has 1 to {MAX_TILES}")
+    if len(source.tiles) > MAX_TILES:
+        yield Fault(source.tile_lines[MAX_TILES], MAX_TILES, None, f"more than {MAX_TILES} tiles")
+    for t, tile in enumerate(source.tiles):
+        wrong = list(_box_faults(tile.box)) if tile.box else []
+        yield from (Fault(source.tile_lines[t], t, None, words) for words in wrong)
+        if len(tile.sites) > MAX_SITES:
+            yield Fault(source.site_lines[t][MAX_SITES], t, MAX_SITES, f"more than {MAX_SITES} sites in the tile")
+        box = None if wrong else tile.box
+        for slot, site in enumerate(tile.sites):
+            if site:
+                yield from (Fault(source.site_lines[t][slot], t, slot, words) for words in _site_faults(box, site))
+
+
+def _passable(source):
+    """Whether all numbers fit the 32 bits in which the engine takes them."""
+    whole = [end for tile in source.tiles for end in tile.box]
+    whole += [end for tile in source.tiles for site in tile.sites for end in site[:2]]
+    cues = [site[2] for tile in source.tiles for site in tile.sites]
+    return all(-2**31 <= n < 2**31 for n in whole) and all(0 <= cue <= MAX_CUE for cue in cues)
+
+
+def make(engine, text):
+    """The tiles of a text and the file that nearby_write makes of them. Raises Faulty."""
+    source, faults = parse(text)
+    refused = None
+    if not faults and _passable(source):
+        try:
+            return source.tiles, engine.write(source.tiles)
+        except Refused as caught:
+            refused = caught
+    faults = sorted(faults + list(_town_faults(source)), key=lambda fault: fault.line or float("inf"))
+    raise Faulty(faults or [Fault(0, None, None, str(refused))])
+
+
+def show(tiles):
+    """The text of a town, with the numbers of tiles and sites behind #."""
+    lines = [f"# {len(tiles)} tiles, {sum(len(tile.sites) for tile in tiles)} sites"]
+    for t, tile in enumerate(tiles):
+        lines.append("tile {} {} {} {}  # tile {}".format(*tile.box, t) + ("" if tile.sites else ", empty"))
+        for slot, site in enumerate(tile.sites):
+            lines.append("site {} {} {}  # site {}, slot {}".format(*site, number(t, slot), slot))
+    return "\n".join(lines) + "\n"

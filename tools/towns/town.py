@@ -1,0 +1,64 @@
+"""What a file holds: the numbers at their places. Nothing here tests a file; that is the engine's part."""
+import struct
+from typing import NamedTuple
+
+from .engine import BLOCK_SIZE, MAX_SITES
+
+ENTRIES = 24  # of a directory block
+PAYLOAD = 16  # the byte at which entries and sites begin
+ENTRY_SIZE = 20
+SITE_SIZE = 12
+
+
+class Tile(NamedTuple):
+    """A tile: its box (low x, low y, high x, high y) and its sites (x, y, cue) by slot."""
+    box: tuple
+    sites: list
+
+
+def directory_blocks(tiles):
+    """d: how many blocks the directory of so many tiles has."""
+    return -(-tiles // ENTRIES)
+
+
+def block(content, position):
+    return content[BLOCK_SIZE * position:BLOCK_SIZE * (position + 1)]
+
+
+def two_bytes(held, at):
+    return int.from_bytes(held[at:at + 2], "little")
+
+
+def entry(content, tile):
+    """The directory's entry of a tile: its box and its count."""
+    at = BLOCK_SIZE * (tile // ENTRIES) + PAYLOAD + ENTRY_SIZE * (tile % ENTRIES)
+    *box, count, _ = struct.unpack_from("<iiiiHH", content, at)
+    return tuple(box), count
+
+
+def site(held, slot):
+    """A site of a tile's block: x, y and cue."""
+    return struct.unpack_from("<iiI", held, PAYLOAD + SITE_SIZE * slot)
+
+
+def read(content):
+    """The tiles of a file that passed the full check."""
+    total = two_bytes(content, 6)
+    first = directory_blocks(total)
+    tiles = []
+    for t in range(total):
+        box, count = entry(content, t)
+        held = block(content, first + t)
+        tiles.append(Tile(box, [site(held, slot) for slot in range(count)]))
+    return tiles
+
+
+def number(tile, slot):
+    """The number of a site in lists."""
+    return tile * MAX_SITES + slot
+
+
+def around(stops):
+    """O: the smallest box around the stops."""
+    xs, ys = [x for x, _ in stops], [y for _, y in stops]
+    return min(xs), min(ys), max(xs), max(ys)

@@ -1,0 +1,177 @@
+"""Refusals in words: which block, what was due there, what stood there.
+
+The engine says the number and the block; the bytes say the rest.
+"""
+from .engine import BLOCK_SIZE, LIMIT, MAX_FILE, MAX_K, MAX_SITES, MAX_STOPS, MAX_TILES, NAMES
+from .text import outside
+from .town import ENTRIES, ENTRY_SIZE, PAYLOAD, SITE_SIZE, block, directory_blocks, entry, site, two_bytes
+
+PAYLOAD_END = 496
+CHECK = 510
+
+
+def sums(held):
+    """The two bytes due at 510 and 511: sums over bytes 1 to 509, modulo 255."""
+    a = c = 0
+    for byte in held[1:CHECK]:
+        a = (a + byte) % 255
+        c = (c + a) % 255
+    return bytes((a, c))
+
+
+def _hex(held):
+    return " ".join(f"{byte:02X}" for byte in held)
+
+
+class Blocks:
+    """A file that was refused, and what can be said of its blocks."""
+
+    def __init__(self, content):
+        self.content = content
+        self.count = len(content) // BLOCK_SIZE
+        self.tiles = two_bytes(content, 6)
+        self.directory = directory_blocks(self.tiles)
+
+    def is_directory(self, position):
+        """Block 0 is always of the directory; the others by what block 0 says of T."""
+        return position == 0 or position < self.directory
+
+    def name(self, position):
+        if self.is_directory(position):
+            return "of the directory"
+        return f"tile {position - self.directory}"
+
+    def entries_due(self, position):
+        if not self.is_directory(position):
+            return entry(self.content, position - self.directory)[1]
+        return min(ENTRIES, self.tiles - ENTRIES * position)
+
+    def zeros(self, position):
+        """The bytes due to be zero, each with what it is."""
+        held = block(self.content, position)
+        entries = two_bytes(held, 4)
+        if self.is_directory(position):
+            for e in range(entries):
+                for at in (18, 19):
+                    yield PAYLOAD + ENTRY_SIZE * e + at, f"the last two bytes of the entry of tile {ENTRIES * position + e}"
+            first, what = PAYLOAD + ENTRY_SIZE * entries, "past the last entry"
+        else:
+            yield from ((at, "zero in a tile, where a directory block has T") for at in (6, 7))
+            first, what = PAYLOAD + SITE_SIZE * entries, "past the last site"
+        yield from ((at, "between the head and the payload") for at in range(8, PAYLOAD))
+        yield from ((at, what) for at in range(first, PAYLOAD_END))
+        yield from ((at, "between the payload and the check") for at in range(PAYLOAD_END, CHECK))
+
+
+def _length(content):
+    there = f"the file has {len(content)} bytes"
+    if len(content) % BLOCK_SIZE:
+        there += f", {len(content) // BLOCK_SIZE} blocks and {len(content) % BLOCK_SIZE} bytes"
+    return f"a multiple of {BLOCK_SIZE} bytes, from {BLOCK_SIZE} to {MAX_FILE}", there
+
+
+def _sync(file, position):
+    return "byte 0 is D6", f"byte 0 is {_hex(block(file.content, position)[:1])}"
+
+
+def _check(file, position):
+    held = block(file.content, position)
+    return (f"check bytes {_hex(sums(held))} at 510 and 511, the sums over bytes 1 to 509",
+            f"check bytes {_hex(held[CHECK:])}")
+
+
+def _kind(file, position):
+    due = "1, a block of the directory" if file.is_directory(position) else "2, a tile"
+    return f"byte 1, the kind, is {due}", f"byte 1 is {block(file.content, position)[1]}"
+
+
+def _position(file, position):
+    return (f"bytes 2-3, the block's position, say {position}",
+            f"bytes 2-3 say {two_bytes(block(file.content, position), 2)}")
+
+
+def _tiles(file, position):
+    says = two_bytes(block(file.content, position), 6)
+    there = f"bytes 6-7, the number of tiles T, say {says}"
+    if position > 0:
+        return f"the T of block 0, {file.tiles}", there
+    if not 1 <= says <= MAX_TILES:
+        return f"T from 1 to {MAX_TILES}", there
+    room = [t for t in range(1, MAX_TILES + 1) if t + directory_blocks(t) == file.count]
+    due = f"T {room[0]}, as the file has {file.count} blocks" if room else f"a T that takes {file.count} blocks (there is none)"
+    return due, f"{there}, which take {says + directory_blocks(says)} blocks, {directory_blocks(says)} of them of the directory"
+
+
+def _entries(file, position):
+    due = file.entries_due(position)
+    why = "the directory's count of this tile"
+    if file.is_directory(position):
+        why = f"the entries of this block when T is {file.tiles}"
+    return (f"bytes 4-5, the number of entries, say {due}, {why}",
+            f"bytes 4-5 say {two_bytes(block(file.content, position), 4)}")
+
+
+def _padding(file, position):
+    held = block(file.content, position)
+    wrong = [(at, what) for at, what in file.zeros(position) if held[at]]
+    if not wrong:
+        return None
+    at, what = wrong[0]
+    more = f", and {len(wrong) - 1} more" if len(wrong) > 1 else ""
+    return f"byte {at} is 00: {what}", f"byte {at} is {_hex(held[at:at + 1])}{more}"
+
+
+def _box(file, position):
+    for tile in range(ENTRIES * position, ENTRIES * position + file.entries_due(position)):
+        box, count = entry(file.content, tile)
+        for name, value in zip(("low x", "low y", "high x", "high y"), box):
+            if not -LIMIT <= value <= LIMIT:
+                return f"coordinates from {-LIMIT} to {LIMIT}", f"{name} of tile {tile} is {value}"
+        for axis, low, high in (("x", box[0], box[2]), ("y", box[1], box[3])):
+            if low > high:
+                return "no low end above its high end", f"tile {tile} has low {axis} {low} and high {axis} {high}"
+        if count > MAX_SITES:
+            return f"at most {MAX_SITES} sites in a tile", f"the count of tile {tile} is {count}"
+    return None
+
+
+def _stray(file, position):
+    tile = position - file.directory
+    box, count = entry(file.content, tile)
+    held = block(file.content, position)
+    for slot in range(count):
+        x, y, _ = site(held, slot)
+        for words in outside(box, x, y):
+            return "all sites inside the box of their tile", f"slot {slot} of tile {tile}: {words}"
+    return None
+
+
+OF_BLOCKS = {2: _sync, 3: _check, 4: _kind, 5: _position, 6: _tiles, 7: _entries, 8: _padding, 9: _box, 10: _stray}
+
+
+def _of_question(number, stops, k):
+    if number == 11:
+        return f"k from 1 to {MAX_K}", f"k is {k}"
+    if number == 12:
+        return f"1 to {MAX_STOPS} stops", f"there are {len(stops)}"
+    if number == 13:
+        for i, stop in enumerate(stops):
+            if not all(-LIMIT <= end <= LIMIT for end in stop):
+                return f"coordinates from {-LIMIT} to {LIMIT}", f"stop {i} is at {stop[0]},{stop[1]}"
+    return None
+
+
+def refusal(content, refused, stops=(), k=0):
+    """A refusal as lines: number, name and block; what was due; what stood there."""
+    number, position = refused.number, refused.block
+    head = f"refused {number} ({NAMES[number]})"
+    if number == 1:
+        said = _length(content)
+    elif number in OF_BLOCKS:
+        file = Blocks(content)
+        head += f", block {position}, {file.name(position)}"
+        said = OF_BLOCKS[number](file, position)
+    else:
+        said = _of_question(number, stops, k)
+    due, there = said or ("?", "?")
+    return [head, f"  due: {due}", f"  there: {there}"]
