@@ -1,10 +1,11 @@
 #!/usr/bin/env python3
 """docs/FORMAT.md and examples/reader.c against the sample town and the engine (target/lib/libnearby.so).
 
-From the document are taken its tables, dumps, sums, orders of tests and pieces of C; each is compared with the bytes of
-samples/riverside.town, with what the engine answers, or with examples/reader.c. The reader is built with every warning an
-error, and run on good and on damaged files: its number and block have to be those of nearby_validate, and the text that
-it prints has to give the same file by nearby_write. Every failure is printed; the status is 1 if there is one.
+From the document are taken its grammar, maps, tables, dumps, sums, orders of tests and pieces of C; each is compared
+with the bytes of samples/riverside.town, with what the engine answers, or with examples/reader.c. The reader is built
+with every warning an error, and run on good and on damaged files: its number and block have to be those of
+nearby_validate, and the text that it prints has to give the same file by nearby_write. Failures are printed; the status
+is 1 if there is one.
 
 use: format.py
 """
@@ -78,7 +79,8 @@ class Engine:
 
     def prune(self, file, box, k, room):
         self.lent = [self.slice(ctypes.c_uint8, [77] * room)]
-        answer = self.calls.nearby_prune(*self.bytes(file), *map(ctypes.c_int32, box), ctypes.c_uint32(k), *self.lent[0])
+        answer = self.calls.nearby_prune(
+            *self.bytes(file), *map(ctypes.c_int32, box), ctypes.c_uint32(k), *self.lent[0])
         return answer.number, answer.block
 
     def margin(self, *numbers):
@@ -158,6 +160,11 @@ class Document:
             else:
                 self.parts.setdefault(part, []).append(line)
 
+    def running(self):
+        """All that is not in a fence, in one line, without commas in numbers."""
+        text = " ".join(itertools.chain(*self.parts.values()))
+        return re.sub(r"(?<=\d),(?=\d{3})", "", text)
+
     def tables(self, head):
         """The rows of the tables whose first row has these first cells."""
         found, rows = [], None
@@ -228,12 +235,23 @@ def header_names():
 def check_arithmetic(document):
     """Every equation between numbers, in running text and in tables."""
     text = re.sub(r"(?<=\d),(?=\d{3})", "", document.whole)
+    in_hex = r"`((?:[0-9a-f]{2} ){3}[0-9a-f]{2})` is (?:[\d ×+-]* = )?(-?\d+)"
+    for hexa, value in re.findall(in_hex, document.running()):
+        expect(f"{hexa} as a number", int(value), int.from_bytes(bytes.fromhex(hexa), "little", signed=True))
+    expect("the bytes of the check", set(re.findall(r"\bbyte\S* (?:of |from )?1 to (\d+)", text, re.I)), {"509"})
     equations = re.findall(r"(?<![\w.])(\d+(?: [×+-] \d+)+) = (-?\d+)\b", text)
     for left, right in equations:
         expect(f"{left} = {right}", eval(left.replace("×", "*")), int(right))
     for left, right in re.findall(r"(\d+) mod 255 (?:=|is) (\d+)", text):
         expect(f"{left} mod 255", int(right), int(left) % 255)
     expect("there are equations", len(equations) > 15, True)
+    # a slip of the pen in running text or in the grammar: no other large numbers stand there
+    said = " ".join(line for lines in document.parts.values() for line in lines if not line.startswith("|"))
+    said += " ".join(line for part, _, lines in document.fences for line in lines if part.startswith("2."))
+    large = {int(text.replace(",", "")) for text in re.findall(r"\d[\d,]{2,}(?<!,)", said)}
+    expect("large numbers in running text", large, {
+        100, 254, 255, 256, 314, 355, 494, 509, 510, 511, 512, 960, 1071, 129_795, 154_102, 1_000_000, 33_097_725,
+        2 ** 32 - 10, 2 ** 32, BAD_BOX})
 
 
 def check_limits(document, engine):
@@ -352,6 +370,73 @@ def check_what_is_seen(engine, sample):
 
 # What the document says of blocks
 
+def check_grammar(document, tables):
+    """The grammar's fields are those of the byte tables: names, offsets, lengths and fixed values."""
+    grammar = next(lines for part, _, lines in document.fences if part == "2. The file as a grammar")
+    sizes, structs, name = {"u8": 1, "u16": 2, "u32": 4, "i32": 4}, {}, None
+    for line in grammar:
+        said, _, comment = line.partition("//")
+        if said.rstrip().endswith("{"):
+            name = said.split()[0]
+            structs[name], size = [], re.search(r"(\d+) bytes", comment)
+            sizes[name] = int(size[1]) if size else None
+        elif said.strip() not in ("", "}"):
+            kind, names, times, value = re.fullmatch(
+                r"(\w+)\s*((?:\w+(?:, )?)*)\s*(?:\[(.*?)\])?\s*(?:= (\w+))?", said.strip()).groups()
+            for field in names.split(", "):
+                structs[name].append((kind, field.strip() or kind, times or "1", value))
+    words = {"tiles": "T", "zero": "zeros", "entry": "n entries", "site": "n sites"}
+    for name, table in zip(("directory_block", "entry", "tile_block", "site"), tables):
+        expect(f"fields of {name}", [words.get(field, field.replace("_", " ")) for _, field, _, _ in structs[name]],
+               [row[2] for row in table])
+        for n in range(25):
+            at = 0
+            for (kind, field, times, value), row in zip(structs[name], table):
+                length = sizes[kind] * count_of(re.sub(r"(?<=\d) n", " × n", times), n)
+                expect(f"{field} of {name}", (at, length), (count_of(row[0], n), count_of(row[1], n)))
+                at += length
+            expect(f"bytes of {name}", at, sizes[name])
+        fixed = [(field, int(value, 0)) for _, field, _, value in structs[name] if value and value not in "npT"]
+        kinds = {"kind": 1 if name == "directory_block" else 2, "sync": 0xD6}
+        expect(f"fixed values of {name}", fixed, [(field, kinds.get(field, 0)) for field, _ in fixed])
+    expect("fixed fields", [field for _, field, _, value in structs["tile_block"] if value],
+           ["sync", "kind", "position", "entries", "zero", "zero"])
+    entry_at = r"(\d+ × \(t / \d+\) \+ \d+ \+ \d+ × \(t % \d+\))( \+ \d+)? of the file"
+    expect("formulas for the place of an entry", len(re.findall(entry_at, document.running())), 2)
+    for formula, more in re.findall(entry_at, document.running()):
+        due = [BLOCK * (t // 24) + 16 + 20 * (t % 24) + (16 if more else 0) for t in range(960)]
+        code = (formula + more).replace("×", "*").replace("/", "//")
+        expect("where an entry stands", [eval(code, {"t": t}) for t in range(960)], due)
+
+
+def check_maps(document, tables):
+    """The pictures of part 3: five columns are a byte; the fields below the numbers are those of the byte tables."""
+    for part, whole, item in ("Directory block", tables[0], tables[1]), ("Tile block", tables[2], tables[3]):
+        lines = next(lines for title, tag, lines in document.fences if title == part)
+        size, shown = count_of(item[-1][0], 0) + count_of(item[-1][1], 0), []
+        for numbers, border, cells in zip(lines, lines[1:], lines[2:]):
+            if not border.startswith("+") or not numbers.startswith(" "):
+                continue
+            start, ends = int(numbers.split()[0]), [at for at, sign in enumerate(border) if sign == "+"]
+            for label in re.finditer(r"\d+", numbers):
+                due = start + label.start() // 5 if label.start() % 5 == 1 else start + ends[-1] // 5 - 1
+                expect(f"{part}: a number of the map", int(label[0]), due)
+            table, base = (whole, 0) if start == 0 else (item, 16 + (start - 16) // size * size)
+            names = dict((base + count_of(row[0], 0), row) for row in table)
+            for left, right in zip(ends, ends[1:]):
+                offset, length, name, due, _ = names[start + left // 5]
+                text = cells[left + 1:right].strip()
+                expect(f"{part}: length of {name}", right - left, 5 * count_of(length, 0))
+                fixed = {"sync": "D6", "kind": f"0{due}", "zeros": " ".join(["00"] * count_of(length, 0))}
+                expect(f"{part}: cell of {name}", text, fixed.get(name, name))
+            shown += [start] + re.findall(r"\| (?:entry|slot) (\d+)$", cells)
+        expect(f"{part}: rows", shown, [0, 16, "0", 16 + size, "1"])
+        rest = re.search(r"from byte 16 \+ (\d+) n to byte (\d+); with (\d+) .* bytes (\d+) to (\d+)", "".join(lines))
+        most = 480 // size
+        expect(f"{part}: zeros", tuple(map(int, rest.groups())), (size, 509, most, 16 + size * most, 509))
+        check = next((above, cells) for above, cells in zip(lines, lines[2:]) if "| a " in cells)
+        expect(f"{part}: check", (check[0].split(), check[1].split()), (["510", "511"], ["|", "a", "|", "c", "|"]))
+
 def check_byte_tables(document, engine, reader, sample):
     """The tables of part 3: no byte is left out, the sample reads as its text, and each field is refused as said."""
     tables = document.tables(["Offset", "Length", "Name", "What is due", "Else refused with"])
@@ -382,8 +467,11 @@ def check_byte_tables(document, engine, reader, sample):
     due = [line for line in (ROOT / "samples/riverside.txt").read_text().splitlines() if line[0] != "#"]
     expect("the sample read by the tables", lines, due)
 
-    # each byte of each field set to 7f, so that coordinates and counts are beyond all limits in their high bytes
-    for table, position, start, n in (directory, 0, 0, 24), (entry, 0, 16 + 20 * 3, 0), (tile, 2, 0, 1), (site, 2, 16, 0):
+    check_grammar(document, tables)
+    check_maps(document, tables)
+    # the last byte of each field set to 7f: so that coordinates and counts are beyond all limits
+    places = (directory, 0, 0, 24), (entry, 0, 16 + 20 * 3, 0), (tile, 2, 0, 1), (site, 2, 16, 0)
+    for table, position, start, n in places:
         for offset, length, name, _, refusal in table:
             if refusal == "" and name != "cue":
                 continue
@@ -399,13 +487,15 @@ def check_byte_tables(document, engine, reader, sample):
 def fault_in_directory(file, number, position):
     at = BLOCK * position
     head = {2: (0, [0]), 4: (1, [2]), 5: (2, [position + 1]), 6: (6, [29]), 7: (4, [7]), 8: (16 + 18, [0, 1])}
-    return put(file, at + 16 + 12, struct.pack("<i", -6)) if number == 9 else put(file, at + head[number][0], head[number][1])
+    offset, data = (16 + 12, struct.pack("<i", -6)) if number == 9 else head[number]
+    return put(file, at + offset, data)
 
 
 def fault_in_tile(file, number, position):
     at = BLOCK * position
     head = {2: (0, [0]), 4: (1, [1]), 5: (2, [position - 1]), 7: (4, [1]), 8: (6, [30])}
-    return put(file, at + 28 + 4, struct.pack("<i", 6)) if number == 10 else put(file, at + head[number][0], head[number][1])
+    offset, data = (28 + 4, struct.pack("<i", 6)) if number == 10 else head[number]
+    return put(file, at + offset, data)
 
 
 def with_faults(file, make, numbers, position):
@@ -429,6 +519,17 @@ def check_orders_in_blocks(document, engine, reader):
                 bad = with_faults(file, make, {first, second}, position)
                 expect(f"{title}: {first} and {second}", engine.validate(bad)[:2], (first, position))
                 reader.compare(bad)
+        # exactly the bytes that the step of the zeros names are due to be zero
+        position, step = positions[-1], next(line for line in document.parts[title] if "**8 padding**" in line)
+        entries, first = file[BLOCK * position + 4], BLOCK * position
+        bytes_ = {at for low, high in re.findall(r"bytes (\d+)-(\d+)", step) for at in range(int(low), int(high) + 1)}
+        head, size, last = map(int, re.search(r"bytes (\d+) \+ (\d+) n to (\d+)", step).groups())
+        bytes_ |= set(range(head + size * entries, last + 1))
+        if "the last two bytes of all n entries" in step:
+            bytes_ |= {head + size * entry + at for entry in range(entries) for at in (size - 2, size - 1)}
+        refused = {at for at in range(BLOCK)
+                   if engine.validate(mended(put(file, first + at, [file[first + at] ^ 1]), position))[0] == 8}
+        expect(f"{title}: zeros", refused, bytes_)
         # the last fault of a block before the first of the next
         bad = with_faults(file, make, {steps[-1]}, positions[0])
         bad = with_faults(bad, make, {2}, positions[0] + 1)
@@ -497,8 +598,8 @@ def check_orders_of_calls(document, engine):
         return number, block
 
     first_of("writer", document.steps("Order of tests: the writer, `nearby_write`"), [
-        (6, (6, 0), {"tiles": 961}), (15, (15, 0), {"numbers": 1}), (9, (9, 0), {"box": 1}), (15, (15, 0), {"lists": 1}),
-        (10, (10, 0), {"stray": 1}), (14, (14, 0), {"short": 1})], write)
+        (6, (6, 0), {"tiles": 961}), (15, (15, 0), {"numbers": 1}), (9, (9, 0), {"box": 1}),
+        (15, (15, 0), {"lists": 1}), (10, (10, 0), {"stray": 1}), (14, (14, 0), {"short": 1})], write)
 
     first_of("block check", document.steps("Order of tests: the block check, `nearby_block_check`"), [
         (1, 1, {"cut": 1}), (2, 2, {"sync": 1}), (3, 3, {"check": 1})],
@@ -515,8 +616,15 @@ def check_refusals(document):
     for head in ["No.", "Name", "Refused when"], ["No.", "What has mostly happened"]:
         rows = document.table(*head)
         expect(f"numbers of {head}", [int(row[0]) for row in rows], list(range(1, 16 if head[1] == "Name" else 11)))
+    constants = dict(re.findall(r"NEARBY_(\w+) = (\d+)", (ROOT / "include/nearby.h").read_text()))
+    block, tiles, sites, stops, k, file = (int(constants[name]) for name in (
+        "BLOCK_SIZE", "MAX_TILES", "MAX_SITES", "MAX_STOPS", "MAX_K", "MAX_FILE"))
+    numbers = {1: [0, block, file, block], 3: [510, 511, 1, 509], 6: [0, tiles, 0], 9: [sites, 1], 11: [0, k, 1, k],
+               12: [stops, 1, stops], 13: [-1_000_000, 1_000_000]}
     for row in document.table("No.", "Name", "Refused when"):
         expect(f"name of {row[0]}", row[1], NAMES.get(int(row[0])))
+        said = [number(text) for text in re.findall(r"-?\b\d[\d,]*\b", " ".join(row[2:]))]
+        expect(f"numbers in row {row[0]}", said, numbers.get(int(row[0]), said))
 
 
 def check_block_12(document, engine, reader):
@@ -576,7 +684,8 @@ def check_reader(document, engine, reader, sample):
     large = engine.write(*town(960, 40))[2]
     mixed = engine.write(*lists_of("tile -1000000 -1000000 1000000 1000000\nsite -1000000 1000000 4294967295\n"
                                    "site -1 -256 0\ntile -7 -7 -7 -7\nsite -7 -7 255\ntile 0 0 0 0\n"))[2]
-    for good in sample, large, mixed, engine.write(*town(1, 0))[2], engine.write(*town(24))[2], engine.write(*town(25))[2]:
+    small = [engine.write(*town(tiles, sites))[2] for tiles, sites in ((1, 0), (24, 2), (25, 2), (48, 1), (49, 40))]
+    for good in sample, large, mixed, *small:
         expect("a good file", engine.validate(good)[0], 0)
         reader.compare(good)
 
@@ -592,7 +701,8 @@ def check_reader(document, engine, reader, sample):
         says = put(put(moved, BLOCK * one + 2, [one]), BLOCK * other + 2, [other])
         damaged += [moved, mended(mended(says, one), other), put(sample, BLOCK * one, block_of(sample, other))]
     two = engine.write(*town(30))[2]
-    for tiles in 0, 1, 23, 24, 25, 29, 31, 48, 49, 960, 961, 24 + 256, 65535:  # another T, in one directory block or in both
+    # another T, in one directory block or in both
+    for tiles in 0, 1, 23, 24, 25, 29, 31, 48, 49, 960, 961, 24 + 256, 65535:
         other = put(two, 6, struct.pack("<H", tiles))
         damaged += [mended(put(sample, 6, struct.pack("<H", tiles)), 0), mended(other, 0)]
         damaged += [mended(put(two, BLOCK + 6, struct.pack("<H", tiles)), 1)]
@@ -621,7 +731,8 @@ def main():
         print("format:", failure)
     if failures:
         sys.exit(f"format: {len(failures)} failures")
-    print(f"format: {done['facts']} facts of docs/FORMAT.md hold, reader.c agrees with the engine on {done['files']} files")
+    print(f"format: {done['facts']} facts of docs/FORMAT.md hold; examples/reader.c agrees with the engine "
+          f"on {done['files']} files")
 
 
 NAMES = header_names()
