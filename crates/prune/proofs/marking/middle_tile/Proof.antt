@@ -8,10 +8,10 @@ use Rattle.prune.proofs.marking.middle_tile.Statement.{statement}
 use Rattle.prune.proofs.marking.middle_tile.Tie as tie
 
 abbrev Inv-loop : tie.InvT-loop
-Inv-loop far h tiles opposite middle₀ least₀ t₀ middle least t = (middle ≤ t) × (t ≤ tiles)
+Inv-loop far tiles opposite middle₀ least₀ t₀ middle least t = (middle ≤ t) × (t ≤ tiles)
 
 abbrev μ-loop : tie.MeasureT-loop
-μ-loop far h tiles opposite middle₀ least₀ t₀ middle least t = tiles - t
+μ-loop far tiles opposite middle₀ least₀ t₀ middle least t = tiles - t
 
 sub-opposite : tie.Need-sub-opposite Inv-loop μ-loop
 sub-opposite c = search needs

@@ -14,10 +14,10 @@ use Rattle.serve.proofs.marks.count_opened.Statement.{statement}
 use Rattle.serve.proofs.marks.count_opened.Tie as tie
 
 abbrev Inv-loop : tie.InvT-loop
-Inv-loop marks h tiles opened₀ t₀ opened t = (t ≤ tiles) × ((opened ≤ t) × (opened ≡ count (λ m. eqb m 2) (take t marks)))
+Inv-loop marks tiles opened₀ t₀ opened t = (t ≤ tiles) × ((opened ≤ t) × (opened ≡ count (λ m. eqb m 2) (take t marks)))
 
 abbrev μ-loop : tie.MeasureT-loop
-μ-loop marks h tiles opened₀ t₀ opened t = tiles - t
+μ-loop marks tiles opened₀ t₀ opened t = tiles - t
 
 loop-holds : tie.Need-loop-holds Inv-loop μ-loop
 unfolding count
@@ -36,7 +36,7 @@ add-opened c =
     let t = eqb (getD (s .args .marks .now) (l .loop .t) 0) 2 in
     let b = bit-byte t in
     let m = bit-small t in
-    omega (arith, s .fits .tiles)
+    omega (arith, s .pre)
 
 add-t : tie.Need-add-t Inv-loop μ-loop
 add-t c = search needs
@@ -63,7 +63,7 @@ returns : tie.Need-returns Inv-loop μ-loop
 returns c =
     let s : tie.Start Inv-loop μ-loop = search in
     let l = c .before .loop in
-    let e : l .t ≡ s .args .tiles = omega arith in
+    let e : l .t ≡ s .args .h .tiles = omega arith in
     (rw e at (l .inv .1 .1), omega arith)
 
 pub count-opened-spec : {M : Type 1} → statement M
