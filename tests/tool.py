@@ -153,7 +153,8 @@ def faulty(engine):
         same(found, (1, "", "".join(f"standard input: {line}\n" for line in due)), f"make of {given[:60]!r}")
     holds(not target.exists(), "a text with a fault makes no file")
     _, _, said = run("make", "-", target, given=b"sight\n" * 30)
-    same(said.splitlines()[19:], ["standard input: line 20: `sight` is neither `tile` nor `site`", "11 more like these"], "many faults")
+    same(said.splitlines()[19:], ["standard input: line 20: `sight` is neither `tile` nor `site`", "11 more like these"],
+         "many faults")
     # What the engine refuses has a fault in words, and what it takes has none.
     rng = random.Random(7)
     for _ in range(500):
@@ -216,7 +217,8 @@ def damaged(engine):
                                                            "due: bytes 2-3, the block's position, say 5", "there: bytes 2-3 say 6"]
     says = "there: bytes 6-7, the number of tiles T, say"
     yield "T 0", put(good, 6, small(0), 0), ["refused 6 (tiles), block 0, of the directory", "due: T from 1 to 960", f"{says} 0"]
-    yield "T 961", put(good, 6, small(961), 0), ["refused 6 (tiles), block 0, of the directory", "due: T from 1 to 960", f"{says} 961"]
+    yield "T 961", put(good, 6, small(961), 0), [
+        "refused 6 (tiles), block 0, of the directory", "due: T from 1 to 960", f"{says} 961"]
     yield "T 25", put(good, 6, small(25), 0), [
         "refused 6 (tiles), block 0, of the directory", "due: T 24, as the file has 25 blocks",
         f"{says} 25, which take 27 blocks, 2 of them of the directory"]
@@ -231,8 +233,9 @@ def damaged(engine):
     yield "entries of a tile", put(large, 512 * 6 + 4, small(4), 6), [
         "refused 7 (entries), block 6, tile 3",
         "due: bytes 4-5, the number of entries, say 3, the directory's count of this tile", "there: bytes 4-5 say 4"]
-    yield "padding", put(good, 8, b"\3\4", 0), ["refused 8 (padding), block 0, of the directory",
-                                              "due: byte 8 is 00: between the head and the payload", "there: byte 8 is 03, and 1 more"]
+    yield "padding", put(good, 8, b"\3\4", 0), [
+        "refused 8 (padding), block 0, of the directory", "due: byte 8 is 00: between the head and the payload",
+        "there: byte 8 is 03, and 1 more"]
     yield "padding of an entry", put(large, 512 + 16 + 20 * 5 + 19, b"\1", 1), [
         "refused 8 (padding), block 1, of the directory", "due: byte 135 is 00: the last two bytes of the entry of tile 29",
         "there: byte 135 is 01"]
@@ -247,9 +250,11 @@ def damaged(engine):
         "refused 8 (padding), block 6, tile 3", "due: byte 509 is 00: between the payload and the check", "there: byte 509 is 01"]
     entry = 512 + 16 + 20 * 2  # of tile 26
     yield "beyond the limits", put(large, entry + 8, struct.pack("<i", 1000001), 1), [
-        "refused 9 (box), block 1, of the directory", "due: coordinates from -1000000 to 1000000", "there: high x of tile 26 is 1000001"]
+        "refused 9 (box), block 1, of the directory", "due: coordinates from -1000000 to 1000000",
+        "there: high x of tile 26 is 1000001"]
     yield "low above high", put(large, entry + 4, struct.pack("<i", 10), 1), [
-        "refused 9 (box), block 1, of the directory", "due: no low end above its high end", "there: tile 26 has low y 10 and high y 9"]
+        "refused 9 (box), block 1, of the directory", "due: no low end above its high end",
+        "there: tile 26 has low y 10 and high y 9"]
     yield "too many sites", put(large, entry + 16, small(41), 1), [
         "refused 9 (box), block 1, of the directory", "due: at most 40 sites in a tile", "there: the count of tile 26 is 41"]
     yield "stray", put(large, 512 * 6 + 16 + 12 * 2, struct.pack("<i", -1), 6), [
@@ -441,9 +446,10 @@ def pages(engine, rng):
                 waits = [key for key in order[end:] if key[1] not in struck]
                 holds(not waits or waits[0][1] in held[::2], "the next key is in the queue of the page")
                 for m in range(1, end + 1):
-                    so_far = [tile if t in {t for _, t in order[:m]} else town.Tile(tile.box, []) for t, tile in enumerate(tiles)]
-                    same(list_after(data, i, m, k), [place[:2] for place in full_search(so_far, stop, k)], "the list after an opening")
+                    taken = {t for _, t in order[:m]}
+                    so_far = [tile if t in taken else town.Tile(tile.box, []) for t, tile in enumerate(tiles)]
                     last = full_search(so_far, stop, k)
+                    same(list_after(data, i, m, k), [place[:2] for place in last], "the list after an opening")
                     ahead = [place for place in last if m < len(order) and (place[0], place[1] // 40) < order[m]]
                     same(m == end, len(ahead) >= k or m == len(order) or not [key for key in order[m:] if key[1] not in struck],
                          "a stop ends when k sites are ahead of the next key or no tile waits")

@@ -96,7 +96,8 @@
   data.sites.forEach((held) => { for (let at = 0; at < held.length; at += 3) every.push([held[at], held[at + 1]]); });
   layer.sites.append(draw("path", {class: "sites", d: dots(every)}));
   const stops = data.stops.map(([x, y], i) => {
-    const group = draw("g", {class: "stop", role: "button", tabindex: -1, "data-stop": i, "aria-label": `Stop ${i} at (${x}, ${y})`});
+    const group = draw("g", {class: "stop", role: "button", tabindex: -1, "data-stop": i,
+      "aria-label": `Stop ${i} at (${x}, ${y})`});
     group.append(draw("circle", {class: "hit", r: 20}), draw("circle", {class: "dot", r: 9, "stroke-width": 2}),
       draw("text", {"text-anchor": "middle", y: 4, "font-size": i > 99 ? 8 : 11}, i));
     layer.stops.append(group);
@@ -164,7 +165,8 @@
   const steps = () => (state.step === null ? taken(state.stop, state.k) : state.step);
   const following = (i) => queueOf(i).slice(taken(i, state.k)).find((row) => mark(row.tile) !== 1) || null;
   function showStop() {
-    const i = state.stop, k = state.k, queue = queueOf(i), end = taken(i, k), m = steps(), list = listOf(i, m), next = following(i);
+    const i = state.stop, k = state.k, queue = queueOf(i), end = taken(i, k), m = steps();
+    const list = listOf(i, m), next = following(i);
     const first = firstStops(), full = listOf(i, end), last = full[full.length - 1], stepped = i < data.stepped;
     stops.forEach((group, j) => {
       group.setAttribute("aria-pressed", j === i);
@@ -221,7 +223,8 @@
   // The three points, from letters: which end of O, which end of E, and for b an end of B or o itself.
   function threePoints() {
     if (state.e === null || state.b === null || !data.points[state.e]) return null;
-    const letters = data.points[state.e].slice(6 * state.b, 6 * state.b + 6), boxes = [data.o, data.boxes[state.e], data.boxes[state.b]];
+    const letters = data.points[state.e].slice(6 * state.b, 6 * state.b + 6);
+    const boxes = [data.o, data.boxes[state.e], data.boxes[state.b]];
     const end = (box, axis, letter) => box[letter === "l" ? axis : axis + 2];
     const axes = [0, 1].map((axis) => {
       const [o, e, b] = letters.slice(3 * axis, 3 * axis + 3), at = end(boxes[0], axis, o);
@@ -237,8 +240,8 @@
     $("pick-b").setAttribute("aria-pressed", state.pick === "b");
     layer.stops.style.pointerEvents = state.pick ? "none" : "";
     if (e === null || b === null) {
-      $("margin").textContent = "Pick two tiles, here or on the map. The margin is the largest D(o,e) − D(o,b) over all points o of O, " +
-        "e of E and b of B; E is nearer than B from O when it is below 0.";
+      $("margin").textContent = "Pick two tiles, here or on the map. The margin is the largest D(o,e) − D(o,b) over all points " +
+        "o of O, e of E and b of B; E is nearer than B from O when it is below 0.";
       fill($("points"), []);
       fill($("corners"), []);
       return;
@@ -252,15 +255,16 @@
     if (points) {
       const margin = data.margins[e][b], at = spots.findIndex((spot) => spot[0] === points[0][0] && spot[1] === points[0][1]);
       const value = make("strong", {id: "margin-value"}, margin);
-      $("margin").append("The margin is ", value, `: tile ${e} is ${margin < 0 ? "nearer" : "not nearer"} than tile ${b} from O` +
+      const is = margin < 0 ? "nearer" : "not nearer";
+      $("margin").append("The margin is ", value, `: tile ${e} is ${is} than tile ${b} from O` +
         (margin === 0 ? "; a margin of 0 is not nearer" : "") + `. D(o,e) is ${far[at]}, D(o,b) is ${near[at]}.`);
       const [po, pe, pb] = points;
       fill($("points"), [{cells: ["o", po[0], po[1], "a corner of O"]},
         {cells: ["e", pe[0], pe[1], `the point of tile ${e} farthest from o`]},
         {cells: ["b", pb[0], pb[1], `the point of tile ${b} closest to o`]}]);
     } else {
-      $("margin").textContent = `Tile ${e} is ${nearer ? "nearer" : "not nearer"} than tile ${b} from O, by the corners below; ` +
-        "the margin of this pair is not on this page.";
+      $("margin").textContent = `Tile ${e} is ${nearer ? "nearer" : "not nearer"} than tile ${b} from O, by the corners ` +
+        "below; the margin of this pair is not on this page.";
       fill($("points"), []);
     }
     fill($("corners"), spots.map((spot, j) => ({cells: [`${names[j]} (${spot[0]}, ${spot[1]})`, far[j], near[j],
@@ -304,7 +308,8 @@
     const [, opened, struck] = data.counts[state.k - 1];
     $("k").value = state.k;
     $("k-value").textContent = state.k;
-    $("counts").textContent = `${plural(T, "tile")}: opened ${opened}, struck ${struck}, neither ${data.marks[state.k - 1].split("0").length - 1}`;
+    const neither = data.marks[state.k - 1].split("0").length - 1;
+    $("counts").textContent = `${plural(T, "tile")}: opened ${opened}, struck ${struck}, neither ${neither}`;
     tiles.forEach((path, t) => {
       path.setAttribute("class", `tile ${WORDS[mark(t)]}${count(t) ? "" : " empty"}${t === state.tile ? " picked" : ""}`);
     });
@@ -333,7 +338,8 @@
     show();
   }
 
-  document.title = $("title").textContent = `${data.name}: ${plural(T, "tile")}, ${plural(every.length, "site")}, ${plural(N, "stop")}`;
+  const title = `${data.name}: ${plural(T, "tile")}, ${plural(every.length, "site")}, ${plural(N, "stop")}`;
+  document.title = $("title").textContent = title;
   $("k").max = data.kmax;
   data.notes.forEach((note) => $("notes").append(make("p", {class: "note"}, note)));
   data.stops.forEach(([x, y], i) => $("stop").append(make("option", {value: i}, `Stop ${i} at (${x}, ${y})`)));
@@ -376,7 +382,11 @@
     $(id).addEventListener("change", () => { state[id] = $(id).value === "" ? null : +$(id).value; show(); });
   $("swap").addEventListener("click", () => { [state.e, state.b] = [state.b, state.e]; show(); });
   for (const id of ["e", "b"])
-    $("pick-" + id).addEventListener("click", () => { state.pick = state.pick === id ? null : id; state.tab = "pair"; show(); });
+    $("pick-" + id).addEventListener("click", () => {
+      state.pick = state.pick === id ? null : id;
+      state.tab = "pair";
+      show();
+    });
   TABS.forEach((name, j) => {
     $("tab-" + name).addEventListener("click", () => { state.tab = name; show(); });
     $("tab-" + name).addEventListener("keydown", (event) => {
