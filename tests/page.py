@@ -165,9 +165,12 @@ class Page:
 
     def corner_numbers(self, e, b):
         x0, y0, x1, y1 = self.o
-        due = [[str(self.engine.far(corner, self.tiles[e].box)), str(self.engine.near(corner, self.tiles[b].box))]
-               for corner in ((x0, y0), (x1, y0), (x0, y1), (x1, y1))]
-        same([row[1:3] for row in self.rows("corners")], due, f"{self.name}: E {e}, B {b}: the corners")
+        corners = dict.fromkeys([(x0, y0), (x1, y0), (x0, y1), (x1, y1)])
+        due = []
+        for corner in corners:
+            far, near = self.engine.far(corner, self.tiles[e].box), self.engine.near(corner, self.tiles[b].box)
+            due.append([f"({corner[0]}, {corner[1]})", str(far), str(near), "yes" if far < near else "no"])
+        same(self.rows("corners"), due, f"{self.name}: E {e}, B {b}: the corners")
 
     def tile_numbers(self, t):
         tile, says = self.tiles[t], self.text("tile-says")

@@ -338,7 +338,9 @@ def asked():
             same(int(parts[3]), 40 * int(parts[5]) + int(parts[7].rstrip(")")), "tile and slot of a site")
     same([line.rstrip(";") for line in found], program[1:], "ask beside the program")
     empty = WORK / "empty.town"
-    same(run("make", "-", empty, given=b"tile 0 0 1 1\n")[0], 0, "make of an empty tile")
+    same(run("make", "-", empty, given=b"tile 0 0 1 1\n"), (0, f"{empty}: 1 tile, 0 sites, 1024 bytes\n", ""), "an empty tile")
+    same(run("draw", empty, 2, "5,5", WORK / "empty.html"), (0, f"{WORK}/empty.html: 1 tile, 1 stop, k from 1 to 2\n", ""),
+         "draw of a town without sites")
     same(run("ask", empty, 2, "-5,7"), (0, "k 2, stops 1, O x -5..-5, y 7..7\ntiles 1: opened 0, struck 0, neither 1\n"
                                            "opened for stop 0: none\nstruck: none\nneither: 0 (empty)\nstop 0 at -5,7: no site\n", ""),
          "ask of a town without sites")

@@ -125,7 +125,7 @@ def make(arguments):
         more = [f"{len(lines) - SHOWN} more like these"] if len(lines) > SHOWN else []
         raise Wrong(*lines[:SHOWN], *more) from None
     _save(target, file)
-    print(f"{target}: {len(tiles)} tiles, {sum(len(tile.sites) for tile in tiles)} sites, {len(file)} bytes")
+    print(f"{target}: {town.size(tiles)}, {len(file)} bytes")
 
 
 def _good(engine, name):
@@ -145,8 +145,7 @@ def show(arguments):
 def check(arguments):
     tiles = town.read(_good(Engine(), *arguments))
     blocks = town.directory_blocks(len(tiles))
-    print(f"{arguments[0]}: good: {len(tiles)} tiles, {sum(len(tile.sites) for tile in tiles)} sites, "
-          f"{blocks + len(tiles)} blocks, {blocks} of them of the directory")
+    print(f"{arguments[0]}: good: {town.size(tiles)}, {blocks + len(tiles)} blocks, {blocks} of them of the directory")
 
 
 def ask_(arguments):
@@ -175,7 +174,7 @@ def draw(arguments):
     except page.Disagrees as disagrees:
         raise Wrong(str(disagrees)) from None
     _save(target, held.encode())
-    print(f"{target}: {len(tiles)} tiles, {len(stops)} stops, k from 1 to {most}")
+    print(f"{target}: {town.several(len(tiles), 'tile')}, {town.several(len(stops), 'stop')}, k from 1 to {most}")
 
 
 # For each command: what does it, and the least and the largest number of its arguments.

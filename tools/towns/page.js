@@ -87,7 +87,7 @@
   }
   const outline = (b) => `M${b[0]} ${-b[1]}H${b[2]}V${-b[3]}H${b[0]}Z`;
   const dots = (points) => points.map((p) => `M${p[0]} ${-p[1]}h0`).join("");
-  const tiles = data.boxes.map((box, t) => draw("path", {d: outline(box), "data-tile": t}));
+  const tiles = data.boxes.map((_, t) => draw("path", {"data-tile": t}));
   // Larger boxes first, so that a box inside another can be clicked.
   const area = (t) => (data.boxes[t][2] - data.boxes[t][0]) * (data.boxes[t][3] - data.boxes[t][1]);
   layer.tiles.append(...tiles.map((_, t) => t).sort((a, b) => area(b) - area(a) || a - b).map((t) => tiles[t]));
@@ -106,13 +106,26 @@
   $("frame").append(svg);
 
   let unit = 1; // how many centimetres a pixel is
+  // A box as it is drawn: one without width or height is a bar, to be seen and clicked.
+  const BAR = 9;
+  const flat = (t) => data.boxes[t][1] === data.boxes[t][3];
+  function drawnBox(t) {
+    const b = data.boxes[t].slice();
+    for (const axis of [0, 1]) {
+      if (b[axis] === b[axis + 2]) {
+        b[axis] -= BAR * unit;
+        b[axis + 2] += BAR * unit;
+      }
+    }
+    return b;
+  }
   function label(at, text, kind, size, shift) {
     return draw("text", {class: kind, x: at[0] + (shift ? shift[0] * unit : 0), y: -at[1] + (shift ? shift[1] * unit : 0),
       "font-size": size * unit, "stroke-width": 3 * unit, "text-anchor": shift ? "start" : "middle"}, text);
   }
   function layout() {
     const frame = $("frame"), room = Math.max(120, frame.clientWidth - 2);
-    const height = Math.max(240, Math.min(window.innerHeight * 0.7, 900));
+    const height = Math.max(200, parseFloat(getComputedStyle(frame).maxHeight) - 4 || 600);
     const width = Math.min(room, height * view.w / view.h) * state.zoom;
     svg.setAttribute("width", width);
     svg.setAttribute("height", width * view.h / view.w);
@@ -124,9 +137,10 @@
     const small = every.length * 100 > width * width * view.h / view.w; // many sites: smaller dots
     layer.sites.firstChild.style.strokeWidth = small ? "2px" : "4px";
     layer.sites.firstChild.style.strokeOpacity = small ? 0.6 : 1;
-    data.boxes.forEach((b, t) => {
-      const w = (b[2] - b[0]) / unit, h = (b[3] - b[1]) / unit;
-      if (w > 24 && h > 20) layer.numbers.append(label([b[0], b[3]], t, "number", 11, [4, 13]));
+    tiles.forEach((path, t) => {
+      const b = drawnBox(t), w = (b[2] - b[0]) / unit, h = (b[3] - b[1]) / unit;
+      path.setAttribute("d", outline(b));
+      if (w >= 2 * BAR && h >= 2 * BAR - 1) layer.numbers.append(label([b[0], b[3]], t, "number", 11, flat(t) ? [3, -5] : [4, 13]));
     });
     focusLayers();
   }
@@ -135,9 +149,10 @@
     for (const name of ["taken", "rings", "chosen", "pair", "orders"]) layer[name].replaceChildren();
     const i = state.stop, at = data.stops[i], queue = queueOf(i), m = steps(), list = listOf(i, m);
     queue.slice(0, m).forEach((row, turn) => {
-      const b = data.boxes[row.tile], w = (b[2] - b[0]) / unit, h = (b[3] - b[1]) / unit;
+      const b = drawnBox(row.tile), w = (b[2] - b[0]) / unit, h = (b[3] - b[1]) / unit;
       layer.taken.append(draw("path", {class: "taken", d: outline(b)}));
-      if (w > 40 && h > 30) layer.orders.append(label([b[0], b[1]], `turn ${turn + 1}`, "order", 11, [5, -5]));
+      const at = flat(row.tile) ? [3, 14] : [5, -5]; // below a bar, inside a box
+      if (w > 40 && (h > 30 || flat(row.tile))) layer.orders.append(label([b[0], b[1]], `turn ${turn + 1}`, "order", 11, at));
     });
     layer.chosen.append(draw("path", {class: "chosen", d: dots(list.map((place) => [place.x, place.y]))}));
     if (list.length <= 12) list.forEach((place, j) => layer.chosen.append(label([place.x, place.y], j, "letter", 11, [6, -5])));
@@ -211,11 +226,10 @@
         cells: [turn, row.tile, row.near, count(row.tile), what]});
     });
     fill($("queue"), rows);
-    const struck = data.marks[k - 1].split("1").length - 1;
-    const held = data.boxes.filter((_, t) => count(t) > 0 && mark(t) !== 1).length;
-    const more = held - rows.length;
+    const struck = data.counts[k - 1][2], empty = tiles.filter((_, t) => count(t) === 0 && mark(t) !== 1).length;
+    const more = T - struck - empty - rows.length;
     $("left-out").textContent = (more > 0 ? `${plural(more, "more tile")} ${more === 1 ? "waits" : "wait"}. ` : "") +
-      `In no queue: ${plural(struck, "struck tile")}, and tiles without sites.` +
+      `In no queue: ${plural(struck, "struck tile")} and ${plural(empty, "other")} without sites.` +
       (stepped ? "" : " The list after each turn is not on this page for this stop.");
   }
 
@@ -246,7 +260,6 @@
       fill($("corners"), []);
       return;
     }
-    const names = ["low x, low y", "high x, low y", "low x, high y", "high x, high y"];
     const spots = [[o[0], o[1]], [o[2], o[1]], [o[0], o[3]], [o[2], o[3]]];
     const far = data.corners.map((c) => c.far[e]), near = data.corners.map((c) => c.near[b]);
     const nearer = far.every((value, j) => value < near[j]);
@@ -267,8 +280,9 @@
         "below; the margin of this pair is not on this page.";
       fill($("points"), []);
     }
-    fill($("corners"), spots.map((spot, j) => ({cells: [`${names[j]} (${spot[0]}, ${spot[1]})`, far[j], near[j],
-      far[j] < near[j] ? "yes" : "no"]})));
+    const rows = spots.map((spot, j) => ({cells: [`(${spot[0]}, ${spot[1]})`, far[j], near[j], far[j] < near[j] ? "yes" : "no"]}));
+    // The corners of a narrow O are the same points.
+    fill($("corners"), rows.filter((row, j) => rows.findIndex((other) => other.cells[0] === row.cells[0]) === j));
   }
 
   // ---- a tile -----------------------------------------------------------------------------------------------------------
