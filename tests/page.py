@@ -41,7 +41,7 @@ sys.path.insert(0, str(ROOT / "tools"))
 from towns import town  # noqa: E402
 from towns.engine import Engine, Refused  # noqa: E402
 
-compared = 0
+compared = pages = 0
 
 
 def same(found, due, what):
@@ -55,6 +55,8 @@ class Page:
     """A page in the browser, and the town that it was written for."""
 
     def __init__(self, driver, engine, name, content, stops, k):
+        global pages
+        pages += 1
         self.driver, self.engine, self.name, self.stops, self.k = driver, engine, name, stops, k
         self.content, self.tiles = content, town.read(content)
         self.o = town.around(stops)
@@ -371,6 +373,26 @@ def large(driver, engine, rng):
     page.quiet()
 
 
+def unusual(driver, engine):
+    """A town without a site; and so many stops that the page has not got all turns."""
+    page = Page(driver, engine, "empty", engine.write([((0, 0, 4, 4), []), ((7, 7, 7, 7), [])]), [(3, 3)], 2)
+    page.run_numbers(2)
+    page.stop_numbers(0, 2, True)
+    page.click("[data-tile='1']")
+    page.tile_numbers(1)
+    page.quiet()
+    sparse = [((10 * t, 0, 10 * t + 9, 9), [(10 * t, 5, t)]) for t in range(120)]
+    stops = [(6 * i, 0) for i in range(200)]
+    page = Page(driver, engine, "sparse", engine.write(sparse), stops, 64)
+    page.run_numbers(64)
+    for i in (0, 199):
+        page.choose("stop", i)
+        page.stop_numbers(i, 64, False)
+        same(bool(page.driver.find_elements("css selector", "#queue button")), i == 0, "turns that the page has")
+    same("The list after each turn is not on this page for this stop." in page.text("left-out"), True, "turns that the page has not got")
+    page.quiet()
+
+
 def main():
     WORK.mkdir(parents=True, exist_ok=True)
     engine, driver = Engine(), browser()
@@ -379,12 +401,13 @@ def main():
         rng = random.Random(9)
         for number in range(6):
             drawn(driver, engine, rng, number)
+        unusual(driver, engine)
         large(driver, engine, rng)
     except Refused as refused:
         sys.exit(f"page: {refused}")
     finally:
         driver.quit()
-    print(f"page: 8 pages in {shutil.which('chromium')}, {compared} comparisons")
+    print(f"page: {pages} pages in {shutil.which('chromium')}, {compared} comparisons")
 
 
 main()

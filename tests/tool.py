@@ -117,6 +117,9 @@ def round_trips(engine, rng):
     limits = [town.Tile((-1000000, -1000000, 1000000, 1000000), [(1000000, -1000000, 2**32 - 1)] * 40)] * 960
     same(text.make(engine, text.show(limits)), (limits, engine.write(limits)), "the largest town as text and back")
     same(len(engine.write(limits)), 512000, "the largest file")
+    target = WORK / "limits.town"
+    same(run("make", "/dev/stdin", target, given=text.show(limits).encode())[0], 0, "make of a long text from a pipe")
+    same(target.read_bytes(), engine.write(limits), "a long text from a pipe is read to its end")
 
 
 def faulty(engine):
@@ -145,6 +148,8 @@ def faulty(engine):
         (b"tile 0 0\nsite 1 1 1\ntile 0 0 1 1\nsite 2 1 1\n",
          ["line 1: tile 0: `tile` takes 4 numbers, LOW_X LOW_Y HIGH_X HIGH_Y; here are 2",
           "line 4: tile 1 slot 0: the site at (2, 1) is outside its box, x 0..1, y 0..1"]),
+        (b"tile 0 0 1 1 # \xe2\x80\xa8 one line\r\nsite 5 1 1\r\n",
+         ["line 2: tile 0 slot 0: the site at (5, 1) is outside its box, x 0..1, y 0..1"]),
         (b"tile \xff 0 1 1\n", ["line 1: tile 0: LOW_X is `\ufffd`, not a whole number"]),
     ]
     target = WORK / "none.town"

@@ -63,6 +63,7 @@ the engine, asked when the page is written. The file must pass the full check.
 
 
 SHOWN = 20  # faults of a text
+MAX_TEXT = 2**24  # bytes of a text; the largest town takes some 2 million
 NUMBER = "[+-]?[0-9]{1,30}"
 STOP = f"{NUMBER},{NUMBER}"
 
@@ -78,11 +79,11 @@ class Wrong(Exception):
         super().__init__("\n".join(lines))
 
 
-def _content(name):
+def _content(name, most=MAX_FILE + 1):
+    """What a file holds; of a device or a pipe, which may have no end, at most so many bytes."""
     try:
         with open(name, "rb") as file:
-            # One byte more than a file may have is enough to see that it is too long, unless it is a plain file.
-            return file.read() if os.path.isfile(name) else file.read(MAX_FILE + 1)
+            return file.read() if os.path.isfile(name) else file.read(most)
     except OSError as error:
         raise Wrong(f"{name}: {error.strerror}") from None
 
@@ -116,7 +117,7 @@ def _question(arguments):
 
 def make(arguments):
     source, target = arguments
-    content = sys.stdin.buffer.read() if source == "-" else _content(source)
+    content = sys.stdin.buffer.read(MAX_TEXT) if source == "-" else _content(source, MAX_TEXT)
     try:
         tiles, file = text.make(Engine(), content.decode("utf-8", "replace"))
     except text.Faulty as faulty:

@@ -57,7 +57,7 @@ def _numbers(word, given):
 def parse(text):
     """The source, and the faults of lines that cannot be read at all."""
     source, faults = Source([], [], []), []
-    for line, content in enumerate(text.splitlines(), 1):
+    for line, content in enumerate(text.split("\n"), 1):
         word, *given = content.split("#")[0].split() or [""]
         if not word:
             continue
