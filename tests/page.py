@@ -41,7 +41,7 @@ sys.path.insert(0, str(ROOT / "tools"))
 from towns import town  # noqa: E402
 from towns.engine import Engine, Refused  # noqa: E402
 
-compared = 0
+compared = pages = 0
 
 
 def same(found, due, what):
@@ -55,6 +55,8 @@ class Page:
     """A page in the browser, and the town that it was written for."""
 
     def __init__(self, driver, engine, name, content, stops, k):
+        global pages
+        pages += 1
         self.driver, self.engine, self.name, self.stops, self.k = driver, engine, name, stops, k
         self.content, self.tiles = content, town.read(content)
         self.o = town.around(stops)
@@ -105,7 +107,8 @@ class Page:
         tiles = "tile" if len(self.tiles) == 1 else "tiles"
         same(self.text("counts"), f"{len(self.tiles)} {tiles}: opened {joined.opened}, struck {joined.struck}, neither {neither}",
              f"{self.name}: the counts for k {k}")
-        shown = self.script("return [...document.querySelectorAll('[data-tile]')].map((p) => [+p.dataset.tile, p.getAttribute('class')])")
+        shown = self.script("return [...document.querySelectorAll('[data-tile]')]"
+                            ".map((path) => [+path.dataset.tile, path.getAttribute('class')])")
         for t, kind in shown:
             due = ["neither", "struck", "opened"][joined.marks[t]]
             same(kind.split()[1], due, f"{self.name}: the mark of tile {t} for k {k}")
@@ -164,19 +167,24 @@ class Page:
 
     def corner_numbers(self, e, b):
         x0, y0, x1, y1 = self.o
-        due = [[str(self.engine.far(corner, self.tiles[e].box)), str(self.engine.near(corner, self.tiles[b].box))]
-               for corner in ((x0, y0), (x1, y0), (x0, y1), (x1, y1))]
-        same([row[1:3] for row in self.rows("corners")], due, f"{self.name}: E {e}, B {b}: the corners")
+        corners = dict.fromkeys([(x0, y0), (x1, y0), (x0, y1), (x1, y1)])
+        due = []
+        for corner in corners:
+            far, near = self.engine.far(corner, self.tiles[e].box), self.engine.near(corner, self.tiles[b].box)
+            due.append([f"({corner[0]}, {corner[1]})", str(far), str(near), "yes" if far < near else "no"])
+        same(self.rows("corners"), due, f"{self.name}: E {e}, B {b}: the corners")
 
     def tile_numbers(self, t):
         tile, says = self.tiles[t], self.text("tile-says")
         box = tile.box
         count = len(tile.sites)
-        same(says.startswith(f"Box x {box[0]}..{box[2]}, y {box[1]}..{box[3]}, {count} site{'' if count == 1 else 's'}. "), True, says)
+        sites = f"{count} site{'' if count == 1 else 's'}"
+        same(says.startswith(f"Box x {box[0]}..{box[2]}, y {box[1]}..{box[3]}, {sites}. "), True, says)
         nearer = sum(len(other.sites) for other in self.tiles if self.engine.margin(self.o, other.box, box) < 0)
         due = "64 sites or more" if nearer >= 64 else f"{nearer} site{'' if nearer == 1 else 's'}"
         same(f"The tiles nearer than it from O hold {due}, and k is" in says, True, f"{self.name}: tile {t}: {nearer}: {says}")
-        same(self.rows("sites"), [[str(s), str(40 * t + s), *map(str, site)] for s, site in enumerate(tile.sites)], f"tile {t}: sites")
+        due = [[str(slot), str(40 * t + slot), *map(str, site)] for slot, site in enumerate(tile.sites)]
+        same(self.rows("sites"), due, f"tile {t}: sites")
 
 
 def browser():
@@ -215,7 +223,8 @@ def sample(driver, engine):
     # Keys: the chosen stop has the focus of its row; arrows go to the next one.
     page.click("[data-stop='0']")
     ActionChains(driver).send_keys(Keys.ARROW_RIGHT).perform()
-    same(page.script("return document.activeElement.getAttribute('aria-label')"), "Stop 1 at (2600, 3100)", "an arrow key on a stop")
+    focused = page.script("return document.activeElement.getAttribute('aria-label')")
+    same(focused, "Stop 1 at (2600, 3100)", "an arrow key on a stop")
     page.stop_numbers(1, 3, False)
     page.click("#stop-on")
     page.stop_numbers(2, 3, False)
@@ -252,25 +261,27 @@ def sample(driver, engine):
 
 def reach(page):
     """Every button, slider and choice has a name, and the tab key comes to the slider, the stops and the tabs."""
-    unnamed = page.script("return [...document.querySelectorAll('button, select, input, [role=button], [role=tab]')].filter((e) => "
-                          "!(e.getAttribute('aria-label') || e.textContent.trim() || (e.labels && e.labels.length))).length")
+    unnamed = page.script("return [...document.querySelectorAll('button, select, input, [role=button], [role=tab]')]"
+                          ".filter((e) => !(e.getAttribute('aria-label') || e.textContent.trim() || (e.labels && e.labels.length))).length")
     same(unnamed, 0, "controls without a name")
     page.driver.get(page.path.as_uri())
     seen = set()
     for _ in range(30):
         ActionChains(page.driver).send_keys(Keys.TAB).perform()
         seen.add(page.script("const e = document.activeElement; return e.id || e.getAttribute('data-stop')"))
-    same({"k", "zoom-in", "pick-e", "frame", "0", "tab-stop", "stop", "stop-on", "step-back"} - seen, set(), "reached by the tab key")
+    due = {"k", "zoom-in", "pick-e", "frame", "0", "tab-stop", "stop", "stop-on", "step-back"}
+    same(due - seen, set(), "reached by the tab key")
 
 
 def phone(page):
     """At the width of a phone nothing sticks out, targets are large enough; and the page in grey."""
     driver = page.driver
-    driver.execute_cdp_cmd("Emulation.setDeviceMetricsOverride", {"width": 380, "height": 800, "deviceScaleFactor": 2, "mobile": True})
+    driver.execute_cdp_cmd("Emulation.setDeviceMetricsOverride",
+                           {"width": 380, "height": 800, "deviceScaleFactor": 2, "mobile": True})
     driver.get(page.path.as_uri())
     same(page.script("return document.documentElement.scrollWidth"), 380, "the width on a phone")
-    low = page.script("return [...document.querySelectorAll('button, select, input')].filter((e) => e.offsetParent && e.offsetHeight < 32)"
-                      ".map((e) => e.id || e.textContent)")
+    low = page.script("return [...document.querySelectorAll('button, select, input')]"
+                      ".filter((e) => e.offsetParent && e.offsetHeight < 32).map((e) => e.id || e.textContent)")
     same(low, [], "targets that are too small for a finger")
     for tab in ("stop", "pair", "tile"):
         page.click(f"#tab-{tab}")
@@ -312,7 +323,7 @@ def drawn(driver, engine, rng, number):
         page.slide(k)
         page.run_numbers(k)
         for i in {0, len(stops) - 1}:
-            page.choose("stop", i) if len(stops) > 1 and page.at("#panel-stop").is_displayed() else page.click("#tab-stop")
+            page.click("#tab-stop")
             page.choose("stop", i)
             page.stop_numbers(i, k, k < 10)
     page.click("#tab-pair")
@@ -362,6 +373,26 @@ def large(driver, engine, rng):
     page.quiet()
 
 
+def unusual(driver, engine):
+    """A town without a site; and so many stops that the page has not got all turns."""
+    page = Page(driver, engine, "empty", engine.write([((0, 0, 4, 4), []), ((7, 7, 7, 7), [])]), [(3, 3)], 2)
+    page.run_numbers(2)
+    page.stop_numbers(0, 2, True)
+    page.click("[data-tile='1']")
+    page.tile_numbers(1)
+    page.quiet()
+    sparse = [((10 * t, 0, 10 * t + 9, 9), [(10 * t, 5, t)]) for t in range(120)]
+    stops = [(6 * i, 0) for i in range(200)]
+    page = Page(driver, engine, "sparse", engine.write(sparse), stops, 64)
+    page.run_numbers(64)
+    for i in (0, 199):
+        page.choose("stop", i)
+        page.stop_numbers(i, 64, False)
+        same(bool(page.driver.find_elements("css selector", "#queue button")), i == 0, "turns that the page has")
+    same("The list after each turn is not on this page for this stop." in page.text("left-out"), True, "turns that the page has not got")
+    page.quiet()
+
+
 def main():
     WORK.mkdir(parents=True, exist_ok=True)
     engine, driver = Engine(), browser()
@@ -370,12 +401,13 @@ def main():
         rng = random.Random(9)
         for number in range(6):
             drawn(driver, engine, rng, number)
+        unusual(driver, engine)
         large(driver, engine, rng)
     except Refused as refused:
         sys.exit(f"page: {refused}")
     finally:
         driver.quit()
-    print(f"page: 8 pages in {shutil.which('chromium')}, {compared} comparisons")
+    print(f"page: {pages} pages in {shutil.which('chromium')}, {compared} comparisons")
 
 
 main()

@@ -117,6 +117,9 @@ def round_trips(engine, rng):
     limits = [town.Tile((-1000000, -1000000, 1000000, 1000000), [(1000000, -1000000, 2**32 - 1)] * 40)] * 960
     same(text.make(engine, text.show(limits)), (limits, engine.write(limits)), "the largest town as text and back")
     same(len(engine.write(limits)), 512000, "the largest file")
+    target = WORK / "limits.town"
+    same(run("make", "/dev/stdin", target, given=text.show(limits).encode())[0], 0, "make of a long text from a pipe")
+    same(target.read_bytes(), engine.write(limits), "a long text from a pipe is read to its end")
 
 
 def faulty(engine):
@@ -145,6 +148,8 @@ def faulty(engine):
         (b"tile 0 0\nsite 1 1 1\ntile 0 0 1 1\nsite 2 1 1\n",
          ["line 1: tile 0: `tile` takes 4 numbers, LOW_X LOW_Y HIGH_X HIGH_Y; here are 2",
           "line 4: tile 1 slot 0: the site at (2, 1) is outside its box, x 0..1, y 0..1"]),
+        (b"tile 0 0 1 1 # \xe2\x80\xa8 one line\r\nsite 5 1 1\r\n",
+         ["line 2: tile 0 slot 0: the site at (5, 1) is outside its box, x 0..1, y 0..1"]),
         (b"tile \xff 0 1 1\n", ["line 1: tile 0: LOW_X is `\ufffd`, not a whole number"]),
     ]
     target = WORK / "none.town"
@@ -153,7 +158,8 @@ def faulty(engine):
         same(found, (1, "", "".join(f"standard input: {line}\n" for line in due)), f"make of {given[:60]!r}")
     holds(not target.exists(), "a text with a fault makes no file")
     _, _, said = run("make", "-", target, given=b"sight\n" * 30)
-    same(said.splitlines()[19:], ["standard input: line 20: `sight` is neither `tile` nor `site`", "11 more like these"], "many faults")
+    same(said.splitlines()[19:], ["standard input: line 20: `sight` is neither `tile` nor `site`", "11 more like these"],
+         "many faults")
     # What the engine refuses has a fault in words, and what it takes has none.
     rng = random.Random(7)
     for _ in range(500):
@@ -216,7 +222,8 @@ def damaged(engine):
                                                            "due: bytes 2-3, the block's position, say 5", "there: bytes 2-3 say 6"]
     says = "there: bytes 6-7, the number of tiles T, say"
     yield "T 0", put(good, 6, small(0), 0), ["refused 6 (tiles), block 0, of the directory", "due: T from 1 to 960", f"{says} 0"]
-    yield "T 961", put(good, 6, small(961), 0), ["refused 6 (tiles), block 0, of the directory", "due: T from 1 to 960", f"{says} 961"]
+    yield "T 961", put(good, 6, small(961), 0), [
+        "refused 6 (tiles), block 0, of the directory", "due: T from 1 to 960", f"{says} 961"]
     yield "T 25", put(good, 6, small(25), 0), [
         "refused 6 (tiles), block 0, of the directory", "due: T 24, as the file has 25 blocks",
         f"{says} 25, which take 27 blocks, 2 of them of the directory"]
@@ -231,8 +238,9 @@ def damaged(engine):
     yield "entries of a tile", put(large, 512 * 6 + 4, small(4), 6), [
         "refused 7 (entries), block 6, tile 3",
         "due: bytes 4-5, the number of entries, say 3, the directory's count of this tile", "there: bytes 4-5 say 4"]
-    yield "padding", put(good, 8, b"\3\4", 0), ["refused 8 (padding), block 0, of the directory",
-                                              "due: byte 8 is 00: between the head and the payload", "there: byte 8 is 03, and 1 more"]
+    yield "padding", put(good, 8, b"\3\4", 0), [
+        "refused 8 (padding), block 0, of the directory", "due: byte 8 is 00: between the head and the payload",
+        "there: byte 8 is 03, and 1 more"]
     yield "padding of an entry", put(large, 512 + 16 + 20 * 5 + 19, b"\1", 1), [
         "refused 8 (padding), block 1, of the directory", "due: byte 135 is 00: the last two bytes of the entry of tile 29",
         "there: byte 135 is 01"]
@@ -247,9 +255,11 @@ def damaged(engine):
         "refused 8 (padding), block 6, tile 3", "due: byte 509 is 00: between the payload and the check", "there: byte 509 is 01"]
     entry = 512 + 16 + 20 * 2  # of tile 26
     yield "beyond the limits", put(large, entry + 8, struct.pack("<i", 1000001), 1), [
-        "refused 9 (box), block 1, of the directory", "due: coordinates from -1000000 to 1000000", "there: high x of tile 26 is 1000001"]
+        "refused 9 (box), block 1, of the directory", "due: coordinates from -1000000 to 1000000",
+        "there: high x of tile 26 is 1000001"]
     yield "low above high", put(large, entry + 4, struct.pack("<i", 10), 1), [
-        "refused 9 (box), block 1, of the directory", "due: no low end above its high end", "there: tile 26 has low y 10 and high y 9"]
+        "refused 9 (box), block 1, of the directory", "due: no low end above its high end",
+        "there: tile 26 has low y 10 and high y 9"]
     yield "too many sites", put(large, entry + 16, small(41), 1), [
         "refused 9 (box), block 1, of the directory", "due: at most 40 sites in a tile", "there: the count of tile 26 is 41"]
     yield "stray", put(large, 512 * 6 + 16 + 12 * 2, struct.pack("<i", -1), 6), [
@@ -333,7 +343,9 @@ def asked():
             same(int(parts[3]), 40 * int(parts[5]) + int(parts[7].rstrip(")")), "tile and slot of a site")
     same([line.rstrip(";") for line in found], program[1:], "ask beside the program")
     empty = WORK / "empty.town"
-    same(run("make", "-", empty, given=b"tile 0 0 1 1\n")[0], 0, "make of an empty tile")
+    same(run("make", "-", empty, given=b"tile 0 0 1 1\n"), (0, f"{empty}: 1 tile, 0 sites, 1024 bytes\n", ""), "an empty tile")
+    same(run("draw", empty, 2, "5,5", WORK / "empty.html"), (0, f"{WORK}/empty.html: 1 tile, 1 stop, k from 1 to 2\n", ""),
+         "draw of a town without sites")
     same(run("ask", empty, 2, "-5,7"), (0, "k 2, stops 1, O x -5..-5, y 7..7\ntiles 1: opened 0, struck 0, neither 1\n"
                                            "opened for stop 0: none\nstruck: none\nneither: 0 (empty)\nstop 0 at -5,7: no site\n", ""),
          "ask of a town without sites")
@@ -441,9 +453,10 @@ def pages(engine, rng):
                 waits = [key for key in order[end:] if key[1] not in struck]
                 holds(not waits or waits[0][1] in held[::2], "the next key is in the queue of the page")
                 for m in range(1, end + 1):
-                    so_far = [tile if t in {t for _, t in order[:m]} else town.Tile(tile.box, []) for t, tile in enumerate(tiles)]
-                    same(list_after(data, i, m, k), [place[:2] for place in full_search(so_far, stop, k)], "the list after an opening")
+                    taken = {t for _, t in order[:m]}
+                    so_far = [tile if t in taken else town.Tile(tile.box, []) for t, tile in enumerate(tiles)]
                     last = full_search(so_far, stop, k)
+                    same(list_after(data, i, m, k), [place[:2] for place in last], "the list after an opening")
                     ahead = [place for place in last if m < len(order) and (place[0], place[1] // 40) < order[m]]
                     same(m == end, len(ahead) >= k or m == len(order) or not [key for key in order[m:] if key[1] not in struck],
                          "a stop ends when k sites are ahead of the next key or no tile waits")

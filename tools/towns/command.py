@@ -63,6 +63,7 @@ the engine, asked when the page is written. The file must pass the full check.
 
 
 SHOWN = 20  # faults of a text
+MAX_TEXT = 2**24  # bytes of a text; the largest town takes some 2 million
 NUMBER = "[+-]?[0-9]{1,30}"
 STOP = f"{NUMBER},{NUMBER}"
 
@@ -78,11 +79,11 @@ class Wrong(Exception):
         super().__init__("\n".join(lines))
 
 
-def _content(name):
+def _content(name, most=MAX_FILE + 1):
+    """What a file holds; of a device or a pipe, which may have no end, at most so many bytes."""
     try:
         with open(name, "rb") as file:
-            # One byte more than a file may have is enough to see that it is too long, unless it is a plain file.
-            return file.read() if os.path.isfile(name) else file.read(MAX_FILE + 1)
+            return file.read() if os.path.isfile(name) else file.read(most)
     except OSError as error:
         raise Wrong(f"{name}: {error.strerror}") from None
 
@@ -116,7 +117,7 @@ def _question(arguments):
 
 def make(arguments):
     source, target = arguments
-    content = sys.stdin.buffer.read() if source == "-" else _content(source)
+    content = sys.stdin.buffer.read(MAX_TEXT) if source == "-" else _content(source, MAX_TEXT)
     try:
         tiles, file = text.make(Engine(), content.decode("utf-8", "replace"))
     except text.Faulty as faulty:
@@ -125,7 +126,7 @@ def make(arguments):
         more = [f"{len(lines) - SHOWN} more like these"] if len(lines) > SHOWN else []
         raise Wrong(*lines[:SHOWN], *more) from None
     _save(target, file)
-    print(f"{target}: {len(tiles)} tiles, {sum(len(tile.sites) for tile in tiles)} sites, {len(file)} bytes")
+    print(f"{target}: {town.size(tiles)}, {len(file)} bytes")
 
 
 def _good(engine, name):
@@ -145,8 +146,7 @@ def show(arguments):
 def check(arguments):
     tiles = town.read(_good(Engine(), *arguments))
     blocks = town.directory_blocks(len(tiles))
-    print(f"{arguments[0]}: good: {len(tiles)} tiles, {sum(len(tile.sites) for tile in tiles)} sites, "
-          f"{blocks + len(tiles)} blocks, {blocks} of them of the directory")
+    print(f"{arguments[0]}: good: {town.size(tiles)}, {blocks + len(tiles)} blocks, {blocks} of them of the directory")
 
 
 def ask_(arguments):
@@ -175,7 +175,7 @@ def draw(arguments):
     except page.Disagrees as disagrees:
         raise Wrong(str(disagrees)) from None
     _save(target, held.encode())
-    print(f"{target}: {len(tiles)} tiles, {len(stops)} stops, k from 1 to {most}")
+    print(f"{target}: {town.several(len(tiles), 'tile')}, {town.several(len(stops), 'stop')}, k from 1 to {most}")
 
 
 # For each command: what does it, and the least and the largest number of its arguments.

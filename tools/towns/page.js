@@ -87,7 +87,7 @@
   }
   const outline = (b) => `M${b[0]} ${-b[1]}H${b[2]}V${-b[3]}H${b[0]}Z`;
   const dots = (points) => points.map((p) => `M${p[0]} ${-p[1]}h0`).join("");
-  const tiles = data.boxes.map((box, t) => draw("path", {d: outline(box), "data-tile": t}));
+  const tiles = data.boxes.map((_, t) => draw("path", {"data-tile": t}));
   // Larger boxes first, so that a box inside another can be clicked.
   const area = (t) => (data.boxes[t][2] - data.boxes[t][0]) * (data.boxes[t][3] - data.boxes[t][1]);
   layer.tiles.append(...tiles.map((_, t) => t).sort((a, b) => area(b) - area(a) || a - b).map((t) => tiles[t]));
@@ -96,7 +96,8 @@
   data.sites.forEach((held) => { for (let at = 0; at < held.length; at += 3) every.push([held[at], held[at + 1]]); });
   layer.sites.append(draw("path", {class: "sites", d: dots(every)}));
   const stops = data.stops.map(([x, y], i) => {
-    const group = draw("g", {class: "stop", role: "button", tabindex: -1, "data-stop": i, "aria-label": `Stop ${i} at (${x}, ${y})`});
+    const group = draw("g", {class: "stop", role: "button", tabindex: -1, "data-stop": i,
+      "aria-label": `Stop ${i} at (${x}, ${y})`});
     group.append(draw("circle", {class: "hit", r: 20}), draw("circle", {class: "dot", r: 9, "stroke-width": 2}),
       draw("text", {"text-anchor": "middle", y: 4, "font-size": i > 99 ? 8 : 11}, i));
     layer.stops.append(group);
@@ -105,13 +106,26 @@
   $("frame").append(svg);
 
   let unit = 1; // how many centimetres a pixel is
+  // A box as it is drawn: one without width or height is a bar, to be seen and clicked.
+  const BAR = 9;
+  const flat = (t) => data.boxes[t][1] === data.boxes[t][3];
+  function drawnBox(t) {
+    const b = data.boxes[t].slice();
+    for (const axis of [0, 1]) {
+      if (b[axis] === b[axis + 2]) {
+        b[axis] -= BAR * unit;
+        b[axis + 2] += BAR * unit;
+      }
+    }
+    return b;
+  }
   function label(at, text, kind, size, shift) {
     return draw("text", {class: kind, x: at[0] + (shift ? shift[0] * unit : 0), y: -at[1] + (shift ? shift[1] * unit : 0),
       "font-size": size * unit, "stroke-width": 3 * unit, "text-anchor": shift ? "start" : "middle"}, text);
   }
   function layout() {
     const frame = $("frame"), room = Math.max(120, frame.clientWidth - 2);
-    const height = Math.max(240, Math.min(window.innerHeight * 0.7, 900));
+    const height = Math.max(200, parseFloat(getComputedStyle(frame).maxHeight) - 4 || 600);
     const width = Math.min(room, height * view.w / view.h) * state.zoom;
     svg.setAttribute("width", width);
     svg.setAttribute("height", width * view.h / view.w);
@@ -123,9 +137,10 @@
     const small = every.length * 100 > width * width * view.h / view.w; // many sites: smaller dots
     layer.sites.firstChild.style.strokeWidth = small ? "2px" : "4px";
     layer.sites.firstChild.style.strokeOpacity = small ? 0.6 : 1;
-    data.boxes.forEach((b, t) => {
-      const w = (b[2] - b[0]) / unit, h = (b[3] - b[1]) / unit;
-      if (w > 24 && h > 20) layer.numbers.append(label([b[0], b[3]], t, "number", 11, [4, 13]));
+    tiles.forEach((path, t) => {
+      const b = drawnBox(t), w = (b[2] - b[0]) / unit, h = (b[3] - b[1]) / unit;
+      path.setAttribute("d", outline(b));
+      if (w >= 2 * BAR && h >= 2 * BAR - 1) layer.numbers.append(label([b[0], b[3]], t, "number", 11, flat(t) ? [3, -5] : [4, 13]));
     });
     focusLayers();
   }
@@ -134,9 +149,10 @@
     for (const name of ["taken", "rings", "chosen", "pair", "orders"]) layer[name].replaceChildren();
     const i = state.stop, at = data.stops[i], queue = queueOf(i), m = steps(), list = listOf(i, m);
     queue.slice(0, m).forEach((row, turn) => {
-      const b = data.boxes[row.tile], w = (b[2] - b[0]) / unit, h = (b[3] - b[1]) / unit;
+      const b = drawnBox(row.tile), w = (b[2] - b[0]) / unit, h = (b[3] - b[1]) / unit;
       layer.taken.append(draw("path", {class: "taken", d: outline(b)}));
-      if (w > 40 && h > 30) layer.orders.append(label([b[0], b[1]], `turn ${turn + 1}`, "order", 11, [5, -5]));
+      const at = flat(row.tile) ? [3, 14] : [5, -5]; // below a bar, inside a box
+      if (w > 40 && (h > 30 || flat(row.tile))) layer.orders.append(label([b[0], b[1]], `turn ${turn + 1}`, "order", 11, at));
     });
     layer.chosen.append(draw("path", {class: "chosen", d: dots(list.map((place) => [place.x, place.y]))}));
     if (list.length <= 12) list.forEach((place, j) => layer.chosen.append(label([place.x, place.y], j, "letter", 11, [6, -5])));
@@ -164,7 +180,8 @@
   const steps = () => (state.step === null ? taken(state.stop, state.k) : state.step);
   const following = (i) => queueOf(i).slice(taken(i, state.k)).find((row) => mark(row.tile) !== 1) || null;
   function showStop() {
-    const i = state.stop, k = state.k, queue = queueOf(i), end = taken(i, k), m = steps(), list = listOf(i, m), next = following(i);
+    const i = state.stop, k = state.k, queue = queueOf(i), end = taken(i, k), m = steps();
+    const list = listOf(i, m), next = following(i);
     const first = firstStops(), full = listOf(i, end), last = full[full.length - 1], stepped = i < data.stepped;
     stops.forEach((group, j) => {
       group.setAttribute("aria-pressed", j === i);
@@ -209,11 +226,10 @@
         cells: [turn, row.tile, row.near, count(row.tile), what]});
     });
     fill($("queue"), rows);
-    const struck = data.marks[k - 1].split("1").length - 1;
-    const held = data.boxes.filter((_, t) => count(t) > 0 && mark(t) !== 1).length;
-    const more = held - rows.length;
+    const struck = data.counts[k - 1][2], empty = tiles.filter((_, t) => count(t) === 0 && mark(t) !== 1).length;
+    const more = T - struck - empty - rows.length;
     $("left-out").textContent = (more > 0 ? `${plural(more, "more tile")} ${more === 1 ? "waits" : "wait"}. ` : "") +
-      `In no queue: ${plural(struck, "struck tile")}, and tiles without sites.` +
+      `In no queue: ${plural(struck, "struck tile")} and ${plural(empty, "other")} without sites.` +
       (stepped ? "" : " The list after each turn is not on this page for this stop.");
   }
 
@@ -221,7 +237,8 @@
   // The three points, from letters: which end of O, which end of E, and for b an end of B or o itself.
   function threePoints() {
     if (state.e === null || state.b === null || !data.points[state.e]) return null;
-    const letters = data.points[state.e].slice(6 * state.b, 6 * state.b + 6), boxes = [data.o, data.boxes[state.e], data.boxes[state.b]];
+    const letters = data.points[state.e].slice(6 * state.b, 6 * state.b + 6);
+    const boxes = [data.o, data.boxes[state.e], data.boxes[state.b]];
     const end = (box, axis, letter) => box[letter === "l" ? axis : axis + 2];
     const axes = [0, 1].map((axis) => {
       const [o, e, b] = letters.slice(3 * axis, 3 * axis + 3), at = end(boxes[0], axis, o);
@@ -237,13 +254,12 @@
     $("pick-b").setAttribute("aria-pressed", state.pick === "b");
     layer.stops.style.pointerEvents = state.pick ? "none" : "";
     if (e === null || b === null) {
-      $("margin").textContent = "Pick two tiles, here or on the map. The margin is the largest D(o,e) − D(o,b) over all points o of O, " +
-        "e of E and b of B; E is nearer than B from O when it is below 0.";
+      $("margin").textContent = "Pick two tiles, here or on the map. The margin is the largest D(o,e) − D(o,b) over all points " +
+        "o of O, e of E and b of B; E is nearer than B from O when it is below 0.";
       fill($("points"), []);
       fill($("corners"), []);
       return;
     }
-    const names = ["low x, low y", "high x, low y", "low x, high y", "high x, high y"];
     const spots = [[o[0], o[1]], [o[2], o[1]], [o[0], o[3]], [o[2], o[3]]];
     const far = data.corners.map((c) => c.far[e]), near = data.corners.map((c) => c.near[b]);
     const nearer = far.every((value, j) => value < near[j]);
@@ -252,19 +268,21 @@
     if (points) {
       const margin = data.margins[e][b], at = spots.findIndex((spot) => spot[0] === points[0][0] && spot[1] === points[0][1]);
       const value = make("strong", {id: "margin-value"}, margin);
-      $("margin").append("The margin is ", value, `: tile ${e} is ${margin < 0 ? "nearer" : "not nearer"} than tile ${b} from O` +
+      const is = margin < 0 ? "nearer" : "not nearer";
+      $("margin").append("The margin is ", value, `: tile ${e} is ${is} than tile ${b} from O` +
         (margin === 0 ? "; a margin of 0 is not nearer" : "") + `. D(o,e) is ${far[at]}, D(o,b) is ${near[at]}.`);
       const [po, pe, pb] = points;
       fill($("points"), [{cells: ["o", po[0], po[1], "a corner of O"]},
         {cells: ["e", pe[0], pe[1], `the point of tile ${e} farthest from o`]},
         {cells: ["b", pb[0], pb[1], `the point of tile ${b} closest to o`]}]);
     } else {
-      $("margin").textContent = `Tile ${e} is ${nearer ? "nearer" : "not nearer"} than tile ${b} from O, by the corners below; ` +
-        "the margin of this pair is not on this page.";
+      $("margin").textContent = `Tile ${e} is ${nearer ? "nearer" : "not nearer"} than tile ${b} from O, by the corners ` +
+        "below; the margin of this pair is not on this page.";
       fill($("points"), []);
     }
-    fill($("corners"), spots.map((spot, j) => ({cells: [`${names[j]} (${spot[0]}, ${spot[1]})`, far[j], near[j],
-      far[j] < near[j] ? "yes" : "no"]})));
+    const rows = spots.map((spot, j) => ({cells: [`(${spot[0]}, ${spot[1]})`, far[j], near[j], far[j] < near[j] ? "yes" : "no"]}));
+    // The corners of a narrow O are the same points.
+    fill($("corners"), rows.filter((row, j) => rows.findIndex((other) => other.cells[0] === row.cells[0]) === j));
   }
 
   // ---- a tile -----------------------------------------------------------------------------------------------------------
@@ -304,7 +322,8 @@
     const [, opened, struck] = data.counts[state.k - 1];
     $("k").value = state.k;
     $("k-value").textContent = state.k;
-    $("counts").textContent = `${plural(T, "tile")}: opened ${opened}, struck ${struck}, neither ${data.marks[state.k - 1].split("0").length - 1}`;
+    const neither = data.marks[state.k - 1].split("0").length - 1;
+    $("counts").textContent = `${plural(T, "tile")}: opened ${opened}, struck ${struck}, neither ${neither}`;
     tiles.forEach((path, t) => {
       path.setAttribute("class", `tile ${WORDS[mark(t)]}${count(t) ? "" : " empty"}${t === state.tile ? " picked" : ""}`);
     });
@@ -333,7 +352,8 @@
     show();
   }
 
-  document.title = $("title").textContent = `${data.name}: ${plural(T, "tile")}, ${plural(every.length, "site")}, ${plural(N, "stop")}`;
+  const title = `${data.name}: ${plural(T, "tile")}, ${plural(every.length, "site")}, ${plural(N, "stop")}`;
+  document.title = $("title").textContent = title;
   $("k").max = data.kmax;
   data.notes.forEach((note) => $("notes").append(make("p", {class: "note"}, note)));
   data.stops.forEach(([x, y], i) => $("stop").append(make("option", {value: i}, `Stop ${i} at (${x}, ${y})`)));
@@ -376,7 +396,11 @@
     $(id).addEventListener("change", () => { state[id] = $(id).value === "" ? null : +$(id).value; show(); });
   $("swap").addEventListener("click", () => { [state.e, state.b] = [state.b, state.e]; show(); });
   for (const id of ["e", "b"])
-    $("pick-" + id).addEventListener("click", () => { state.pick = state.pick === id ? null : id; state.tab = "pair"; show(); });
+    $("pick-" + id).addEventListener("click", () => {
+      state.pick = state.pick === id ? null : id;
+      state.tab = "pair";
+      show();
+    });
   TABS.forEach((name, j) => {
     $("tab-" + name).addEventListener("click", () => { state.tab = name; show(); });
     $("tab-" + name).addEventListener("keydown", (event) => {

@@ -6,7 +6,8 @@ What the page holds, and the calls that it comes from:
 - for each stop and k how many tiles it takes: the tiles opened by nearby_join of this stop alone. They are the first of its
   queue: no list and no opening depends on other stops or on striking (theorem pruning-opens-alike of the crate `search`);
 - for each stop the list after each opening: nearby_join of a town that has only the tiles opened so far, all others emptied;
-- for pairs of tiles the margin by nearby_margin; near and far from the corners of O; the sites nearer than a tile by nearby_prune.
+- for pairs of tiles the margin, and of tiles near and far from the corners of O, by nearby_margin; the sites of the tiles nearer
+  than a tile by nearby_prune.
 
 Where two calls must agree, they are compared, and a page is not written if they do not.
 """
@@ -103,7 +104,8 @@ class Run:
             for m in range(1, last):
                 opened = set(order[:m])
                 town = [(tile.box, tile.sites if t in opened else []) for t, tile in enumerate(self.tiles)]
-                lists[m] = [place[:2] for place in self.engine.join(self.engine.write(town), [self.stops[i]], self.kmax).lists[0]]
+                after = self.engine.join(self.engine.write(town), [self.stops[i]], self.kmax)
+                lists[m] = [place[:2] for place in after.lists[0]]
         ever = sorted({place for held in lists.values() for place in held})
         step = {t: m for m, t in enumerate(order, 1)}
         for m, held in lists.items():
@@ -115,7 +117,8 @@ class Run:
         return ever
 
     def nearer(self):
-        """For each tile the sites of the tiles nearer than it from O, 64 for all from 64 on: the last k for which it is struck."""
+        """For each tile how many sites the tiles nearer than it from O hold, 64 standing for more: the last k for which it is
+        struck."""
         most = [0] * len(self.tiles)
         for k in range(1, MAX_K + 1):
             for t, mark in enumerate(self.engine.strike(self.file, self.o, k)):

@@ -7,7 +7,7 @@ import re
 from typing import NamedTuple, Optional
 
 from .engine import LIMIT, MAX_SITES, MAX_TILES, Refused
-from .town import Tile, number
+from .town import Tile, number, size
 
 FORMS = {"tile": ("LOW_X", "LOW_Y", "HIGH_X", "HIGH_Y"), "site": ("X", "Y", "CUE")}
 MAX_CUE = 2**32 - 1
@@ -57,7 +57,7 @@ def _numbers(word, given):
 def parse(text):
     """The source, and the faults of lines that cannot be read at all."""
     source, faults = Source([], [], []), []
-    for line, content in enumerate(text.splitlines(), 1):
+    for line, content in enumerate(text.split("\n"), 1):
         word, *given = content.split("#")[0].split() or [""]
         if not word:
             continue
@@ -154,7 +154,7 @@ def make(engine, text):
 
 def show(tiles):
     """The text of a town, with the numbers of tiles and sites behind #."""
-    lines = [f"# {len(tiles)} tiles, {sum(len(tile.sites) for tile in tiles)} sites"]
+    lines = [f"# {size(tiles)}"]
     for t, tile in enumerate(tiles):
         lines.append("tile {} {} {} {}  # tile {}".format(*tile.box, t) + ("" if tile.sites else ", empty"))
         for slot, site in enumerate(tile.sites):

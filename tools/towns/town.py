@@ -58,6 +58,15 @@ def number(tile, slot):
     return tile * MAX_SITES + slot
 
 
+def several(count, word):
+    return f"{count} {word}" if count == 1 else f"{count} {word}s"
+
+
+def size(tiles):
+    """How large a town is, in words."""
+    return f"{several(len(tiles), 'tile')}, {several(sum(len(tile.sites) for tile in tiles), 'site')}"
+
+
 def around(stops):
     """O: the smallest box around the stops."""
     xs, ys = [x for x, _ in stops], [y for _, y in stops]

@@ -4,7 +4,7 @@ The engine says the number and the block; the bytes say the rest.
 """
 from .engine import BLOCK_SIZE, LIMIT, MAX_FILE, MAX_K, MAX_SITES, MAX_STOPS, MAX_TILES, NAMES
 from .text import outside
-from .town import ENTRIES, ENTRY_SIZE, PAYLOAD, SITE_SIZE, block, directory_blocks, entry, site, two_bytes
+from .town import ENTRIES, ENTRY_SIZE, PAYLOAD, SITE_SIZE, block, directory_blocks, entry, several, site, two_bytes
 
 PAYLOAD_END = 496
 CHECK = 510
@@ -66,7 +66,7 @@ class Blocks:
 def _length(content):
     there = f"the file has {len(content)} bytes"
     if len(content) % BLOCK_SIZE:
-        there += f", {len(content) // BLOCK_SIZE} blocks and {len(content) % BLOCK_SIZE} bytes"
+        there += f", {several(len(content) // BLOCK_SIZE, 'block')} and {several(len(content) % BLOCK_SIZE, 'byte')}"
     return f"a multiple of {BLOCK_SIZE} bytes, from {BLOCK_SIZE} to {MAX_FILE}", there
 
 
