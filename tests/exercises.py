@@ -9,15 +9,20 @@ files is looked at too.
 
 use: exercises.py [DOCUMENT]
 """
-import ctypes
 import re
 import sys
 from pathlib import Path
 
 ROOT = Path(__file__).resolve().parent.parent
+sys.dont_write_bytecode = True
+sys.path.insert(0, str(ROOT / "tools"))
+
+from towns.engine import Engine, NoLibrary, Refused, refusal  # noqa: E402
+from towns.text import parse  # noqa: E402
+
+LIBRARY = ROOT / "target/lib/libnearby.so"
 SLOTS = 40
 BLOCK = 512
-BAD_BOX = 9_000_000_000_000_000_000
 
 
 class Wrong(Exception):
@@ -27,99 +32,32 @@ class Wrong(Exception):
 # ---- the engine
 
 
-class Joined(ctypes.Structure):
-    """nearby_joined."""
-    _fields_ = [(name, ctypes.c_uint32) for name in ("number", "block", "used", "tiles", "opened", "struck")]
+class Asked(Engine):
+    """The engine; a town or a box that it does not take is Wrong."""
 
-
-class Validated(ctypes.Structure):
-    _fields_ = [(name, ctypes.c_uint32) for name in ("number", "block", "tiles")]
-
-
-class Written(ctypes.Structure):
-    _fields_ = [("number", ctypes.c_uint32), ("block", ctypes.c_uint32), ("length", ctypes.c_size_t)]
-
-
-def slices(kind, values):
-    """A slice for a call: a pointer, which is not NULL even where there is no element, and the number of elements."""
-    room = kind * max(1, len(values))
-    whole = isinstance(values, bytes) and len(values) > 0
-    return room.from_buffer_copy(values) if whole else room(*values), ctypes.c_size_t(len(values))
-
-
-class Engine:
-    """The calls of include/nearby.h. A box is (low x, low y, high x, high y); a town is a list of (box, sites)."""
-
-    def __init__(self, path):
+    def write(self, tiles):
         try:
-            self.library = ctypes.CDLL(str(path))
-        except OSError:
-            raise Wrong(f"{path} cannot be loaded; `make lib` makes it") from None
-        self.library.nearby_join.restype = Joined
-        self.library.nearby_validate.restype = Validated
-        self.library.nearby_write.restype = Written
-        self.library.nearby_margin.restype = ctypes.c_int64
-        self.library.nearby_block_check.restype = ctypes.c_uint32
-
-    def write(self, town):
-        boxes = [end for box, _ in town for end in box]
-        sites = [site for _, held in town for site in held]
-        columns = [[site[axis] for site in sites] for axis in range(3)]
-        out, room = slices(ctypes.c_uint8, bytes(BLOCK * 1000))
-        written = self.library.nearby_write(
-            *slices(ctypes.c_int32, boxes), *slices(ctypes.c_uint32, [len(held) for _, held in town]),
-            *slices(ctypes.c_int32, columns[0]), *slices(ctypes.c_int32, columns[1]),
-            *slices(ctypes.c_uint32, columns[2]), out, room)
-        if written.number:
-            raise Wrong(f"a town is refused by the writer with {written.number}")
-        return bytes(out[:written.length])
-
-    def join(self, file, k, stops):
-        """The report, the marks, and a list of places (D, site, cue) for each stop."""
-        places = [0] * (k * len(stops))
-        dist, site, cue = (slices(kind, places) for kind in (ctypes.c_uint64, ctypes.c_uint32, ctypes.c_uint32))
-        marks = slices(ctypes.c_uint8, [0] * 960)
-        report = self.library.nearby_join(
-            *slices(ctypes.c_uint8, file), *slices(ctypes.c_int32, [x for x, _ in stops]),
-            *slices(ctypes.c_int32, [y for _, y in stops]), ctypes.c_uint32(k), *dist, *site, *cue, *marks)
-        lists = [[(dist[0][i * k + j], site[0][i * k + j], cue[0][i * k + j]) for j in range(report.used)]
-                 for i in range(len(stops))]
-        return report, list(marks[0][:report.tiles]), lists
-
-    def validate(self, file):
-        return self.library.nearby_validate(*slices(ctypes.c_uint8, file))
-
-    def block_check(self, block):
-        return self.library.nearby_block_check(*slices(ctypes.c_uint8, block))
+            return super().write(tiles)
+        except Refused as refused:
+            raise Wrong(f"a town is refused by the writer with {refused.number}") from None
 
     def margin(self, o, e, b):
-        ends = [ctypes.c_int32(end) for box in (o, e, b) for end in (box[0], box[2], box[1], box[3])]
-        margin = self.library.nearby_margin(*ends)
-        if margin == BAD_BOX:
-            raise Wrong(f"one of {o}, {e}, {b} is no box")
-        return margin
+        try:
+            return super().margin(o, e, b)
+        except ValueError:
+            raise Wrong(f"one of {o}, {e}, {b} is no box") from None
 
-    def near(self, stop, box):
-        """The margin of p, p and a box is 0 - near, that of p, a box and p is far - 0."""
-        point = (*stop, *stop)
-        return -self.margin(point, point, box)
-
-    def far(self, stop, box):
-        point = (*stop, *stop)
-        return self.margin(point, box, point)
-
-    def opened_in_order(self, file, k, stops):
+    def opened_in_order(self, file, stops, k):
         """The tiles that a run opens, in their order: every tile is damaged, and the run is refused at the first that
         it opens; that one is mended, and so on, until the run answers."""
-        report, _, _ = self.join(file, k, stops)
-        first = len(file) // BLOCK - report.tiles
+        first = len(file) // BLOCK - len(self.join(file, stops, k).marks)
         damaged = bytearray(file)
         for at in range(first * BLOCK, len(file), BLOCK):
             damaged[at] ^= 1
         order = []
-        while (refused := self.join(bytes(damaged), k, stops)[0]).number:
-            damaged[refused.block * BLOCK] ^= 1
-            order.append(refused.block - first)
+        while (refused := refusal(self.join, damaged, stops, k)) != (0, 0):
+            damaged[refused[1] * BLOCK] ^= 1
+            order.append(refused[1] - first)
         return order
 
 
@@ -193,17 +131,12 @@ class ZeroIsNearer(Model):
 
 
 def town_of(lines):
-    town = []
-    for line in lines:
-        word, *numbers = line.split("#")[0].split()
-        numbers = tuple(int(number) for number in numbers)
-        if word == "tile" and len(numbers) == 4:
-            town.append((numbers, []))
-        elif word == "site" and len(numbers) == 3 and town:
-            town[-1][1].append(numbers)
-        else:
+    source, faults = parse("\n".join(lines))
+    read = {*source.tile_lines, *sum(source.site_lines, [])} - {fault.line for fault in faults}
+    for number, line in enumerate(lines, 1):
+        if number not in read:
             raise Wrong(f"neither a tile nor a site: {line}")
-    return town
+    return source.tiles
 
 
 class Document:
@@ -301,7 +234,8 @@ def margins(engine, document):
 def one_stop(engine, document):
     heading, town, stop, k = "Answer 2", document.town("harbour"), (0, 0), 2
     file = engine.write(town)
-    report, marks, lists = engine.join(file, k, [stop])
+    joined = engine.join(file, [stop], k)
+    marks = joined.marks
     tiles, steps = document.tables(heading)
     point = (*stop, *stop)
 
@@ -317,7 +251,7 @@ def one_stop(engine, document):
     queue = sorted((engine.near(stop, box), tile) for tile, (box, sites) in enumerate(town)
                    if sites and marks[tile] != 1)
     document.says(heading, f"The tiles {', '.join(str(tile) for tile in sorted(t for _, t in queue))} wait:")
-    opened = engine.opened_in_order(file, k, [stop])
+    opened = engine.opened_in_order(file, [stop], k)
     same("the order of opening in exercise 2", [tile for _, tile in queue][:len(opened)], opened)
     found, rows = [], []
     for at, (near, tile) in enumerate(queue[:len(opened) + 1]):
@@ -326,14 +260,14 @@ def one_stop(engine, document):
         if at < len(opened):
             then = f"tile {tile} is opened"
             seen = [(box, sites if number in opened[:at + 1] else []) for number, (box, sites) in enumerate(town)]
-            found = engine.join(engine.write(seen), k, [stop])[2][0]
+            found = engine.join(engine.write(seen), [stop], k).lists[0]
         rows.append([f"{near}, {tile}", str(count), then, listed(found)])
     same("the steps of exercise 2", steps, rows)
-    same("the list of exercise 2", found, lists[0])
+    same("the list of exercise 2", found, joined.lists[0])
     document.says(heading, f"Marks: {', '.join(map(str, marks))}.")
     (empty,) = [tile for tile, (_, sites) in enumerate(town) if not sites and marks[tile] == 1]
     document.says(heading, f"Tile {empty} is empty, and struck all the same")
-    same("the counts of exercise 2", [marks.count(2), marks.count(1)], [report.opened, report.struck])
+    same("the counts of exercise 2", [marks.count(2), marks.count(1)], [joined.opened, joined.struck])
 
 
 def changes(engine, document):
@@ -343,9 +277,9 @@ def changes(engine, document):
 
     def ask(tile, sites):
         town = [(box, sites if number == tile else held) for number, (box, held) in enumerate(harbour)]
-        report, marks, lists = engine.join(engine.write(town), k, [stop])
-        struck.append({number for number, mark in enumerate(marks) if mark == 1})
-        return [listed(lists[0]), str(report.opened), str(report.struck)]
+        joined = engine.join(engine.write(town), [stop], k)
+        struck.append({number for number, mark in enumerate(joined.marks) if mark == 1})
+        return [listed(joined.lists[0]), str(joined.opened), str(joined.struck)]
 
     # What the exercise says in words: the tile, and its sites after the change.
     asked = [(4, "-4 9 40"), (6, "-2 -6 60; -6 -8 61"), (1, "-4 3 20; -5 3 21"), (2, "3 -4 30"), (2, "0 -3 30")]
@@ -371,10 +305,10 @@ def changes(engine, document):
     file = engine.write(harbour)
     same("the damaged byte of exercise 3", 0, file[2600])
     damaged = file[:2600] + b"\1" + file[2601:]
-    same("the answer for a damaged tile, exercise 3", listed(engine.join(damaged, k, [stop])[2][0]), usual[0])
-    checked = engine.validate(damaged)
-    same("the full check of exercise 3", 3, checked.number)
-    document.says(heading, f"and refuses the file at block {checked.block}:")
+    same("the answer for a damaged tile, exercise 3", listed(engine.join(damaged, [stop], k).lists[0]), usual[0])
+    number, block = refusal(engine.validate, damaged)
+    same("the full check of exercise 3", 3, number)
+    document.says(heading, f"and refuses the file at block {block}:")
 
 
 def mistakes(engine, document):
@@ -384,8 +318,8 @@ def mistakes(engine, document):
              ("Answer 4.4", 0, "zero", ZeroIsNearer, 1, both), ("Answer 4.4", 1, "exchanged", ZeroIsNearer, 1, both)]
     for heading, number, name, mistaken, k, stops in asked:
         town = document.town(name)
-        report, _, lists = engine.join(engine.write(town), k, stops)
-        answer = (report.tiles, report.opened, report.struck, lists)
+        joined = engine.join(engine.write(town), stops, k)
+        answer = (len(joined.marks), joined.opened, joined.struck, joined.lists)
         same(f"the model without a mistake on {name}", Model(engine).join(town, k, stops), answer)
         wrong = mistaken(engine).join(town, k, stops)
         rows = [[who, *map(str, held[:3]), *map(listed, held[3])]
@@ -450,12 +384,11 @@ def check(engine, document):
         same(f"byte {byte} of exercise 5", 0, damaged[BLOCK + int(byte)])
         damaged[BLOCK + int(byte)] = 255
         same(f"the block check with byte {byte} turned", 0, engine.block_check(bytes(damaged[BLOCK:2 * BLOCK])))
-        same(f"the full check with byte {byte} turned", number, str(engine.validate(bytes(damaged)).number))
+        same(f"the full check with byte {byte} turned", number, str(refusal(engine.validate, damaged)[0]))
     document.says(heading, f"x is {block[16] + 255 * 256}, outside the box")
     copied = file[:2 * BLOCK] + file[BLOCK:2 * BLOCK] + file[3 * BLOCK:]
-    checked = engine.validate(copied)
     same("the copied block of exercise 5", (5, 2, 0),
-         (checked.number, checked.block, engine.block_check(copied[2 * BLOCK:3 * BLOCK])))
+         (*refusal(engine.validate, copied), engine.block_check(copied[2 * BLOCK:3 * BLOCK])))
 
 
 def errors_stand(lines):
@@ -500,13 +433,16 @@ def main(words):
         return 0 if words[:1] in (["-h"], ["--help"]) else 2
     try:
         document = Document(Path(words[0]) if words else ROOT / "docs/EXERCISES.md")
-        engine = Engine(ROOT / "target/lib/libnearby.so")
+        engine = Asked(LIBRARY)
         parts = (margins, one_stop, changes, mistakes, check)
         for part in parts:
             part(engine, document)
         wrong_program(document)
         contributing(ROOT / "CONTRIBUTING.md")
-    except (Wrong, OSError) as wrong:
+    except NoLibrary:
+        print(f"exercises: {LIBRARY} cannot be loaded; `make lib` makes it", file=sys.stderr)
+        return 1
+    except (Wrong, Refused, OSError) as wrong:
         print(f"exercises: {wrong}", file=sys.stderr)
         return 1
     except ValueError as wrong:

@@ -9,15 +9,21 @@ is 1 if there is one.
 
 use: format.py
 """
-import ctypes
 import itertools
 import re
 import struct
 import subprocess
 import sys
+from ctypes import c_int32, c_uint8, c_uint32, c_uint64
 from pathlib import Path
 
 ROOT = Path(__file__).resolve().parent.parent
+sys.dont_write_bytecode = True
+sys.path.insert(0, str(ROOT / "tools"))
+
+import towns.text  # noqa: E402
+from towns.engine import MAX_FILE, Engine, lent, refusal  # noqa: E402
+
 BLOCK, BAD_BOX = 512, 9_000_000_000_000_000_000
 failures, done = [], {"facts": 0, "files": 0}
 
@@ -30,64 +36,32 @@ def expect(what, got, due):
 
 # The engine
 
-def report(*names):
-    kinds = {"length": ctypes.c_size_t}
-    fields = [(name, kinds.get(name, ctypes.c_uint32)) for name in ("number", "block", *names)]
-    return type("Report", (ctypes.Structure,), {"_fields_": fields})
+class Calls(Engine):
+    """The engine, and its calls with slices of any length; what `joined` and `prune` lend is in `lent` afterwards."""
 
+    def checked(self, file):
+        return refusal(self.validate, file)
 
-class Engine:
-    """The calls of include/nearby.h on bytes and lists; what is lent to a call is in `lent` afterwards."""
+    def written(self, boxes, counts, x, y, cues, room=MAX_FILE):
+        kinds = c_int32, c_uint32, c_int32, c_int32, c_uint32
+        slices = [lent(kind, column) for kind, column in zip(kinds, (boxes, counts, x, y, cues))]
+        out = (c_uint8 * max(1, room))()
+        answer = self.calls.nearby_write(*itertools.chain(*slices), out, room)
+        return answer.number, answer.block, bytes(out)[:answer.length]
 
-    def __init__(self, path):
-        self.calls = ctypes.CDLL(str(path))
-        for name, gives in [("join", report("used", "tiles", "opened", "pruned")), ("prune", report("tiles", "pruned")),
-                            ("validate", report("tiles")), ("write", report("length")),
-                            ("block_check", ctypes.c_uint32), ("margin", ctypes.c_int64)]:
-            getattr(self.calls, "nearby_" + name).restype = gives
-
-    @staticmethod
-    def slice(kind, values):
-        values = list(values)
-        return (kind * max(1, len(values)))(*values), ctypes.c_size_t(len(values))
-
-    def bytes(self, data):
-        return ctypes.c_char_p(bytes(data) or b"\0"), ctypes.c_size_t(len(data))
-
-    def block_check(self, block):
-        return self.calls.nearby_block_check(*self.bytes(block))
-
-    def validate(self, file):
-        answer = self.calls.nearby_validate(*self.bytes(file))
-        return answer.number, answer.block, answer.tiles
-
-    def write(self, boxes, counts, x, y, cues, room=512000):
-        out = ctypes.create_string_buffer(max(1, room))
-        signed, unsigned = ctypes.c_int32, ctypes.c_uint32
-        answer = self.calls.nearby_write(
-            *self.slice(signed, boxes), *self.slice(unsigned, counts), *self.slice(signed, x), *self.slice(signed, y),
-            *self.slice(unsigned, cues), out, ctypes.c_size_t(room))
-        return answer.number, answer.block, out.raw[:answer.length]
-
-    def join(self, file, x, y, k, rooms):
-        kinds = ctypes.c_uint64, ctypes.c_uint32, ctypes.c_uint32, ctypes.c_uint8
-        self.lent = [self.slice(kind, [77] * room) for kind, room in zip(kinds, rooms)]
+    def joined(self, file, x, y, k, rooms):
+        self.lent = [lent(kind, [77] * room) for kind, room in zip((c_uint64, c_uint32, c_uint32, c_uint8), rooms)]
         answer = self.calls.nearby_join(
-            *self.bytes(file), *self.slice(ctypes.c_int32, x), *self.slice(ctypes.c_int32, y), ctypes.c_uint32(k),
-            *itertools.chain(*self.lent))
+            *self.file(file), *lent(c_int32, x), *lent(c_int32, y), k, *itertools.chain(*self.lent))
         return answer.number, answer.block
 
     def prune(self, file, box, k, room):
-        self.lent = [self.slice(ctypes.c_uint8, [77] * room)]
-        answer = self.calls.nearby_prune(
-            *self.bytes(file), *map(ctypes.c_int32, box), ctypes.c_uint32(k), *self.lent[0])
+        self.lent = [lent(c_uint8, [77] * room)]
+        answer = self.calls.nearby_prune(*self.file(file), *box, k, *self.lent[0])
         return answer.number, answer.block
 
-    def margin(self, *numbers):
-        return self.calls.nearby_margin(*map(ctypes.c_int32, numbers))
-
     def slices_hold(self, value):
-        return all(set(part[:length.value]) <= {value} for part, length in self.lent)
+        return all(set(part[:length]) <= {value} for part, length in self.lent)
 
 
 # Files
@@ -119,19 +93,12 @@ def directory_blocks(tiles):
     return -(-tiles // 24)
 
 
-def lists_of(text):
-    """The writer's lists of a town's text."""
-    boxes, counts, x, y, cues = [], [], [], [], []
-    for line in text.splitlines():
-        word, *numbers = line.partition("#")[0].split() or [""]
-        if word == "tile":
-            boxes += map(int, numbers)
-            counts.append(0)
-        elif word == "site":
-            counts[-1] += 1
-            for column, number in zip((x, y, cues), numbers):
-                column.append(int(number))
-    return boxes, counts, x, y, cues
+def file_of(engine, text):
+    """The file of a town's text; none if it is not the text of a town."""
+    try:
+        return towns.text.make(engine, text)[1]
+    except towns.text.Faulty:
+        return b""
 
 
 def town(tiles, sites=2):
@@ -256,7 +223,7 @@ def check_arithmetic(document):
 
 def check_limits(document, engine):
     def number_of(*lists, room=512000):
-        return engine.write(*lists, room=room)[0]
+        return engine.written(*lists, room=room)[0]
 
     def one(low, high, sites=0, cue=0):
         return number_of([low, 0, high, 0], [sites], [low] * sites, [0] * sites, [cue] * sites)
@@ -275,7 +242,8 @@ def check_limits(document, engine):
     blocks = least + directory_blocks(least), most + directory_blocks(most)
     expect("blocks", limits["blocks of a file"], blocks)
     expect("bytes", limits["bytes of a file"], tuple(BLOCK * n for n in blocks))
-    expect("bytes of files", tuple(len(engine.write(*town(n, 0))[2]) for n in (least, most)), limits["bytes of a file"])
+    lengths = tuple(len(engine.written(*town(tiles, 0))[2]) for tiles in (least, most))
+    expect("bytes of files", lengths, limits["bytes of a file"])
     expect("entries", limits["entries of a directory block"], (1, (510 - 16) // 20))
     expect("sites", limits["sites of a town"], (0, most * sites))
     expect("site numbers", limits["site number"], (0, (most - 1) * 40 + sites - 1))
@@ -345,7 +313,7 @@ def check_worked_block(document, engine, sample):
     for line, numbered in enumerate(re.findall(r"site (\d+) × 40 \+ (\d+)", "\n".join(example))):
         expect("numbering in the text", numbered, (str(line), "0"))
     expect("the dump of the text's town", dumps["5. The text of a town"],
-           engine.write(*lists_of("\n".join(example)))[2][:BLOCK])
+           file_of(engine, "\n".join(example))[:BLOCK])
 
 
 def check_what_is_seen(engine, sample):
@@ -479,7 +447,7 @@ def check_byte_tables(document, engine, reader, sample):
             file = put(sample, BLOCK * position + start + last, [0x7F])
             file = file if name in ("a", "c") else mended(file, position)
             due = (int(refusal.split()[0]), position) if refusal else (0, 0)
-            expect(f"{name} as 7f", engine.validate(file)[:2], due)
+            expect(f"{name} as 7f", engine.checked(file), due)
             reader.compare(file)
             expect(f"name of {refusal}", refusal.split()[1:], [NAMES[due[0]]] if refusal else [])
 
@@ -507,7 +475,7 @@ def with_faults(file, make, numbers, position):
 
 
 def check_orders_in_blocks(document, engine, reader):
-    file = engine.write(*town(30))[2]
+    file = engine.written(*town(30))[2]
     d = directory_blocks(30)
     for title, make, positions, due in [
             ("Order of tests: a directory block", fault_in_directory, range(d), [2, 3, 4, 5, 6, 7, 8, 9]),
@@ -517,7 +485,7 @@ def check_orders_in_blocks(document, engine, reader):
         for position in positions:
             for first, second in itertools.combinations_with_replacement(steps, 2):
                 bad = with_faults(file, make, {first, second}, position)
-                expect(f"{title}: {first} and {second}", engine.validate(bad)[:2], (first, position))
+                expect(f"{title}: {first} and {second}", engine.checked(bad), (first, position))
                 reader.compare(bad)
         # exactly the bytes that the step of the zeros names are due to be zero
         position, step = positions[-1], next(line for line in document.parts[title] if "**8 padding**" in line)
@@ -528,12 +496,12 @@ def check_orders_in_blocks(document, engine, reader):
         if "the last two bytes of all n entries" in step:
             bytes_ |= {head + size * entry + at for entry in range(entries) for at in (size - 2, size - 1)}
         refused = {at for at in range(BLOCK)
-                   if engine.validate(mended(put(file, first + at, [file[first + at] ^ 1]), position))[0] == 8}
+                   if engine.checked(mended(put(file, first + at, [file[first + at] ^ 1]), position))[0] == 8}
         expect(f"{title}: zeros", refused, bytes_)
         # the last fault of a block before the first of the next
         bad = with_faults(file, make, {steps[-1]}, positions[0])
         bad = with_faults(bad, make, {2}, positions[0] + 1)
-        expect(f"{title}: two blocks", engine.validate(bad)[:2], (steps[-1], positions[0]))
+        expect(f"{title}: two blocks", engine.checked(bad), (steps[-1], positions[0]))
         reader.compare(bad)
 
 
@@ -548,7 +516,7 @@ def first_of(title, steps, faults, call):
 
 
 def check_orders_of_calls(document, engine):
-    file = engine.write(*town(30))[2]
+    file = engine.written(*town(30))[2]
     bad_tiles = file
     for tile in range(30):
         bad_tiles = with_faults(bad_tiles, fault_in_tile, {10}, 2 + tile)
@@ -561,7 +529,7 @@ def check_orders_of_calls(document, engine):
     def join(length=0, directory=0, tile=0, k=3, x=(0, 500), y=(0, 0), spot=0, short=0):
         x = [1_000_001, *x[1:]] if spot and x else x
         n = len(x) * k
-        answer = engine.join(damaged(directory, tile, length), x, y, k, [n, n, n - short, 30] if n else [9] * 4)
+        answer = engine.joined(damaged(directory, tile, length), x, y, k, [n, n, n - short, 30] if n else [9] * 4)
         if answer[0] and not engine.slices_hold(0 if answer == (10, 2) else 77):
             failures.append(f"the join, refused with {answer}: its slices are not as said")
         return answer
@@ -587,15 +555,15 @@ def check_orders_of_calls(document, engine):
 
     first_of("full check", document.steps("Order of tests: the full check, `nearby_validate`"), [
         (1, (1, 0), {"length": 1}), ("The directory", (9, 1), {"directory": 1}), ("The opening", (10, 2), {"tile": 1})],
-        lambda length=0, directory=0, tile=0: engine.validate(damaged(directory, tile, length))[:2])
+        lambda length=0, directory=0, tile=0: engine.checked(damaged(directory, tile, length)))
 
     def write(tiles=30, numbers=0, box=0, lists=0, stray=0, short=0):
         boxes, counts, x, y, cues = town(tiles)
         boxes[1] = 6 if box else boxes[1]
         x[-1] += 10 * stray
         room = BLOCK * (tiles + directory_blocks(tiles)) - short
-        number, block, out = engine.write(boxes[:len(boxes) - numbers], counts, x, y, cues[:len(cues) - lists], room)
-        return number, block
+        columns = boxes[:len(boxes) - numbers], counts, x, y, cues[:len(cues) - lists]
+        return engine.written(*columns, room)[:2]
 
     first_of("writer", document.steps("Order of tests: the writer, `nearby_write`"), [
         (6, (6, 0), {"tiles": 961}), (15, (15, 0), {"numbers": 1}), (9, (9, 0), {"box": 1}),
@@ -608,7 +576,7 @@ def check_orders_of_calls(document, engine):
     good = (0, 1, 0, 1)
     for bad in (1, 0, 0, 0), (0, 0, 1, 0), (-1_000_001, 0, 0, 0), (0, 0, 0, 1_000_001):
         for boxes in itertools.permutations([good, good, bad]):
-            expect("a margin of a bad box", engine.margin(*itertools.chain(*boxes)), BAD_BOX)
+            expect("a margin of a bad box", engine.calls.nearby_margin(*itertools.chain(*boxes)), BAD_BOX)
     expect("the bad box's number", "is 9,000,000,000,000,000,000" in document.whole.replace("\n", " "), True)
 
 
@@ -630,7 +598,7 @@ def check_refusals(document):
 def check_block_12(document, engine, reader):
     for length, blocks, d, tiles, kind, due in document.table("Bytes of the file", "N", "d", "T"):
         tiles, entries = number(tiles), None
-        file = engine.write(*town(tiles, 3))[2]
+        file = engine.written(*town(tiles, 3))[2]
         expect("block 12: length, N, d", [number(length), number(blocks), number(d)],
                [len(file), len(file) // BLOCK, directory_blocks(tiles)])
         expect("block 12: what it is", file[12 * BLOCK + 1], 2 if kind.startswith("tile") else 1)
@@ -643,7 +611,7 @@ def check_block_12(document, engine, reader):
         expect("block 12: entries", entries, file[12 * BLOCK + 4])
         for other in range(41):
             bad = mended(put(file, 12 * BLOCK + 4, [other]), 12)
-            expect(f"block 12 with {other} entries", engine.validate(bad)[:2], (0, 0) if other == entries else (7, 12))
+            expect(f"block 12 with {other} entries", engine.checked(bad), (0, 0) if other == entries else (7, 12))
         reader.compare(bad)
     lengths = {tiles + directory_blocks(tiles): tiles for tiles in range(1, 961)}
     for blocks in range(1, 1001):
@@ -665,14 +633,14 @@ class Reader:
     def compare(self, file):
         done["files"] += 1
         ran = subprocess.run([self.program], input=file, capture_output=True)
-        number, block, tiles = self.engine.validate(file)
+        number, block = self.engine.checked(file)
         said = f"refused {number} block {block}\n".encode()
         expect("the reader's status and refusal", (ran.returncode, ran.stderr), (1, said) if number else (0, b""))
         if number:
             expect("what the reader prints of a refused file", ran.stdout, b"")
         else:
-            expect("tiles in the reader's text", ran.stdout.count(b"tile"), tiles)
-            expect("the file of the reader's text", self.engine.write(*lists_of(ran.stdout.decode()))[2] == file, True)
+            expect("tiles in the reader's text", ran.stdout.count(b"tile"), self.engine.validate(file))
+            expect("the file of the reader's text", file_of(self.engine, ran.stdout.decode()) == file, True)
 
 
 def check_reader(document, engine, reader, sample):
@@ -681,12 +649,12 @@ def check_reader(document, engine, reader, sample):
     expect("pieces of C in the document", [piece in source for piece in pieces], [True] * len(pieces))
     expect("there are pieces of C", len(pieces) > 1, True)
 
-    large = engine.write(*town(960, 40))[2]
-    mixed = engine.write(*lists_of("tile -1000000 -1000000 1000000 1000000\nsite -1000000 1000000 4294967295\n"
-                                   "site -1 -256 0\ntile -7 -7 -7 -7\nsite -7 -7 255\ntile 0 0 0 0\n"))[2]
-    small = [engine.write(*town(tiles, sites))[2] for tiles, sites in ((1, 0), (24, 2), (25, 2), (48, 1), (49, 40))]
+    large = engine.written(*town(960, 40))[2]
+    mixed = file_of(engine, "tile -1000000 -1000000 1000000 1000000\nsite -1000000 1000000 4294967295\n"
+                            "site -1 -256 0\ntile -7 -7 -7 -7\nsite -7 -7 255\ntile 0 0 0 0\n")
+    small = [engine.written(*town(tiles, sites))[2] for tiles, sites in ((1, 0), (24, 2), (25, 2), (48, 1), (49, 40))]
     for good in sample, large, mixed, *small:
-        expect("a good file", engine.validate(good)[0], 0)
+        expect("a good file", engine.checked(good)[0], 0)
         reader.compare(good)
 
     lengths = [0, 1, 511, 512, 513, 1024, 12288, 12799]
@@ -700,7 +668,7 @@ def check_reader(document, engine, reader, sample):
         moved = put(put(sample, BLOCK * one, block_of(sample, other)), BLOCK * other, block_of(sample, one))
         says = put(put(moved, BLOCK * one + 2, [one]), BLOCK * other + 2, [other])
         damaged += [moved, mended(mended(says, one), other), put(sample, BLOCK * one, block_of(sample, other))]
-    two = engine.write(*town(30))[2]
+    two = engine.written(*town(30))[2]
     # another T, in one directory block or in both
     for tiles in 0, 1, 23, 24, 25, 29, 31, 48, 49, 960, 961, 24 + 256, 65535:
         other = put(two, 6, struct.pack("<H", tiles))
@@ -715,7 +683,7 @@ def main():
     library = ROOT / "target/lib/libnearby.so"
     if not library.exists():
         sys.exit("format: no target/lib/libnearby.so: `make lib` makes it")
-    engine, document = Engine(library), Document(ROOT / "docs/FORMAT.md")
+    engine, document = Calls(library), Document(ROOT / "docs/FORMAT.md")
     reader, sample = Reader(engine), (ROOT / "samples/riverside.town").read_bytes()
     check_arithmetic(document)
     check_limits(document, engine)

@@ -16,11 +16,20 @@ import sys
 
 ROOT = pathlib.Path(__file__).resolve().parent.parent
 sys.dont_write_bytecode = True
-sys.path.insert(0, str(ROOT / "docs" / "figures"))
-from engine import far, from_text, join, margin, near, prune, validate, write
+sys.path.insert(0, str(ROOT / "tools"))
+
+from towns import text  # noqa: E402
+from towns.engine import Engine, refusal  # noqa: E402
+
+SHARED = ROOT / "target" / "lib" / "libnearby.so"
+if not SHARED.exists():
+    sys.exit(f"{SHARED.relative_to(ROOT)} is not there: run make lib")
+ENGINE = Engine(SHARED)
+far, near, margin, strike = ENGINE.far, ENGINE.near, ENGINE.margin, ENGINE.strike
+join, write = ENGINE.join, ENGINE.write
 
 PAGE = ROOT / "docs" / "WHY.md"
-TILES = from_text("samples/crossing.txt")
+TILES, FILE = text.make(ENGINE, (ROOT / "samples" / "crossing.txt").read_text())
 BOXES = [box for box, _ in TILES]
 COUNTS = [len(sites) for _, sites in TILES]
 ALL = range(len(TILES))
@@ -28,8 +37,8 @@ STOPS = [(0, 0), (6, 2)]
 K = 2
 O = (0, 0, 6, 2)
 CORNERS = [(0, 0), (6, 0), (0, 2), (6, 2)]
-FILE = write(TILES)
-ANSWER, LISTS, MARKS = join(FILE, STOPS, K)
+ANSWER = join(FILE, STOPS, K)
+LISTS, MARKS = ANSWER.lists, ANSWER.marks
 MARGINS = {(e, b): margin(O, BOXES[e], BOXES[b]) for e in ALL for b in ALL}
 
 
@@ -122,7 +131,7 @@ def marked(numbers, marks, mark):
 
 def struck():
     rows = []
-    by_k = {k: prune(FILE, O, k)[1] for k in range(1, 65)}
+    by_k = {k: strike(FILE, O, k) for k in range(1, 65)}
     for b in ALL:
         tiles = nearer_than(b)
         total = sum(COUNTS[e] for e in tiles)
@@ -134,12 +143,12 @@ def struck():
 
 def after(taken, stop, k):
     """What is listed once these tiles were taken: the engine's list where only they have sites."""
-    return join(write([(box, sites if t in taken else []) for t, (box, sites) in enumerate(TILES)]), [stop], k)[1][0]
+    return join(write([(box, sites if t in taken else []) for t, (box, sites) in enumerate(TILES)]), [stop], k).lists[0]
 
 
 def keys(stop, k=K):
     """The keys of the tiles that wait at first, in their order."""
-    marks = prune(FILE, O, k)[1]
+    marks = strike(FILE, O, k)
     return sorted((near(stop, BOXES[t]), t) for t in ALL if COUNTS[t] and marks[t] != 1)
 
 
@@ -150,7 +159,7 @@ def walk(number, k=K):
     smaller box then, but that changes no opening: `pruning-opens-alike`.)
     """
     stop = STOPS[number]
-    opened = marked(ALL, join(FILE, STOPS[:number], k)[2], 2) if number else []
+    opened = marked(ALL, join(FILE, STOPS[:number], k).marks, 2) if number else []
     steps, taken, places = [], [], []
     for key in keys(stop, k):
         ahead = [p for p in places if (p[0], p[1] // 40) < key]
@@ -160,8 +169,8 @@ def walk(number, k=K):
         taken.append(key[1])
         places = after(taken, stop, k)
         steps.append((key, len(ahead), f"tile {key[1]} is {'open already' if key[1] in opened else 'opened'}", places))
-    assert places == join(FILE, STOPS, k)[1][number]
-    assert set(taken) | set(opened) == set(marked(ALL, join(FILE, STOPS[: number + 1], k)[2], 2))
+    assert places == join(FILE, STOPS, k).lists[number]
+    assert set(taken) | set(opened) == set(marked(ALL, join(FILE, STOPS[: number + 1], k).marks, 2))
     return steps
 
 
@@ -173,7 +182,7 @@ def steps_of(number):
 def final_marks():
     said = {2: "opened", 1: "struck", 0: "neither"}
     rows = [[t, MARKS[t], said[MARKS[t]] + (", and empty" if COUNTS[t] == 0 else "")] for t in ALL]
-    assert ANSWER.opened == MARKS.count(2) and ANSWER.pruned == MARKS.count(1)
+    assert ANSWER.opened == MARKS.count(2) and ANSWER.struck == MARKS.count(1)
     return table(["Tile", "Mark", "In words"], *rows)
 
 
@@ -192,7 +201,7 @@ def fillings():
     rows = []
     for tile, site, stop in FILLINGS:
         assert MARKS[tile] == 2 and near(STOPS[stop], BOXES[tile]) == near(STOPS[stop], site[:2] * 2)
-        lists = join(refilled(tile, 0, site), STOPS, K)[1]
+        lists = join(refilled(tile, 0, site), STOPS, K).lists
         assert lists[stop] != LISTS[stop]
         write_out = lambda places: "; ".join(f"{place(p)} cue {p[2]}" for p in places)
         old = TILES[tile][1][0]
@@ -207,10 +216,11 @@ def fillings():
 def other_k():
     rows = []
     for k in (1, 2, 3, 4, 5, 9, 10):
-        answer, _, marks = join(FILE, STOPS, k)
+        answer = join(FILE, STOPS, k)
         ends = [walk(i, k)[-1] for i in (0, 1)]
         words = [f"at ({key[0]}, {key[1]})" if how == "the stop ends" else "no tile waits" for key, _, how, _ in ends]
-        rows.append([k, answer.used, tiles_of(marked(ALL, marks, 2)), tiles_of(marked(ALL, marks, 1)), *words])
+        opened_and_struck = [tiles_of(marked(ALL, answer.marks, mark)) for mark in (2, 1)]
+        rows.append([k, answer.used, *opened_and_struck, *words])
     return table(["k", "Places used", "Opened", "Struck", "Stop 0 ends", "Stop 1 ends"], *rows)
 
 
@@ -232,7 +242,7 @@ TABLES = {
 
 
 def ask_of(tiles):
-    return join(write(tiles), STOPS, K)[1]
+    return join(write(tiles), STOPS, K).lists
 
 
 def numbers_exchanged():
@@ -261,13 +271,13 @@ def sentences():
     compared = sum(MARGINS[a, b] < 0 or MARGINS[b, a] < 0 for a, b in itertools.combinations(ALL, 2))
     pairs = len(ALL) * (len(ALL) - 1) // 2
     corners = ", ".join(f"{far_of(c, 1)} < {near_of(c, 4)}" for c in CORNERS)
-    assert prune(FILE, O, 5)[1][4:6] == [0, 1]
+    assert strike(FILE, O, 5)[4:6] == bytes([0, 1])
     end_0, end_1 = [walk(i)[-1][0] for i in (0, 1)]
     assert numbers_exchanged()[1][1] == 40 and far((0, 0), (3, 2) * 2) == far((0, 0), (-3, -2) * 2) == 13
     assert margin((0, 0, 10, 0), (20, 0, 30, 0), (30, 0, 70, 0)) == 0 and end_1 == (25, 0)
     assert MARGINS[1, 2] >= 0 and far(middle(), BOXES[1]) < near(middle(), BOXES[2])
     return [
-        f"has {ANSWER.tiles} tiles and {sum(COUNTS)} sites. Stop 0 is at {spot(STOPS[0])}, stop 1 at {spot(STOPS[1])}",
+        f"has {len(MARKS)} tiles and {sum(COUNTS)} sites. Stop 0 is at {spot(STOPS[0])}, stop 1 at {spot(STOPS[1])}",
         f"the closest point is (-3,-2), so near is 9 + 4 = {near_of((0, 0), 3)}. The farthest is (-9,-4),"
         f" so far is 81 + 16 = {far_of((0, 0), 3)}.",
         f"9 - 16 = {on_axis(0, 0, BOXES[1], BOXES[4])}. With o = 6 they are 2 and -4, and"
@@ -330,7 +340,7 @@ def second_opinion():
     for (e, b), held in MARGINS.items():
         assert held == max(max(from_o[o, e]) - min(from_o[o, b]) for o in inside(O))
     for k in range(1, 11):
-        for stop, listed_places in zip(STOPS, join(FILE, STOPS, k)[1]):
+        for stop, listed_places in zip(STOPS, join(FILE, STOPS, k).lists):
             every = [(squared(stop, s), 40 * t + i, s[2]) for t in ALL for i, s in enumerate(TILES[t][1])]
             assert listed_places == sorted(every)[:k]
 
@@ -345,19 +355,18 @@ def unread():
     for t in shut:
         assert COUNTS[t] <= 1
         for x, y in inside(BOXES[t]) if COUNTS[t] else []:
-            assert join(refilled(t, 0, (x, y, 99)), STOPS, K)[1:] == (LISTS, MARKS)
+            assert join(refilled(t, 0, (x, y, 99)), STOPS, K) == ANSWER
             tried += 1
     for byte in (0, 1, 255):
         file = bytearray(FILE)
         for t in shut:
             file[512 * (t + 1) : 512 * (t + 2)] = bytes([byte]) * 512
-        assert join(file, STOPS, K)[1:] == (LISTS, MARKS) and validate(file).number != 0
+        assert join(file, STOPS, K) == ANSWER and refusal(ENGINE.validate, file) != (0, 0)
         tried += 1
     for t in marked(ALL, MARKS, 2):
         file = bytearray(FILE)
         file[512 * (t + 1)] ^= 1
-        refused = join(file, STOPS, K)[0]
-        assert refused.number == 2 and refused.block == t + 1
+        assert refusal(join, file, STOPS, K) == (2, t + 1)
         tried += 1
     return tried
 

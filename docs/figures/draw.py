@@ -10,10 +10,18 @@ the library's writer made.
 import pathlib
 import sys
 
-sys.dont_write_bytecode = True
-import engine
-
 HERE = pathlib.Path(__file__).resolve().parent
+ROOT = HERE.parent.parent
+sys.dont_write_bytecode = True
+sys.path.insert(0, str(ROOT / "tools"))
+
+from towns.engine import Engine  # noqa: E402
+from towns.text import make  # noqa: E402
+
+SHARED = ROOT / "target" / "lib" / "libnearby.so"
+if not SHARED.exists():
+    sys.exit(f"{SHARED.relative_to(ROOT)} is not there: run make lib")
+engine = Engine(SHARED)
 WIDTH = 640
 
 # Colours that can be told apart in grey, too.
@@ -133,8 +141,9 @@ def zero_is_not_nearer():
     assert margin(o, e, b) == 0
     # the same two boxes as tiles: B is tile 0, E is tile 1, each with a site at their common point
     tiles = [((30, 0, 70, 0), [(30, 0, 8)]), ((20, 0, 30, 0), [(30, 0, 9)])]
-    answer, [[(dist, where, cue)]], _ = engine.join(engine.write(tiles), [(0, 0)], 1)
-    assert where == 0 and answer.pruned == 0
+    answer = engine.join(engine.write(tiles), [(0, 0)], 1)
+    [[(dist, where, cue)]] = answer.lists
+    assert where == 0 and answer.struck == 0
     return svg(190, stretches(o, e, b, 40) + [
         text(WIDTH / 2, 140, "margin 0: a site at 30 may be in E or in B, at the same distance"),
         text(WIDTH / 2, 166, f"if B is tile 0 and E tile 1, a stop at 0 lists the site of B: D {dist}, cue {cue}"),
@@ -142,18 +151,18 @@ def zero_is_not_nearer():
 
 
 def town_of_the_page():
-    """The town, the stops, the box around them and k that run through docs/WHY.md."""
-    return engine.from_text("samples/crossing.txt"), [(0, 0), (6, 2)], (0, 0, 6, 2), 2
+    """The town, its file, the stops, the box around them and k that run through docs/WHY.md."""
+    return *make(engine, (ROOT / "samples/crossing.txt").read_text()), [(0, 0), (6, 2)], (0, 0, 6, 2), 2
 
 
 def stop_at_k():
-    tiles, stops, _, k = town_of_the_page()
+    tiles, file, stops, _, k = town_of_the_page()
     stop = stops[0]
     # the list after tile 0 is that of the town in which only tile 0 has sites
     first = [(box, sites if number == 0 else []) for number, (box, sites) in enumerate(tiles)]
-    _, [early], _ = engine.join(engine.write(first), [stop], k)
-    _, [final, _], marks = engine.join(engine.write(tiles), stops, k)
-    assert len(early) == len(final) == k and early != final and marks[:4] == [2, 2, 2, 0]
+    [early] = engine.join(engine.write(first), [stop], k).lists
+    *_, marks, [final, _] = engine.join(file, stops, k)
+    assert len(early) == len(final) == k and early != final and marks[:4] == bytes([2, 2, 2, 0])
     scale = 27
     at = lambda x, y: (330 + scale * x, 150 - scale * y)
     circles = ((early, SOFT), (final, E_COLOUR))
@@ -180,8 +189,8 @@ def stop_at_k():
 
 
 def crossing():
-    tiles, stops, o, k = town_of_the_page()
-    _, lists, marks = engine.join(engine.write(tiles), stops, k)
+    tiles, file, stops, o, k = town_of_the_page()
+    *_, marks, lists = engine.join(file, stops, k)
     listed = {where for places in lists for _, where, _ in places}
     scale = 19
     at = lambda x, y: (395 + scale * x, 118 - scale * y)

@@ -1,4 +1,4 @@
-"""The calls of include/nearby.h, for Python. Every answer of the tool comes from these."""
+"""The calls of include/nearby.h, for Python. Every answer of the tool comes from these, and what tests and figures ask."""
 import ctypes
 import os
 from ctypes import POINTER, Structure, c_int32, c_int64, c_size_t, c_uint8, c_uint32, c_uint64
@@ -71,18 +71,27 @@ def library():
                     + "\n".join(f"  {place}" for place in places))
 
 
-def _slice(kind, of):
-    """A slice as the header wants it: never NULL, not even for 0 elements."""
-    return (kind * max(1, len(of)))(*of)
+def lent(kind, of):
+    """A slice as the header wants it, never NULL, not even for 0 elements; and its length."""
+    return (kind * max(1, len(of)))(*of), len(of)
+
+
+def refusal(call, *given):
+    """The number and the block that a call is refused with; 0 and 0 if it is not."""
+    try:
+        call(*given)
+    except Refused as refused:
+        return refused.number, refused.block
+    return 0, 0
 
 
 class Engine:
-    """The loaded library."""
+    """The loaded library, that of a path or else the one that `library` finds. `calls` has the header's calls as they are."""
 
-    def __init__(self):
-        path = library()
+    def __init__(self, path=None):
+        path = path or library()
         try:
-            self._lib = ctypes.CDLL(str(path))
+            self.calls = ctypes.CDLL(str(path))
             self._declare()
         except (OSError, AttributeError) as error:
             raise NoLibrary(f"{path} cannot be loaded: {error}") from None
@@ -90,7 +99,7 @@ class Engine:
     def _declare(self):
         data, whole = POINTER(c_uint8), POINTER(c_int32)
         many = POINTER(c_uint32)
-        lib = self._lib
+        lib = self.calls
         lib.nearby_block_check.argtypes = [data, c_size_t]
         lib.nearby_block_check.restype = c_uint32
         lib.nearby_margin.argtypes = [c_int32] * 12
@@ -114,11 +123,11 @@ class Engine:
     def block_check(self, block):
         """0, or the refusal's number."""
         data, length = self.file(block)
-        return self._lib.nearby_block_check(data, length)
+        return self.calls.nearby_block_check(data, length)
 
     def margin(self, o, e, b):
         """The margin of boxes O, E and B, each (low x, low y, high x, high y) as in a directory."""
-        value = self._lib.nearby_margin(o[0], o[2], o[1], o[3], e[0], e[2], e[1], e[3], b[0], b[2], b[1], b[3])
+        value = self.calls.nearby_margin(o[0], o[2], o[1], o[3], e[0], e[2], e[1], e[3], b[0], b[2], b[1], b[3])
         if value == BAD_BOX:
             raise ValueError("a bad box")
         return value
@@ -137,10 +146,10 @@ class Engine:
         """nearby_join of bytes, or of a slice made by `file`. Raises Refused."""
         data, length = content if isinstance(content, tuple) else self.file(content)
         n, room = len(stops), max(1, len(stops) * min(k, MAX_K))
-        x, y = _slice(c_int32, [stop[0] for stop in stops]), _slice(c_int32, [stop[1] for stop in stops])
+        x, y = lent(c_int32, [stop[0] for stop in stops]), lent(c_int32, [stop[1] for stop in stops])
         dist, site, cue = (c_uint64 * room)(), (c_uint32 * room)(), (c_uint32 * room)()
         marks = (c_uint8 * MAX_TILES)()
-        r = self._lib.nearby_join(data, length, x, n, y, n, k, dist, room, site, room, cue, room, marks, MAX_TILES)
+        r = self.calls.nearby_join(data, length, *x, *y, k, dist, room, site, room, cue, room, marks, MAX_TILES)
         if r.number:
             raise Refused(r.number, r.block)
         lists = [list(zip(dist[i * k:i * k + r.used], site[i * k:i * k + r.used], cue[i * k:i * k + r.used]))
@@ -151,7 +160,7 @@ class Engine:
         """nearby_prune: the marks, 1 for each struck tile. Raises Refused."""
         data, length = content if isinstance(content, tuple) else self.file(content)
         marks = (c_uint8 * MAX_TILES)()
-        r = self._lib.nearby_prune(data, length, box[0], box[2], box[1], box[3], k, marks, MAX_TILES)
+        r = self.calls.nearby_prune(data, length, box[0], box[2], box[1], box[3], k, marks, MAX_TILES)
         if r.number:
             raise Refused(r.number, r.block)
         return bytes(marks)[:r.tiles]
@@ -159,7 +168,7 @@ class Engine:
     def validate(self, content):
         """The full check: T. Raises Refused."""
         data, length = content if isinstance(content, tuple) else self.file(content)
-        r = self._lib.nearby_validate(data, length)
+        r = self.calls.nearby_validate(data, length)
         if r.number:
             raise Refused(r.number, r.block)
         return r.tiles
@@ -167,12 +176,11 @@ class Engine:
     def write(self, tiles):
         """The file of a town, given as a list of (box, sites) with sites (x, y, cue). Raises Refused."""
         sites = [site for _, held in tiles for site in held]
-        boxes = _slice(c_int32, [end for box, _ in tiles for end in box])
-        counts = _slice(c_uint32, [len(held) for _, held in tiles])
-        x, y, cue = (_slice(kind, [site[i] for site in sites]) for i, kind in enumerate((c_int32, c_int32, c_uint32)))
+        boxes = lent(c_int32, [end for box, _ in tiles for end in box])
+        counts = lent(c_uint32, [len(held) for _, held in tiles])
+        x, y, cue = (lent(kind, [site[i] for site in sites]) for i, kind in enumerate((c_int32, c_int32, c_uint32)))
         out = (c_uint8 * MAX_FILE)()
-        n = len(sites)
-        r = self._lib.nearby_write(boxes, 4 * len(tiles), counts, len(tiles), x, n, y, n, cue, n, out, MAX_FILE)
+        r = self.calls.nearby_write(*boxes, *counts, *x, *y, *cue, out, MAX_FILE)
         if r.number:
             raise Refused(r.number, r.block)
         return bytes(out)[:r.length]
