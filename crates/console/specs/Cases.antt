@@ -1,5 +1,6 @@
--- Document 01, "Twelve cases", as one table. In cases 1 to 6 "O is x 0..10, E x 20..30, y 0..0, unless said". Case 12 is
--- "the town above", from the bytes of its file to the end of the call and to the printed bytes.
+-- Document 01, "Twelve cases", as one table. In cases 1 to 6 "O is x 0..10, E x 20..30, y 0..0, unless said". Case 12
+-- is "the town above", from the lists that the writer takes to the bytes of its file, to the end of the call and to the
+-- printed bytes.
 --
 --   box, from0                    boxes by their ends
 --   townFile, origin, request     the file of case 12, its stop, and what the program is given
