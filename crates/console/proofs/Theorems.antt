@@ -71,16 +71,18 @@ first-digit (suc more) n some small =
     let rest = digits w (n / 10) in
     let long = length-digits w (n / 10) in
     let first = List·getD-append rest ((48 + n % 10) ∷ []) 0 0 (omega (arith, some-width more (n / 10))) in
-    rw first (first-digit more (n / 10) (omega (arith, ltb-false n 10 e)) (omega (arith, small, pow-suc 10 (suc more)))))
+    let below : n / 10 < 10 ^ suc more = omega (arith, small, pow-suc 10 (suc more)) in
+    rw first (first-digit more (n / 10) (omega (arith, ltb-false n 10 e)) below))
 
 zero-alone : length (decimal 0) ≡ 1
 unfolding decimal width widthUpTo digits
 zero-alone = refl
 
--- "in decimal": every number of 64 bits is below 10^20
+-- "in decimal": every number of 64 bits is below 10^20, and the program prints no other (its numbers are u64 and u32)
 pub decimal-exact : (n : ℕ) → n < 10 ^ 20 → InDecimal n (decimal n)
 unfolding decimal width
 decimal-exact n h = record {
+  some = omega (arith, length-digits (widthUpTo 19 n) n, some-width 19 n);
   value = value-digits (widthUpTo 19 n) n (width-enough 19 n h);
   digits = all-digits (widthUpTo 19 n) n;
   leading = λ long. by-test (ltb 0 n)

@@ -1,5 +1,6 @@
--- Document 01, "Twelve cases", as one table. In cases 1 to 6 "O is x 0..10, E x 20..30, y 0..0, unless said". Case 12 is
--- "the town above", from the bytes of its file to the end of the call and to the printed bytes.
+-- Document 01, "Twelve cases", as one table. In cases 1 to 6 "O is x 0..10, E x 20..30, y 0..0, unless said". Case 12
+-- is "the town above", from the lists that the writer takes to the bytes of its file, to the end of the call and to the
+-- printed bytes.
 --
 --   box, from0                    boxes by their ends
 --   townFile, origin, request     the file of case 12, its stop, and what the program is given
@@ -10,7 +11,7 @@ use Prim.Native.String.{String}
 use mathlib.Core.List.{List, [], _∷_, _++_, map}
 use mathlib.Core.Path.{_≡_}
 use lib.IntN.{ℤ, pos, negℤ}
-use lib.ListN.{replicate}
+use lib.ListN.{length, replicate}
 use Rattle.base.specs.Refusal.{accepted}
 use Rattle.blocks.specs.Checksum.{sums}
 use Rattle.blocks.specs.declared.checksum.Sums.{Sums}
@@ -22,6 +23,7 @@ use Rattle.geometry.specs.Margin.{margin}
 use Rattle.join.specs.Join.{Result, joinEnd}
 use Rattle.list.specs.Lists.{Slices, lent}
 use Rattle.search.specs.declared.Place.{Place}
+use Rattle.writer.specs.Write.{writeCall}
 use Rattle.console.specs.Output.{output}
 use Rattle.console.specs.Text.{textBytes}
 
@@ -65,6 +67,7 @@ pub data Case : Type 0 where
   margin-of : List (List ℤ) → List (List ℤ) → List (List ℤ) → ℤ → Case
   near-far-of : List ℤ → List (List ℤ) → ℕ → ℕ → Case
   check-of : List ℕ → Sums → Case
+  town-written : ℕ → Case
   town-asked : ℕ → Result → List Place → List ℕ → String → Case
 
 abbrev pub table : List Case
@@ -80,6 +83,8 @@ table =
     ∷ check-of (replicate 509 0) (record { a = 0; c = 0 })
     ∷ check-of (1 ∷ replicate 508 0) (record { a = 1; c = 254 })
     ∷ check-of (replicate 508 0 ++ (1 ∷ [])) (record { a = 1; c = 1 })
+    -- a block for the directory, one for each tile
+    ∷ town-written 2048
     ∷ town-asked 2 (record { used = 2; tiles = 3; opened = 2; pruned = 0 })
     (record { dist = 100; site = 0; cue = 7 } ∷ record { dist = 100; site = 40; cue = 8 } ∷ [])
     (2 ∷ 2 ∷ 0 ∷ [])
@@ -92,11 +97,13 @@ table =
     "tiles 3 opened 3 struck 0\nstop 0: 100 0 7; 100 40 8; 121 80 9\n"
     ∷ []
 
--- what a case says; of bytes 1 to 509 whatever the others are
+-- what a case says; of bytes 1 to 509 whatever the others are; of the town's file that it has so many bytes, and that
+-- the writer makes it of the lists in a slice as long
 abbrev pub Says : Case → Type 0
 Says (margin-of o e b m) = margin o e b ≡ m
 Says (near-far-of p b near far) = (minDist b p ≡ near) × (maxDist b p ≡ far)
 Says (check-of bytes s) = (sync a c : ℕ) → sums (sync ∷ (bytes ++ (a ∷ c ∷ []))) ≡ s
+Says (town-written n) = (writeCall townLists n ≡ accepted n) × (length townFile ≡ n)
 Says (town-asked k r l m printed) =
     (joinEnd townFile origin k (emptyFor k) ≡ record { outcome = accepted r; slices = holding l m })
     × (output (request k) ≡ textBytes printed)

@@ -10,9 +10,10 @@ use Rattle.console.specs.Text.{valueFrom}
 abbrev pub Digit : ℕ → Type 0
 Digit c = (48 ≤ c) × (c ≤ 57)
 
--- characters that are the number n "in decimal": they read as n, are digits only, and the first is no zero, unless it
--- stands alone
+-- characters that are the number n "in decimal": at least one, they read as n, are digits only, and the first is no
+-- zero, unless it stands alone
 pub record InDecimal (n : ℕ) (text : List ℕ) : Type 0 where
+  pub some : 0 < length text
   pub value : valueFrom 0 text ≡ n
   pub digits : All Digit text
   pub leading : 1 < length text → 48 < getD text 0 0

@@ -22,6 +22,7 @@ use Rattle.geometry.specs.Around.{around}
 use Rattle.geometry.specs.Box.{inside}
 use Rattle.list.specs.Lists.{Long, Slices, placeAt}
 use Rattle.plan.specs.FilePlan.{axisCount, plane, entries, openingOf, townOf}
+use Rattle.prune.specs.Claims.{PrunesExactly}
 use Rattle.prune.specs.Prune.{Counts, pruneCall}
 use Rattle.search.specs.Claims.{FullSearch, RunAnswers}
 use Rattle.search.specs.FullSearch.{firstOf, fullSearch}
@@ -42,7 +43,7 @@ use Rattle.list.proofs.Laying.{lay-place, lay-long}
 use Rattle.plan.proofs.Tables.{filled-at, filled-take}
 use Rattle.plan.proofs.Theorems.{opening-checked, join-depends, pruned-count-depends, marks-depend, used-depends}
 use Rattle.plan.proofs.Theorems.{good-opens, good-agrees}
-use Rattle.prune.proofs.Theorems as striking
+use Rattle.prune.proofs.Theorems.{prunes-exactly}
 use Rattle.search.proofs.Lists.{all-map, all-both}
 use Rattle.search.proofs.Marks.{slices-length, marks-at}
 use Rattle.search.proofs.Queue.{candidate-unpruned, candidate-some}
@@ -103,13 +104,13 @@ module _ (f : List ℕ) (cols : List (List ℤ)) (k : ℕ) (g : List ℕ) (h : H
         let e = same-directory f g h d same in
         rw (d, e) (by-outcome (arguments (h .tiles) cols k (lengthsOf out)) (λ x q. rw q run-same) (λ n b q. rw q))
 
-  -- "with the same stops, k and output lengths", whatever the slices held before
+  -- "for the same stops, k and output lengths", whatever the slices held before
   module _ (out out′ : Slices) (l : lengthsOf out′ ≡ lengthsOf out) where
     -- the outcome is the same, refusals included
     pub same-outcome : joinEnd g cols k out′ .outcome ≡ joinEnd f cols k out .outcome
     same-outcome = ap (λ (z : End). z .outcome) (other-files out′) ∙ lengths-decide f cols k out out′ l
 
-    -- "gets .. an answer with the same lists, marks and counts": where tests 11 to 14 pass, of refused runs too
+    -- "gets an answer with the same lists, marks and counts": where tests 11 to 14 pass, of refused runs too
     pub same-answer : arguments (h .tiles) cols k (lengthsOf out) ≡ accepted tt
         → SameAnswer cols k h (joinEnd f cols k out) (joinEnd g cols k out′)
     same-answer a = rw (other-files out′) (answer-alike f cols k out out′ l h d a)
@@ -308,6 +309,7 @@ module _ (f : List ℕ) (cols : List (List ℤ)) (k : ℕ) (out : Slices) where
             opened-exactly = d .opened-exactly;
             marked-opened = λ t l. rw (mark-left r a t l) (d .marked-opened t l);
             marked-pruned = λ t l. rw (mark-left r a t l) (d .marked-pruned t l);
+            marked-neither = λ t l. rw (mark-left r a t l) (d .marked-neither t l);
             none-pruned = d .none-pruned;
             once = once-each r a;
             count-opened = ap (λ (z : Result). z .opened) (a .result) ∙ sym (rw (marks-left r a) (d .count-opened));
@@ -341,12 +343,15 @@ module _ (f : List ℕ) (cols : List (List ℤ)) (k : ℕ) (out : Slices) where
           let a = answered r e in
           let c : Counts = record { tiles = r .tiles; pruned = r .pruned } in
           let tiles : r .tiles ≡ a .h .tiles = ap (λ (z : Result). z .tiles) (a .result) in
+          let struck = prunes-exactly f (around cols) k lent c (prune-answers l) in
+          let same : struck .0 ≡ a .h = accepted-injective (sym (struck .1 .header) ∙ a .dir) in
           record {
+            smallest = smallest (a .ready axes);
             answers = prune-answers l;
             marked = λ t i.
                 let j : t < a .h .tiles = omega (arith, tiles) in
                 let mine = demand r a .marked-pruned t j in
-                let its = striking.marked-pruned f (around cols) k lent c (prune-answers l) (a .h) (a .dir) t j in
+                let its = subst (λ x. PrunesExactly f (around cols) k lent x c) same (struck .1) .marked t j in
                 rw (mark-left r a t j) (λ m. its .1 (mine .0 m), λ m. mine .1 (its .0 m));
           }
 
@@ -379,8 +384,8 @@ module _ (f : List ℕ) (cols : List (List ℤ)) (k : ℕ) (out : Slices) where
 
     -- ---- demand 2
 
-    -- "On a file that passes the full check, each list is the first k sites of the whole town, by distance, then tile,
-    -- then slot": the join answers, with these lists
+    -- "On a file that passes the full check, each list is the first k sites of the whole town by Euclidean distance,
+    -- ties by tile and slot": the join answers, with these lists
     pub demand-2 : Bytes f → (h : Header) → validate f ≡ accepted h
         → arguments (h .tiles) cols k (lengthsOf out) ≡ accepted tt
         → joinEnd f cols k out ≡ ended f h cols k (runFor f h cols k .openings) out

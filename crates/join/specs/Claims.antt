@@ -28,7 +28,8 @@ use Rattle.search.specs.FullSearch.{SiteOf, ByDistanceTileSlot, fullSearch, Fit
 use Rattle.search.specs.Lists.{count, member, All, Distinct}
 use Rattle.search.specs.Plan.{Town, Agrees}
 use Rattle.search.specs.Pruning.{pruned}
-use Rattle.search.specs.Run.{Run, rank, noPlace, fullQueue, run, placesUsed, openedMark, prunedMark}
+use Rattle.search.specs.Run.{Run, rank, noPlace, fullQueue, run, placesUsed, openedMark}
+use Rattle.search.specs.Run.{prunedMark, noMark}
 use Rattle.search.specs.declared.Place.{Place}
 use Rattle.stops.specs.Stops.{stopCount, stopsOf}
 use Rattle.tiles.specs.Tile.{tilePosition, openTile}
@@ -58,6 +59,7 @@ pub record RefusedRun (f : List ℕ) (h : Header) (cols : List (List ℤ)) (k nu
 -- strike, for "the smallest box around the stops", the same k and any marks that are long enough
 pub record PrunesAlike (f : List ℕ) (cols : List (List ℤ)) (k : ℕ) (out : Slices) (r : Result) (lent : List ℕ) : Type 0
   where
+    pub smallest : SmallestAround (length cols) (stopsOf cols) (around cols)
     -- it answers, with the T and the number struck of the join
     pub answers : pruneCall f (around cols) k lent ≡ accepted (record { tiles = r .tiles; pruned = r .pruned })
     -- and leaves the mark 1 exactly where the join does
@@ -115,6 +117,10 @@ module _ (f : List ℕ) (cols : List (List ℤ)) (k : ℕ) (out : Slices) (h : H
     pub marked-opened : (t : ℕ) → t < h .tiles → (getD (left .marks) t 0 ≡ openedMark) ↔ (member t opened ≡ true)
     pub marked-pruned : (t : ℕ) → t < h .tiles
         → (getD (left .marks) t 0 ≡ prunedMark) ↔ (pruned (entries f h) (around cols) k t ≡ true)
+    -- "0 neither"
+    pub marked-neither : (t : ℕ) → t < h .tiles
+        → (getD (left .marks) t 0 ≡ noMark)
+        ↔ ((member t opened ≡ false) × (pruned (entries f h) (around cols) k t ≡ false))
     -- "no struck tile is opened", and each tile once
     pub none-pruned : All (λ t. pruned (entries f h) (around cols) k t ≡ false) opened
     pub once : Distinct opened
@@ -122,8 +128,9 @@ module _ (f : List ℕ) (cols : List (List ℤ)) (k : ℕ) (out : Slices) (h : H
     pub count-opened : r .opened ≡ count (λ m. eqb m openedMark) (take (h .tiles) (left .marks))
     pub count-pruned : r .pruned ≡ count (λ m. eqb m prunedMark) (take (h .tiles) (left .marks))
     pub count-used : r .used ≡ placesUsed (entries f h) k
-    -- "Any file of the same length, equal to this one in every byte of the directory and of the opened tiles, gets,
-    -- with the same stops, k and output lengths, an answer with the same lists, marks and counts"
+    -- "Any file of the same length, equal to this one in every byte of the directory and of the opened tiles, gets an
+    -- answer with the same lists, marks and counts for the same stops, k and output lengths, whatever bytes the other
+    -- tiles of either file hold."
     pub other-files : (g : List ℕ) → SameDirectory f g h
         → All (λ t. blockAt g (tilePosition h t) ≡ blockAt f (tilePosition h t)) opened
         → (out′ : Slices) → lengthsOf out′ ≡ lengthsOf out

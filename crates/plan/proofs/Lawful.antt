@@ -35,7 +35,8 @@ other-cue (suc c) = (0, (omega arith, λ e. omega arith))
 site-at : (b : List (List ℤ)) (p : List ℤ) → length b ≡ axisCount → inside b p ≡ true → (n : ℕ)
     → (q : Site) × ((sitePoint q ≡ p) × (q .cue ≡ n))
 site-at b p axes i n =
-    (record { x = getD p 0 (pos 0); y = getD p 1 (pos 0); cue = n }, (sym (two p (pos 0) (inside-axes b p i ∙ axes)), refl))
+    let q : Site = record { x = getD p 0 (pos 0); y = getD p 1 (pos 0); cue = n } in
+    (q, (sym (two p (pos 0) (inside-axes b p i ∙ axes)), refl))
 
 module _ (f : List ℕ) (h : Header) (o : List (List ℤ)) (read : directory f ≡ accepted h) (valid : validBox o ≡ true)
     (axes : length o ≡ axisCount) where

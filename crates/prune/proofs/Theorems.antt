@@ -1,13 +1,12 @@
--- The theorems of this crate for the reader: a call that answers, its marks and the number struck. The call is
--- `call::prune`, its definitions `pruneCall` and `marksAfter` (specs/Prune). f is the file, o the box O.
-use Prim.Native.Nat.{ℕ, _<_, _≤_}
-use mathlib.Core.Bool.{true}
+-- The theorem of this crate for the reader: a call that answers, its marks and the number struck. The call is
+-- `call::prune`, its definitions `pruneCall` and `marksAfter` (specs/Prune), what is claimed `PrunesExactly`
+-- (specs/Claims). f is the file, o the box O.
+use Prim.Native.Nat.{ℕ, _≤_}
 use mathlib.Core.List.{List, []}
-use mathlib.Core.Logic.{_↔_}
-use mathlib.Core.Path.{_≡_, sym, ap, _∙_}
-use lib.Dec.{eqb, leb}
+use mathlib.Core.Path.{_≡_, refl, sym, ap, _∙_}
+use lib.Dec.{leb}
 use lib.IntN.{ℤ}
-use lib.ListN.{length, getD, take}
+use lib.ListN.{length}
 use borrow.Author.Tests.{leb-true}
 use Rattle.base.specs.Refusal.{accepted, #k, #box, #short}
 use Rattle.blocks.specs.Directory.{directory}
@@ -16,15 +15,16 @@ use Rattle.codec.specs.Over.{over}
 use Rattle.geometry.specs.Box.{validBox}
 use Rattle.plan.specs.FilePlan.{entries}
 use Rattle.search.specs.Limits.{validK}
-use Rattle.search.specs.Lists.{range, bit, count, member}
+use Rattle.search.specs.Lists.{range, bit, member}
 use Rattle.search.specs.Pruning.{pruned, prunedCount}
-use Rattle.search.specs.Run.{mark, marks, prunedMark}
+use Rattle.search.specs.Run.{mark, marks}
 use Rattle.base.proofs.Outcomes.{accepted-injective, require-accepted, andThen-accepted}
 use Rattle.base.proofs.Tests.{by-test}
 use Rattle.plan.proofs.Tables.{filled-at, filled-take}
 use Rattle.search.proofs.Lists.{all-any}
-use Rattle.search.proofs.Marks.{mark-pruned, marks-pruned}
+use Rattle.search.proofs.Marks.{mark-pruned, mark-neither, marks-pruned}
 use Rattle.search.proofs.SameEntries.{map-same}
+use Rattle.prune.specs.Claims.{PrunesExactly}
 use Rattle.prune.specs.Prune.{Counts, pruneCall, pruneMarks, marksAfter}
 
 -- the marks are those of a join that has opened nothing
@@ -65,24 +65,22 @@ module _ (f : List ℕ) (o : List (List ℤ)) (k : ℕ) (lent : List ℕ) where
         left = ap (marksAfter f o k lent) e ∙ left-by c h (d .1);
       }
 
-  module _ (c : Counts) (e : pruneCall f o k lent ≡ accepted c) where
-    -- "Marks: 1 struck, 0 not": 1 exactly where the tile is struck
-    pub marked-pruned : (h : Header) → directory f ≡ accepted h → (t : ℕ) → t < h .tiles
-        → (getD (marksAfter f o k lent (pruneCall f o k lent)) t 0 ≡ prunedMark)
-        ↔ (pruned (entries f h) o k t ≡ true)
-    unfolding marks
-    marked-pruned h d t l =
-        let a = answered c e in
-        let i : a .h ≡ h = accepted-injective (sym (a .dir) ∙ d) in
-        rw (a .left, i) (rw (filled-at (mark (entries f h) o k []) lent (h .tiles) t (rw i at (a .room)) l)
-        (mark-pruned (entries f h) o k [] tt t))
-
-    -- "The result carries T and the number struck": as many as there are marks of that sort
-    pub pruned-count : c .pruned
-        ≡ count (λ m. eqb m prunedMark) (take (c .tiles) (marksAfter f o k lent (pruneCall f o k lent)))
-    unfolding marks
-    pruned-count =
-        let a = answered c e in
-        let h = a .h in
-        rw (a .counts, a .left) (rw (filled-take (mark (entries f h) o k []) lent (h .tiles) (a .room))
-        (sym (marks-pruned (entries f h) o k [] tt)))
+  -- "Marks: 1 struck, 0 not. The result carries T and the number struck."
+  pub prunes-exactly : (c : Counts) → pruneCall f o k lent ≡ accepted c → (h : Header) × PrunesExactly f o k lent h c
+  unfolding marks member
+  prunes-exactly c e =
+      let a = answered c e in
+      let h = a .h in
+      let m = mark (entries f h) o k [] in (
+        h,
+        record {
+          header = a .dir;
+          marked = λ t l. rw (a .left) (rw (filled-at m lent (h .tiles) t (a .room) l)
+              (mark-pruned (entries f h) o k [] tt t));
+          unmarked = λ t l. rw (a .left) (rw (filled-at m lent (h .tiles) t (a .room) l)
+              (let n = mark-neither (entries f h) o k [] t in (λ x. n .0 x .1, λ x. n .1 (refl, x))));
+          tiles = ap (λ (z : Counts). z .tiles) (a .counts);
+          count-pruned = ap (λ (z : Counts). z .pruned) (a .counts)
+              ∙ sym (rw (a .left) (rw (filled-take m lent (h .tiles) (a .room)) (marks-pruned (entries f h) o k [] tt)));
+        },
+      )

@@ -13,7 +13,7 @@ use Rattle.base.proofs.Tests.{clash, by-test}
 use Rattle.search.specs.Lists.{range, count, filter, member, All, Distinct}
 use Rattle.search.specs.Plan.{Geometry, Directory}
 use Rattle.search.specs.Pruning.{pruned, prunedCount}
-use Rattle.search.specs.Run.{Place, noPlace, padded, slices, mark, marks, openedMark, prunedMark}
+use Rattle.search.specs.Run.{Place, noPlace, padded, slices, mark, marks, openedMark, prunedMark, noMark}
 use Rattle.search.proofs.Lists.{all-any, all-mem, count-all, count-perm, filter-passes, filter-mem}
 use Rattle.search.proofs.Lists.{filter-distinct, range-mem, range-distinct, member-mem, mem-member}
 use Rattle.search.proofs.Lists.{same-elements}
@@ -67,7 +67,7 @@ module _ {G : Geometry} (E : Directory G) (O : G .Box) (k : ℕ) where
   -- ---- marks
 
   module _ (opened : List ℕ) where
-    two : (t : ℕ) → eqb (mark E O k opened t) 2 ≡ member t opened
+    two : (t : ℕ) → eqb (mark E O k opened t) openedMark ≡ member t opened
     unfolding mark
     two t = by-test (member t opened) (λ e. rw e) (λ e. by-test (pruned E O k t) (λ s. rw (e, s)) (λ s. rw (e, s)))
 
@@ -80,17 +80,27 @@ module _ {G : Geometry} (E : Directory G) (O : G .Box) (k : ℕ) where
     unfolding mark
     mark-opened t = (λ h. sym (two t) ∙ rw h, λ h. rw h)
 
+    pub mark-neither : (t : ℕ)
+        → (mark E O k opened t ≡ noMark) ↔ ((member t opened ≡ false) × (pruned E O k t ≡ false))
+    unfolding mark
+    mark-neither t = (
+      λ h. by-test (member t opened)
+          (λ e. absurd (omega (arith, rw e at h)))
+          (λ e. by-test (pruned E O k t) (λ s. absurd (omega (arith, rw (e, s) at h))) (λ s. (e, s))),
+      λ h. rw (h .0, h .1),
+    )
+
     pub marks-opened : Distinct opened → All (λ t. t < tiles) opened
-        → count (λ m. eqb m 2) (marks E O k opened) ≡ length opened
+        → count (λ m. eqb m openedMark) (marks E O k opened) ≡ length opened
     unfolding marks
     marks-opened d h =
-        count-map (λ m. eqb m 2) (mark E O k opened) (range 0 tiles)
-        ∙ count-same (λ t. eqb (mark E O k opened t) 2) (λ t. member t opened) (range 0 tiles)
-        (all-any (λ t. eqb (mark E O k opened t) 2 ≡ member t opened) (range 0 tiles) two)
+        count-map (λ m. eqb m openedMark) (mark E O k opened) (range 0 tiles)
+        ∙ count-same (λ t. eqb (mark E O k opened t) openedMark) (λ t. member t opened) (range 0 tiles)
+        (all-any (λ t. eqb (mark E O k opened t) openedMark ≡ member t opened) (range 0 tiles) two)
         ∙ count-members tiles opened d h
 
     module _ (unpruned : All (λ t. pruned E O k t ≡ false) opened) where
-      one : (t : ℕ) → eqb (mark E O k opened t) 1 ≡ pruned E O k t
+      one : (t : ℕ) → eqb (mark E O k opened t) prunedMark ≡ pruned E O k t
       unfolding mark
       one t = by-test (member t opened)
           (λ e. rw (e, all-mem (λ u. pruned E O k u ≡ false) unpruned (member-mem t opened e)))
@@ -105,12 +115,12 @@ module _ {G : Geometry} (E : Directory G) (O : G .Box) (k : ℕ) where
             (λ e. rw (e, h)),
       )
 
-      pub marks-pruned : count (λ m. eqb m 1) (marks E O k opened) ≡ prunedCount E O k
+      pub marks-pruned : count (λ m. eqb m prunedMark) (marks E O k opened) ≡ prunedCount E O k
       unfolding marks prunedCount
       marks-pruned =
-          count-map (λ m. eqb m 1) (mark E O k opened) (range 0 tiles)
-          ∙ count-same (λ t. eqb (mark E O k opened t) 1) (pruned E O k) (range 0 tiles)
-          (all-any (λ t. eqb (mark E O k opened t) 1 ≡ pruned E O k t) (range 0 tiles) one)
+          count-map (λ m. eqb m prunedMark) (mark E O k opened) (range 0 tiles)
+          ∙ count-same (λ t. eqb (mark E O k opened t) prunedMark) (pruned E O k) (range 0 tiles)
+          (all-any (λ t. eqb (mark E O k opened t) prunedMark ≡ pruned E O k t) (range 0 tiles) one)
 
 -- ---- places
 

@@ -15,12 +15,13 @@ use Rattle.search.specs.Lists.{count, member, All, Distinct}
 use Rattle.search.specs.Plan.{Geometry, Directory, Lawful, ranked, Town, Agrees}
 use Rattle.search.specs.Pruning.{pruned, prunedCount}
 use Rattle.search.specs.Run.{Reading, Place, Run, Checked, rank, fullQueue, run, join, placesUsed, marks}
-use Rattle.search.specs.Run.{openedMark, prunedMark}
+use Rattle.search.specs.Run.{openedMark, prunedMark, noMark}
 use Rattle.search.proofs.Answered.{readTown, join-town, some-town, answer-padded, answer-places, answer-used}
 use Rattle.search.proofs.Answered.{opened-changes, changes-opened}
 use Rattle.search.proofs.FullQueue.{full-alike}
 use Rattle.search.proofs.Lists.{all-map}
-use Rattle.search.proofs.Marks.{marks-at, mark-opened, mark-pruned, marks-opened, marks-pruned}
+use Rattle.search.proofs.Marks.{marks-at, mark-opened, mark-pruned, mark-neither, marks-opened}
+use Rattle.search.proofs.Marks.{marks-pruned}
 use Rattle.search.proofs.Queue.{candidate-unpruned, candidate-some}
 use Rattle.search.proofs.Ranking.{rank-exactly, first-strict, first-sites, first-once, first-rest, first-length}
 use Rattle.search.proofs.Run.{join-chosen, join-once, join-same}
@@ -66,13 +67,18 @@ module _ {G : Geometry} (E : Directory G) (O : G .Box) (k : ℕ) where
   marked-pruned read ps t h = rw (marks-at E O k (join E O k read ps .openings) t h)
       (mark-pruned E O k (join E O k read ps .openings) (never-pruned read ps) t)
 
+  -- "0 neither"
+  pub marked-neither : (opened : List ℕ) (t : ℕ) → t < tiles
+      → (getD (marks E O k opened) t 0 ≡ noMark) ↔ ((member t opened ≡ false) × (pruned E O k t ≡ false))
+  marked-neither opened t h = rw (marks-at E O k opened t h) (mark-neither E O k opened t)
+
   -- "Opened and struck equal the marks of that sort"
   pub opened-count : (read : Reading G) (ps : List Stop)
-      → count (λ m. eqb m 2) (marks E O k (join E O k read ps .openings)) ≡ length (join E O k read ps .openings)
+      → count (λ m. eqb m openedMark) (marks E O k (join E O k read ps .openings)) ≡ length (join E O k read ps .openings)
   opened-count read ps = marks-opened E O k (join E O k read ps .openings) (opened-once read ps) (only-tiles read ps)
 
   pub pruned-count : (read : Reading G) (ps : List Stop)
-      → count (λ m. eqb m 1) (marks E O k (join E O k read ps .openings)) ≡ prunedCount E O k
+      → count (λ m. eqb m prunedMark) (marks E O k (join E O k read ps .openings)) ≡ prunedCount E O k
   pruned-count read ps = marks-pruned E O k (join E O k read ps .openings) (never-pruned read ps)
 
   -- ---- every run, where what opens agrees with the directory
@@ -118,6 +124,7 @@ module _ {G : Geometry} (E : Directory G) (O : G .Box) (k : ℕ) where
       opened-exactly = λ g f t. (opened-changes L k read ps hs ls e g f t, changes-opened L k read ps hs ls e g f t);
       marked-opened = marked-opened (join E O k read ps .openings);
       marked-pruned = marked-pruned read ps;
+      marked-neither = marked-neither (join E O k read ps .openings);
       none-pruned = never-pruned read ps;
       count-opened = opened-count read ps;
       count-pruned = pruned-count read ps;

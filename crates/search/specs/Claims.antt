@@ -12,7 +12,7 @@ use Rattle.search.specs.Order.{Strict}
 use Rattle.search.specs.Plan.{Geometry, Directory, Town}
 use Rattle.search.specs.Pruning.{pruned, prunedCount}
 use Rattle.search.specs.Run.{Reading, Place, noPlace, rank, join, padded, slices, placesUsed, marks, openedMark}
-use Rattle.search.specs.Run.{prunedMark}
+use Rattle.search.specs.Run.{prunedMark, noMark}
 
 -- What a full search gives: the town's sites, each once, in their ranking, and every site left out behind every listed
 -- one.
@@ -39,6 +39,9 @@ module _ {G : Geometry} (E : Directory G) (O : G .Box) (k : ℕ) (read : Reading
     -- "A tile is marked 2 exactly when it was opened and 1 exactly when it is struck"
     pub marked-opened : (t : ℕ) → t < E .tiles → (getD (marks E O k opened) t 0 ≡ openedMark) ↔ (member t opened ≡ true)
     pub marked-pruned : (t : ℕ) → t < E .tiles → (getD (marks E O k opened) t 0 ≡ prunedMark) ↔ (pruned E O k t ≡ true)
+    -- "0 neither"
+    pub marked-neither : (t : ℕ) → t < E .tiles
+        → (getD (marks E O k opened) t 0 ≡ noMark) ↔ ((member t opened ≡ false) × (pruned E O k t ≡ false))
     -- "no struck tile is opened"
     pub none-pruned : All (λ t. pruned E O k t ≡ false) opened
     -- "and the counts are as the papers define them"

@@ -8,13 +8,15 @@ use lib.ListN.{getD, take}
 use lib.Seq.{take-suc}
 use borrow.Author.Needs.{needs}
 use Rattle.search.specs.Lists.{count}
+use Rattle.search.specs.Run.{openedMark}
 use Rattle.plan.proofs.Tables.{bit-small, bit-byte}
 use Rattle.search.proofs.Lists.{count-append}
 use Rattle.serve.proofs.marks.count_opened.Statement.{statement}
 use Rattle.serve.proofs.marks.count_opened.Tie as tie
 
 abbrev Inv-loop : tie.InvT-loop
-Inv-loop marks tiles opened₀ t₀ opened t = (t ≤ tiles) × ((opened ≤ t) × (opened ≡ count (λ m. eqb m 2) (take t marks)))
+Inv-loop marks tiles opened₀ t₀ opened t =
+    (t ≤ tiles) × ((opened ≤ t) × (opened ≡ count (λ m. eqb m openedMark) (take t marks)))
 
 abbrev μ-loop : tie.MeasureT-loop
 μ-loop marks tiles opened₀ t₀ opened t = tiles - t
@@ -33,7 +35,7 @@ add-opened : tie.Need-add-opened Inv-loop μ-loop
 add-opened c =
     let l : tie.At-loop Inv-loop μ-loop = search in
     let s : tie.Start Inv-loop μ-loop = search in
-    let t = eqb (getD (s .args .marks .now) (l .loop .t) 0) 2 in
+    let t = eqb (getD (s .args .marks .now) (l .loop .t) 0) openedMark in
     let b = bit-byte t in
     let m = bit-small t in
     omega (arith, s .pre)
@@ -52,11 +54,11 @@ loop-again c =
     let marks = s .args .marks .now in
     let at = l .loop .t in
     let here = getD marks at 0 in
-    let b = bit-byte (eqb here 2) in
-    let m = bit-small (eqb here 2) in
+    let b = bit-byte (eqb here openedMark) in
+    let m = bit-small (eqb here openedMark) in
     let q : take (at + 1) marks ≡ take at marks ++ here ∷ [] = rw (add-one at)
     (take-suc marks at 0 (omega (arith, s .pre))) in
-    let more = count-append (λ m. eqb m 2) (take at marks) (here ∷ []) in
+    let more = count-append (λ m. eqb m openedMark) (take at marks) (here ∷ []) in
     (omega arith, (omega arith, rw (b, q, more) (omega (arith, l .loop .inv .1 .1))))
 
 returns : tie.Need-returns Inv-loop μ-loop
