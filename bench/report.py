@@ -235,7 +235,8 @@ def reach_table(run):
     rows.append(['no call allocates', f"the archive asks for {', '.join(f'`{u}`' for u in undefined) or 'nothing'} only and has {calls} system calls",
                  word(set(undefined) <= {'memset', 'memcpy', 'memmove', 'memcmp'} and calls == '0')])
     most = max(run.stack, key=run.stack.get)
-    rows.append(['largest frame under 512 KiB', f'{run.stack[most]:,} bytes of stack, by `{most}`', word(run.stack[most] < STACK_LIMIT)])
+    rows.append(['largest frame under 512 KiB, the limit set for the design (the header promises 128 KiB)',
+                 f'{run.stack[most]:,} bytes of stack, by `{most}`', word(run.stack[most] < STACK_LIMIT)])
     return table(['On the 960 x 40 grid, track, n = 256, k = 8', 'measured', 'holds'], rows)
 
 

@@ -59,7 +59,8 @@ int main(void) {
         if (ends(text)) {
             continue;
         }
-        if (sscanf(text, " tile%*[ \t]%lld %lld %lld %lld%n", &a, &b, &c, &d, &used) == 4 && ends(text + used)) {
+        if (sscanf(text, " tile%*[ \t]%lld%*[ \t]%lld%*[ \t]%lld%*[ \t]%lld%n", &a, &b, &c, &d, &used) == 4 &&
+            ends(text + used)) {
             if (tiles == NEARBY_MAX_TILES) {
                 return failed(line, "more than 960 tiles");
             }
@@ -71,7 +72,8 @@ int main(void) {
             if (alone(tiles - 1, 0, 0) == NEARBY_BOX) {
                 return failed(line, "tile %zu: a coordinate beyond 1,000,000, or a low end above its high end", tiles - 1);
             }
-        } else if (sscanf(text, " site%*[ \t]%lld %lld %lld%n", &a, &b, &c, &used) == 3 && ends(text + used)) {
+        } else if (sscanf(text, " site%*[ \t]%lld%*[ \t]%lld%*[ \t]%lld%n", &a, &b, &c, &used) == 3 &&
+                   ends(text + used)) {
             if (tiles == 0) {
                 return failed(line, "a site before the first tile");
             }

@@ -25,8 +25,9 @@ extern "C" {
 /* The number of a refusal, with what was due; 0 is an answer. docs/FORMAT.md of the sources says what a block holds. */
 enum {
     NEARBY_OK = 0,
-    /* A file, or a block by itself, that cannot be taken. */
-    NEARBY_LENGTH = 1,   /* of the file; due: 512 to 512,000 bytes, a multiple of 512. nearby_block_check: 512 bytes */
+    /* Of a file, or of a block by itself. */
+    NEARBY_LENGTH = 1,   /* of the file; due: a multiple of 512, from 512 to 512,000; whether it is d + T blocks is
+                            NEARBY_TILES. nearby_block_check: 512 bytes */
     NEARBY_SYNC = 2,     /* byte 0 of the block; due: D6 hex */
     NEARBY_CHECK = 3,    /* bytes 510-511; due: the two sums over bytes 1 to 509 */
     NEARBY_KIND = 4,     /* byte 1; due: 1 in a directory block, 2 in a tile's block */
@@ -38,7 +39,7 @@ enum {
     NEARBY_BOX = 9,      /* an entry of the directory; due: coordinates within the limits, no low end above its high end, at
                             most 40 sites */
     NEARBY_STRAY = 10,   /* a site of the tile; due: inside the box that the directory has for the tile */
-    /* A question that cannot be taken. */
+    /* Of a question. */
     NEARBY_K = 11,       /* due: k from 1 to 64 */
     NEARBY_STOPS = 12,   /* due: 1 to 256 stops, as many y as x */
     NEARBY_SPOT = 13,    /* a stop; due: both coordinates within the limits */

@@ -587,8 +587,8 @@ def check_refusals(document):
     constants = dict(re.findall(r"NEARBY_(\w+) = (\d+)", (ROOT / "include/nearby.h").read_text()))
     block, tiles, sites, stops, k, file = (int(constants[name]) for name in (
         "BLOCK_SIZE", "MAX_TILES", "MAX_SITES", "MAX_STOPS", "MAX_K", "MAX_FILE"))
-    numbers = {1: [0, block, file, block], 3: [510, 511, 1, 509], 6: [0, tiles, 0], 9: [sites, 1], 11: [0, k, 1, k],
-               12: [stops, 1, stops], 13: [-1_000_000, 1_000_000]}
+    numbers = {1: [0, block, file, block, 2 * block, file, 6], 3: [510, 511, 1, 509], 6: [0, tiles, 0], 9: [sites, 1],
+               11: [0, k, 1, k], 12: [stops, 1, stops], 13: [-1_000_000, 1_000_000]}
     for row in document.table("No.", "Name", "Refused when"):
         expect(f"name of {row[0]}", row[1], NAMES.get(int(row[0])))
         said = [number(text) for text in re.findall(r"-?\b\d[\d,]*\b", " ".join(row[2:]))]

@@ -310,7 +310,7 @@ def sentences():
         f" tile 5 the key ({near_of((0, 0), 5)}, 5).",
         f"the keys in their order are {', '.join(f'({n}, {t})' for n, t in keys(STOPS[0]))}.",
         f"with near from (6,2): {', '.join(f'({n}, {t})' for n, t in keys(STOPS[1]))}.",
-        f"near of tile 1 is {near_of((0, 0), 1)}, so it may have sites nearer than"
+        f"near of tile 1 is {near_of((0, 0), 1)}, so it may have sites at a smaller D than"
         f" {' and '.join(str(p[0]) for p in after([0], (0, 0), K))}.",
         f"the next key is ({end_0[0]}, {end_0[1]}), and the places are {' and '.join(map(place, LISTS[0]))}.",
         f"the sites (-3,2) of tile 0 and (3,2) of tile 1 are both at {both_at((0, 0), (-3, 2), (3, 2))}",
