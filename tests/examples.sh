@@ -86,6 +86,8 @@ fails() { compare <(printf 'town: %s\nstatus 1\n' "$1") lines_to_town "$2"; }
 bad_box="a coordinate beyond 1,000,000, or a low end above its high end"
 fails "line 2: neither a tile nor a site" 'tile 0 0 1 1\nsight 1 1 1\n'
 fails "line 2: neither a tile nor a site" '# a word and a number in one\ntile5 0 1 1\n'
+fails "line 1: neither a tile nor a site" 'tile 0 0 9-1 9 # no space between two numbers\n'
+fails "line 2: neither a tile nor a site" 'tile 0 0 9 9\nsite 1 2+3\n'
 fails "line 1: a number beyond 32 bits" 'tile 0 0 1 4294967296\n'
 fails "line 2: a number beyond 32 bits" 'tile 0 0 1 1\nsite 0 0 -1\n'
 fails "line 1: a site before the first tile" 'site 0 0 1\n'
