@@ -1,5 +1,6 @@
-// Runs the geometry cases of document 01 through the public calls: a line for each, `ok` where the call gives what the
-// paper says. The same cases are proved of the definitions in geometry's theorem `cases`; this shows the compiled code.
+// Runs cases 1 to 8 of document 01 through the public calls: a line for each, `ok` where the call gives what the paper
+// says. The same cases are proved of the definitions in console's theorem `twelve-cases`; this shows the compiled
+// code.
 use geometry::distance;
 use geometry::distance::DistanceAnswer;
 use geometry::margin;

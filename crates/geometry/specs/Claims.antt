@@ -13,7 +13,7 @@ use Rattle.geometry.specs.Margin.{difference, Reached}
 abbrev pub axisBound : ℕ
 axisBound = 4000000000000
 
--- n is "the least D(p,q) over the whole-number points q of the box"
+-- "the least and the largest D(p,q) over the whole-number points q of the box": n is the least
 pub record Least (b : List (List ℤ)) (p : List ℤ) (n : ℕ) : Type 0 where
   pub point : List ℤ
   pub point-inside : inside b point ≡ true

@@ -9,6 +9,6 @@ maxK = 64
 abbrev pub maxStops : ℕ
 maxStops = 256
 
--- 11: "k: 0 or over 64"
+-- 11, of k: "0 or over 64"
 unfoldable pub validK : ℕ → Bool
 validK k = leb 1 k && leb k maxK
