@@ -81,6 +81,7 @@ module _ (f : List ℕ) (o : List (List ℤ)) (k : ℕ) (lent : List ℕ) where
               (let n = mark-neither (entries f h) o k [] t in (λ x. n .0 x .1, λ x. n .1 (refl, x))));
           tiles = ap (λ (z : Counts). z .tiles) (a .counts);
           count-pruned = ap (λ (z : Counts). z .pruned) (a .counts)
-              ∙ sym (rw (a .left) (rw (filled-take m lent (h .tiles) (a .room)) (marks-pruned (entries f h) o k [] tt)));
+              ∙ sym (rw (a .left) (rw (filled-take m lent (h .tiles) (a .room))
+              (marks-pruned (entries f h) o k [] tt)));
         },
       )

@@ -74,7 +74,8 @@ module _ {G : Geometry} (E : Directory G) (O : G .Box) (k : ℕ) where
 
   -- "Opened and struck equal the marks of that sort"
   pub opened-count : (read : Reading G) (ps : List Stop)
-      → count (λ m. eqb m openedMark) (marks E O k (join E O k read ps .openings)) ≡ length (join E O k read ps .openings)
+      → count (λ m. eqb m openedMark) (marks E O k (join E O k read ps .openings))
+      ≡ length (join E O k read ps .openings)
   opened-count read ps = marks-opened E O k (join E O k read ps .openings) (opened-once read ps) (only-tiles read ps)
 
   pub pruned-count : (read : Reading G) (ps : List Stop)
