@@ -55,11 +55,12 @@ use Rattle.stops.proofs.ArgumentLaws.{arguments-good}
 use Rattle.stops.proofs.StopLaws.{stops-length}
 use Rattle.tiles.proofs.Theorems.{opening-refused, validate-exactly}
 use Rattle.join.specs.Claims.{fullRunFor, SameAnswer, RefusedRun, PrunesAlike, opened, left, Agreeing, Demand2}
-use Rattle.join.specs.Claims.{Demand3}
+use Rattle.join.specs.Claims.{Demand3, UnlikeStruck, PastStays}
 use Rattle.join.specs.Inner.Running.{RunReady}
 use Rattle.join.specs.Join.{Result, End, runFor, lengthsOf, tests, filled, ended, runEnd, joinFrom, joinEnd}
 use Rattle.join.proofs.Alike.{outcome-alike, answer-alike}
 use Rattle.join.proofs.Calling.{tests-pass, run-ready}
+use Rattle.join.proofs.Past.{past}
 use Rattle.join.proofs.Running.{smallest, lawful}
 
 first-stop : (P : List ℤ → Type 0) (ps : List (List ℤ)) → 0 < length ps → All P ps → (p : List ℤ) × P p
@@ -78,6 +79,11 @@ never-pruned f h cols k = run.never-pruned (entries f h) (around cols) k (openin
 pub lengths-decide : (f : List ℕ) (cols : List (List ℤ)) (k : ℕ) (out out′ : Slices) → lengthsOf out′ ≡ lengthsOf out
     → joinEnd f cols k out′ .outcome ≡ joinEnd f cols k out .outcome
 lengths-decide = outcome-alike
+
+-- "Elements past these never change", of refused calls too
+pub past-stays : (f : List ℕ) (cols : List (List ℤ)) (k : ℕ) (out : Slices) (h : Header) → directory f ≡ accepted h
+    → PastStays cols k h out (joinEnd f cols k out .slices)
+past-stays = past
 
 -- "Any file of the same length, equal to this one in every byte of the directory and of the opened tiles"
 module _ (f : List ℕ) (cols : List (List ℤ)) (k : ℕ) (g : List ℕ) (h : Header) (d : directory f ≡ accepted h)
@@ -118,15 +124,12 @@ module _ (f : List ℕ) (cols : List (List ℤ)) (k : ℕ) (g : List ℕ) (h : H
 -- "no struck tile is opened, not even in a refused run", as it can be seen: whatever the blocks of struck tiles hold,
 -- outcome and slices are the same
 pub pruned-unread : (f : List ℕ) (cols : List (List ℤ)) (k : ℕ) (out : Slices) (g : List ℕ) (h : Header)
-    → directory f ≡ accepted h → SameDirectory f g h
-    → ((t : ℕ) → t < h .tiles → pruned (entries f h) (around cols) k t ≡ false
-    → blockAt g (tilePosition h t) ≡ blockAt f (tilePosition h t))
-    → joinEnd g cols k out ≡ joinEnd f cols k out
+    → directory f ≡ accepted h → UnlikeStruck f g h cols k → joinEnd g cols k out ≡ joinEnd f cols k out
 unfolding runFor
-pruned-unread f cols k out g h d same others =
-    other-files f cols k g h d same
+pruned-unread f cols k out g h d u =
+    other-files f cols k g h d (u .same)
     (all-both (λ t. t < h .tiles) (λ t. pruned (entries f h) (around cols) k t ≡ false)
-    (λ t. blockAt g (tilePosition h t) ≡ blockAt f (tilePosition h t)) (runFor f h cols k .openings) others
+    (λ t. blockAt g (tilePosition h t) ≡ blockAt f (tilePosition h t)) (runFor f h cols k .openings) (u .others)
     (run.only-tiles (entries f h) (around cols) k (openingOf f h) (stopsOf cols)) (never-pruned f h cols k)) out
 
 module _ (f : List ℕ) (cols : List (List ℤ)) (k : ℕ) (out : Slices) where
@@ -306,6 +309,8 @@ module _ (f : List ℕ) (cols : List (List ℤ)) (k : ℕ) (out : Slices) where
                 ∙ ap length (d .lists town g)
                 ∙ length-map (stopsOf cols) (λ p. fullSearch (entries f h) k p town) ∙ n in
                 place-left r a m i j p q ∙ d .places town g [] i j (omega arith) q;
+            ranking = λ town g p. run.ranking-exactly (entries f h) (around cols) k (lawful (a .ready axes)) p town
+                (g .directory);
             opened-exactly = d .opened-exactly;
             marked-opened = λ t l. rw (mark-left r a t l) (d .marked-opened t l);
             marked-pruned = λ t l. rw (mark-left r a t l) (d .marked-pruned t l);

@@ -3,10 +3,12 @@
 --   fullRunFor   the run that striking is compared with
 --   SameAnswer   two calls with the same lists, marks and counts
 --   RefusedRun   a call whose run is refused
+--   UnlikeStruck two files that differ in the blocks of struck tiles only
+--   PastStays    a call and the elements that it has no use for
 --   PrunesAlike  a call that answers, and the call that strikes
 --   Demand2      a call on a file that passes the full check
 --   Demand3      a call that answers
-use Prim.Native.Nat.{ℕ, _+_, _*_, _<_}
+use Prim.Native.Nat.{ℕ, _+_, _*_, _<_, _≤_}
 use mathlib.Core.Bool.{true, false}
 use mathlib.Core.List.{List, []}
 use mathlib.Core.Logic.{_↔_}
@@ -55,6 +57,18 @@ pub record RefusedRun (f : List ℕ) (h : Header) (cols : List (List ℤ)) (k nu
   pub unpruned : pruned (entries f h) (around cols) k tile ≡ false
   pub some : 0 < countAt f tile
   pub refuses : openTile f h tile ≡ refused number block
+
+-- g has the length and the directory of f, and the block of every tile that is not struck; those of the struck ones may
+-- hold anything
+pub record UnlikeStruck (f g : List ℕ) (h : Header) (cols : List (List ℤ)) (k : ℕ) : Type 0 where
+  pub same : SameDirectory f g h
+  pub others : (t : ℕ) → t < h .tiles → pruned (entries f h) (around cols) k t ≡ false
+      → blockAt g (tilePosition h t) ≡ blockAt f (tilePosition h t)
+
+-- "Elements past these never change": past the first n × k places and the first T marks
+pub record PastStays (cols : List (List ℤ)) (k : ℕ) (h : Header) (before after : Slices) : Type 0 where
+  pub lists : (i : ℕ) → stopCount cols * k ≤ i → placeAt (after .lists) i ≡ placeAt (before .lists) i
+  pub marks : (t : ℕ) → h .tiles ≤ t → getD (after .marks) t 0 ≡ getD (before .marks) t 0
 
 -- strike, for "the smallest box around the stops", the same k and any marks that are long enough
 pub record PrunesAlike (f : List ℕ) (cols : List (List ℤ)) (k : ℕ) (out : Slices) (r : Result) (lent : List ℕ) : Type 0
@@ -109,6 +123,10 @@ module _ (f : List ℕ) (cols : List (List ℤ)) (k : ℕ) (out : Slices) (h : H
     pub lists : (town : Town plane) → Agreeing town → (i j : ℕ) → i < stopCount cols → j < k
         → placeAt (left .lists) (i * k + j)
         ≡ getD (fullSearch (entries f h) k (getD (stopsOf cols) i []) town) j noPlace
+    -- the order of such a town's sites: "by D from the stop, then tile, then slot"
+    pub ranking : (town : Town plane) → Agreeing town → (p : List ℤ) (a b : Place)
+        (s : SiteOf (entries f h) p town a) (u : SiteOf (entries f h) p town b)
+        → (rank a b ≡ true) ↔ ByDistanceTileSlot (entries f h) s u
     -- "A tile was opened exactly when some other filling of it .. changes what the full search gives for at least one
     -- stop"
     pub opened-exactly : (town : Town plane) → Agreeing town → (t : ℕ)

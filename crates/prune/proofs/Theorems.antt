@@ -2,8 +2,9 @@
 -- `call::prune`, its definitions `pruneCall` and `marksAfter` (specs/Prune), what is claimed `PrunesExactly`
 -- (specs/Claims). f is the file, o the box O.
 use Prim.Native.Nat.{ℕ, _≤_}
-use mathlib.Core.List.{List, []}
+use mathlib.Core.List.{List, [], map}
 use mathlib.Core.Path.{_≡_, refl, sym, ap, _∙_}
+use native.Mathlib.Omega.{arith}
 use lib.Dec.{leb}
 use lib.IntN.{ℤ}
 use lib.ListN.{length}
@@ -20,7 +21,8 @@ use Rattle.search.specs.Pruning.{pruned, prunedCount}
 use Rattle.search.specs.Run.{mark, marks}
 use Rattle.base.proofs.Outcomes.{accepted-injective, require-accepted, andThen-accepted}
 use Rattle.base.proofs.Tests.{by-test}
-use Rattle.plan.proofs.Tables.{filled-at, filled-take}
+use Rattle.codec.proofs.Over.{getD-after}
+use Rattle.plan.proofs.Tables.{range-length, filled-at, filled-take}
 use Rattle.search.proofs.Lists.{all-any}
 use Rattle.search.proofs.Marks.{mark-pruned, mark-neither, marks-pruned}
 use Rattle.search.proofs.SameEntries.{map-same}
@@ -83,5 +85,7 @@ module _ (f : List ℕ) (o : List (List ℤ)) (k : ℕ) (lent : List ℕ) where
           count-pruned = ap (λ (z : Counts). z .pruned) (a .counts)
               ∙ sym (rw (a .left) (rw (filled-take m lent (h .tiles) (a .room))
               (marks-pruned (entries f h) o k [] tt)));
+          past = λ t l. rw (a .left) (getD-after lent 0 t (map m (range 0 (h .tiles)))
+              (omega (arith, range-length m 0 (h .tiles), l)));
         },
       )

@@ -1,5 +1,5 @@
 -- What the theorem claims of a call that strikes and answers: about the file, the answer, and the marks at the end.
-use Prim.Native.Nat.{ℕ, _<_}
+use Prim.Native.Nat.{ℕ, _<_, _≤_}
 use mathlib.Core.Bool.{true, false}
 use mathlib.Core.List.{List}
 use mathlib.Core.Logic.{_↔_}
@@ -30,3 +30,5 @@ module _ (f : List ℕ) (o : List (List ℤ)) (k : ℕ) (lent : List ℕ) where
     -- "The result carries T and the number struck": as many as there are marks of that sort
     pub tiles : c .tiles ≡ h .tiles
     pub count-pruned : c .pruned ≡ count (λ m. eqb m prunedMark) (take (h .tiles) left)
+    -- "Elements past these never change."
+    pub past : (t : ℕ) → h .tiles ≤ t → getD left t 0 ≡ getD lent t 0

@@ -1,5 +1,5 @@
 // Pruning (document 01, "Striking"): the tiles that no stop of O can need. The call is call::prune.
 pub mod call;
-pub mod compare;
+mod compare;
 pub mod marking;
-pub mod tables;
+mod tables;
