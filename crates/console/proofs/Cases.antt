@@ -21,7 +21,7 @@ use Rattle.tiles.specs.Tile.{sitesAt}
 use Rattle.encode.specs.Supply.{boxOf, offset}
 use Rattle.encode.specs.Encode.{headBytes, checkBytes, bodyBytes, blockBytes, boxBytes, entryBytes, siteBytes}
 use Rattle.encode.specs.Encode.{directoryBytes, tileBytes, tileBytesOf, fileBytes, fileLength}
-use Rattle.writer.specs.Write.{tilesFit, entryFits, listsFit, sitesFit, tileFits, writeTests, writeCall}
+use Rattle.writer.specs.Write.{tilesFit, entryFits, listsFit, sitesFit, tileFits, writeTests, writeCall, writeExit}
 use Rattle.search.specs.Lists.{count, total, filter, member}
 use Rattle.search.specs.Order.{lex, insert, sort}
 use Rattle.search.specs.Plan.{ranks, ranked}
@@ -49,7 +49,7 @@ unfolding every withinLimits validAxis validBox validPoint onAxis inside gap squ
     directoryRest directory boxAt countAt inTurn siteOffset siteIn tilePadding siteInside tileBlock tilePosition
     openTile siteAt sitesAt boxOf offset headBytes checkBytes bodyBytes blockBytes boxBytes entryBytes siteBytes
     directoryBytes tileBytes tileBytesOf fileBytes fileLength tilesFit entryFits listsFit sitesFit tileFits writeTests
-    writeCall count total filter member lex insert sort ranks ranked pruned
+    writeCall writeExit count total filter member lex insert sort ranks ranked pruned
     prunedCount rank aheadOf listing placesOf nearest contents opening byKey ahead candidate queue follow enough serve
     run placesUsed join padded slices mark marks validK validStop stopsDue stopsValid room arguments lay cleared
     openingOf runFor tests filled ended runEnd joinFrom joinEnd widthUpTo width digits decimal labelled refusedLine
@@ -73,7 +73,7 @@ twelve-cases = (
                 (refl, refl),
                 (
                   (λ sync a c. refl),
-                  ((λ sync a c. refl), ((λ sync a c. refl), ((refl, refl), ((refl, refl), ((refl, refl), tt))))),
+                  ((λ sync a c. refl), ((λ sync a c. refl), ((refl, refl, refl), ((refl, refl), ((refl, refl), tt))))),
                 ),
               ),
             ),

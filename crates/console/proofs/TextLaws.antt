@@ -10,14 +10,14 @@ use lib.Dec.{ltb}
 use borrow.Author.Tests.{lt-ltb}
 use lib.ListN.{length, getD, set, drop, length-append, drop-of-length-le}
 use lib.Seq.{drop-cons}
-use Rattle.base.proofs.Tests.{cond-ind}
+use Rattle.base.proofs.Tests.{cond-ind, by-test}
 use Rattle.codec.specs.Over.{over}
 use Rattle.codec.specs.Tabulate.{joined}
 use Rattle.codec.proofs.Over.{length-over, over-nil, over-cons, over-next, over-last}
 use Rattle.console.specs.Text.{widthUpTo, width, digits, decimal, labelled, Wrote}
 
 -- ---- digits
-length-digits : (w n : ℕ) → length (digits w n) ≡ w
+pub length-digits : (w n : ℕ) → length (digits w n) ≡ w
 unfolding digits
 length-digits zero n = refl
 length-digits (suc w) n = length-append (digits w (n / 10)) _ ∙ ap (λ k. k + 1) (length-digits w (n / 10)) ∙ add-one w
@@ -100,7 +100,7 @@ decimal-width n = length-digits (width n) n
 
 decimal-short : (w n : ℕ) → n < 10 ^ suc w → length (decimal n) ≤ suc w
 unfolding width
-decimal-short w n l = omega (arith, decimal-width n, width-few w 19 n l)
+decimal-short w n l = omega (arith, decimal-width n, width-few w n n l)
 
 pub width-more : (more n : ℕ) → ltb n 10 ≡ false → widthUpTo (suc more) n ≡ suc (widthUpTo more (n / 10))
 unfolding widthUpTo
@@ -114,6 +114,25 @@ width-one (suc more) n e = rw e
 pub width-none : (n : ℕ) → widthUpTo 0 n ≡ 1
 unfolding widthUpTo
 width-none n = refl
+
+-- room for more digits than n has changes nothing
+width-same : (a b n : ℕ) → n < 10 ^ suc a → n < 10 ^ suc b → widthUpTo a n ≡ widthUpTo b n
+width-same zero b n h l = width-one zero n (lt-ltb n 10 h) ∙ sym (width-one b n (lt-ltb n 10 h))
+width-same (suc a) zero n h l = width-one (suc a) n (lt-ltb n 10 l) ∙ sym (width-one zero n (lt-ltb n 10 l))
+width-same (suc a) (suc b) n h l = by-test (ltb n 10)
+    (λ e. width-one (suc a) n e ∙ sym (width-one (suc b) n e))
+    (λ e.
+    let rest = width-same a b (n / 10) (omega (arith, h, pow-suc 10 (suc a))) (omega (arith, l, pow-suc 10 (suc b))) in
+    width-more a n e ∙ ap suc rest ∙ sym (width-more b n e))
+
+pub below-power : (n : ℕ) → n < 10 ^ suc n
+below-power zero = omega arith
+below-power (suc n) = omega (arith, below-power n, pow-suc 10 (suc n))
+
+-- a number of 64 bits has at most 20 digits
+pub width-within : (n : ℕ) → n < 10 ^ 20 → width n ≡ widthUpTo 19 n
+unfolding width
+width-within n h = width-same n 19 n (below-power n) h
 
 -- ---- copying
 pub copy-start : (l text : List ℕ) (at : ℕ) → over l (at + 0) (drop 0 text) ≡ over l at text

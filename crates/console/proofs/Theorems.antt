@@ -12,6 +12,7 @@ use Rattle.base.proofs.Tests.{cond-ind, by-test}
 use Rattle.search.proofs.Lists.{all-append}
 use Rattle.console.specs.Claims.{Digit, InDecimal}
 use Rattle.console.specs.Text.{widthUpTo, width, digits, decimal, valueFrom}
+use Rattle.console.proofs.TextLaws.{length-digits, below-power}
 
 value-last : (a : ℕ) (l : List ℕ) (c : ℕ) → valueFrom a (l ++ c ∷ []) ≡ 10 * valueFrom a l + (c - 48)
 unfolding valueFrom
@@ -52,13 +53,6 @@ some-width zero n = omega arith
 some-width (suc more) n =
     cond-ind (ltb n 10) 1 (suc (widthUpTo more (n / 10))) (λ w. 0 < w) (λ e. omega arith) (λ e. omega arith)
 
-length-digits : (w n : ℕ) → length (digits w n) ≡ w
-unfolding digits
-length-digits zero n = refl
-length-digits (suc w) n =
-    let e = length-digits w (n / 10) in
-    length-append (digits w (n / 10)) _ ∙ omega arith
-
 -- of a number that is not 0
 first-digit : (more n : ℕ) → 0 < n → n < 10 ^ suc more → 48 < getD (digits (widthUpTo more n) n) 0 0
 unfolding widthUpTo digits
@@ -78,14 +72,14 @@ zero-alone : length (decimal 0) ≡ 1
 unfolding decimal width widthUpTo digits
 zero-alone = refl
 
--- "in decimal": every number of 64 bits is below 10^20, and the program prints no other (its numbers are u64 and u32)
-pub decimal-exact : (n : ℕ) → n < 10 ^ 20 → InDecimal n (decimal n)
+-- "in decimal"
+pub decimal-exact : (n : ℕ) → InDecimal n (decimal n)
 unfolding decimal width
-decimal-exact n h = record {
-  some = omega (arith, length-digits (widthUpTo 19 n) n, some-width 19 n);
-  value = value-digits (widthUpTo 19 n) n (width-enough 19 n h);
-  digits = all-digits (widthUpTo 19 n) n;
+decimal-exact n = record {
+  some = omega (arith, length-digits (widthUpTo n n) n, some-width n n);
+  value = value-digits (widthUpTo n n) n (width-enough n n (below-power n));
+  digits = all-digits (widthUpTo n n) n;
   leading = λ long. by-test (ltb 0 n)
-      (λ e. first-digit 19 n (ltb-true 0 n e) h)
+      (λ e. first-digit n n (ltb-true 0 n e) (below-power n))
       (λ e. let none : n ≡ 0 = omega (arith, ltb-false 0 n e) in absurd (omega (arith, zero-alone, rw none at long)));
 }

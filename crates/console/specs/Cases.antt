@@ -4,11 +4,11 @@
 --
 --   box, from0                    boxes by their ends
 --   townFile, origin, request     the file of case 12, its stop, and what the program is given
---   holding, emptyFor             slices at the end and at the start of the call
+--   holding, lentFor              slices at the end and at the start of the call
 --   Case, table, Says, AllSay     the cases, and what they say
-use Prim.Native.Nat.{ℕ}
+use Prim.Native.Nat.{ℕ, _+_}
 use Prim.Native.String.{String}
-use mathlib.Core.List.{List, [], _∷_, _++_, map}
+use mathlib.Core.List.{List, [], _∷_, _++_}
 use mathlib.Core.Path.{_≡_}
 use lib.IntN.{ℤ, pos, negℤ}
 use lib.ListN.{length, replicate}
@@ -21,9 +21,9 @@ use Rattle.encode.specs.Supply.{Supply, supply}
 use Rattle.geometry.specs.Distance.{minDist, maxDist}
 use Rattle.geometry.specs.Margin.{margin}
 use Rattle.join.specs.Join.{Result, joinEnd}
-use Rattle.list.specs.Lists.{Slices, lent}
+use Rattle.list.specs.Lists.{Slices, lent, dists, sites, cues}
 use Rattle.search.specs.declared.Place.{Place}
-use Rattle.writer.specs.Write.{writeCall}
+use Rattle.writer.specs.Write.{writeCall, writeExit}
 use Rattle.console.specs.Output.{output}
 use Rattle.console.specs.Text.{textBytes}
 
@@ -56,12 +56,13 @@ origin = (pos 0 ∷ []) ∷ (pos 0 ∷ []) ∷ []
 abbrev pub request : ℕ → List ℕ
 request k = bytes32 k ++ bytes32 1 ++ bytesSigned (pos 0) ++ bytesSigned (pos 0) ++ townFile
 
--- slices with these places and marks
-abbrev pub holding : List Place → List ℕ → Slices
-holding l m = lent (map (λ a. a .dist) l) (map (λ a. a .site) l) (map (λ a. a .cue) l) m
+-- what is lent holds 9, and is one element longer than needed
+abbrev pub lentFor : ℕ → Slices
+lentFor k = lent (replicate (k + 1) 9) (replicate (k + 1) 9) (replicate (k + 1) 9) (replicate 4 9)
 
-abbrev pub emptyFor : ℕ → Slices
-emptyFor k = lent (replicate k 0) (replicate k 0) (replicate k 0) (replicate 3 0)
+-- what is left: these places and marks, and the last element as it was
+abbrev pub holding : List Place → List ℕ → Slices
+holding l m = lent (dists l ++ 9 ∷ []) (sites l ++ 9 ∷ []) (cues l ++ 9 ∷ []) (m ++ 9 ∷ [])
 
 pub data Case : Type 0 where
   margin-of : List (List ℤ) → List (List ℤ) → List (List ℤ) → ℤ → Case
@@ -103,9 +104,10 @@ abbrev pub Says : Case → Type 0
 Says (margin-of o e b m) = margin o e b ≡ m
 Says (near-far-of p b near far) = (minDist b p ≡ near) × (maxDist b p ≡ far)
 Says (check-of bytes s) = (sync a c : ℕ) → sums (sync ∷ (bytes ++ (a ∷ c ∷ []))) ≡ s
-Says (town-written n) = (writeCall townLists n ≡ accepted n) × (length townFile ≡ n)
+Says (town-written n) =
+    (writeCall townLists n ≡ accepted n) × (writeExit townLists (replicate n 0) ≡ townFile) × (length townFile ≡ n)
 Says (town-asked k r l m printed) =
-    (joinEnd townFile origin k (emptyFor k) ≡ record { outcome = accepted r; slices = holding l m })
+    (joinEnd townFile origin k (lentFor k) ≡ record { outcome = accepted r; slices = holding l m })
     × (output (request k) ≡ textBytes printed)
 
 abbrev pub AllSay : List Case → Type 0

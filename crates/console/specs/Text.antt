@@ -14,13 +14,14 @@ abbrev pub textBytes : String → List ℕ
 textBytes nil = []
 textBytes (c ∙∷ s) = code c ∷ textBytes s
 
--- how many digits n has in decimal: one below 10, else one more than n / 10; a number of 64 bits has at most 20
+-- how many digits n has in decimal, at most `more` + 1: one below 10, else one more than n / 10
 unfoldable pub widthUpTo : ℕ → ℕ → ℕ
 widthUpTo zero n = 1
 widthUpTo (suc more) n = cond (ltb n 10) 1 (suc (widthUpTo more (n / 10)))
 
+-- n has no more than n + 1
 unfoldable pub width : ℕ → ℕ
-width n = widthUpTo 19 n
+width n = widthUpTo n n
 
 -- the last w digits of n, as characters; 48 is '0'
 unfoldable pub digits : ℕ → ℕ → List ℕ

@@ -1,10 +1,10 @@
 use Prim.Native.Nat.{suc, _+_, _-_, _≤_}
-use mathlib.Core.Path.{_≡_, refl}
+use mathlib.Core.Path.{_≡_, sym, ap}
 use native.Mathlib.Omega.{arith}
 use borrow.Author.Needs.{needs}
 use borrow.Author.Tests.{lt-ltb, le-ltb}
 use Rattle.console.specs.Text.{width, widthUpTo}
-use Rattle.console.proofs.TextLaws.{width-more, width-one, width-none}
+use Rattle.console.proofs.TextLaws.{width-more, width-one, width-none, width-within}
 use Rattle.console.proofs.text.width.Statement.{statement}
 use Rattle.console.proofs.text.width.Tie as tie
 
@@ -15,8 +15,9 @@ abbrev μ-loop : tie.MeasureT-loop
 μ-loop n w₀ rest₀ w rest = 20 - w
 
 loop-holds : tie.Need-loop-holds Inv-loop μ-loop
-unfolding width
-loop-holds c = (omega arith, omega arith, refl)
+loop-holds c =
+    let s : tie.Start Inv-loop μ-loop = search in
+    (omega arith, omega arith, ap (λ w. 1 + w) (sym (width-within (s .args .n) (omega (arith, s .fits .n)))))
 
 returns : tie.Need-returns Inv-loop μ-loop
 returns c =
