@@ -1,4 +1,8 @@
 pub mod Tests
 pub mod Outcomes
+pub mod InTurn
 pub mod Every
 pub mod Lists
+pub mod Tabulate
+pub mod Over
+pub mod Joined

@@ -1,9 +1,15 @@
--- Laws of outcomes: what an accepted outcome shows of its parts. Assumes nothing.
-use Prim.Native.Nat.{ℕ}
+-- Laws of outcomes: what an accepted outcome shows of its parts, proof by an outcome, answers by number. Assumes nothing.
+use Prim.Native.Nat.{ℕ, zero, suc}
 use mathlib.Core.Bool.{Bool, true, false}
-use mathlib.Core.Path.{_≡_, refl}
+use mathlib.Core.Path.{_≡_, refl, sym, ap, _∙_}
 use native.Mathlib.Omega.{arith}
+use Rattle.base.specs.Inner.Number.{numberOutcome}
 use Rattle.base.specs.Refusal.{Outcome, accepted, refused, require, andThen}
+
+-- by an outcome
+pub by-outcome : {X Y : Type 0} (o : Outcome X) → ((x : X) → o ≡ accepted x → Y) → ((n b : ℕ) → o ≡ refused n b → Y) → Y
+by-outcome (accepted x) f g = f x refl
+by-outcome (refused n b) f g = g n b refl
 
 -- no outcome is both accepted and refused
 pub accepted-refused {ℓ} : {A : Type 0} {X : Type ℓ} {o : Outcome A} {a : A} {n b : ℕ} → o ≡ accepted a
@@ -35,3 +41,19 @@ pub andThen-refused : {A B : Type 0} (o : Outcome A) (g : A → B) {n p : ℕ}
     → o ≡ refused n p
 andThen-refused (accepted a) g e = accepted-refused refl e
 andThen-refused (refused n p) g e = cc
+
+-- an answer that was taken apart
+pub told : {A B : Type 0} (outcome : A → Outcome B) {a x : A} {o : Outcome B} → outcome a ≡ o → a ≡ x → o ≡ outcome x
+told outcome e q = sym e ∙ ap outcome q
+
+-- an answer by number
+module _ (n p : ℕ) {o : Outcome Unit} where
+  pub number-accepted : numberOutcome n p ≡ o → n ≡ 0 → o ≡ accepted tt
+  number-accepted e z = sym e ∙ ap (λ k. numberOutcome k p) z
+
+  pub number-refused : numberOutcome n p ≡ o → (n ≡ 0 → ⊥) → o ≡ refused n p
+  number-refused e z = sym e ∙ go n z
+    where
+      go : (n : ℕ) → (n ≡ 0 → ⊥) → numberOutcome n p ≡ refused n p
+      go zero z = absurd (z refl)
+      go (suc n) z = refl

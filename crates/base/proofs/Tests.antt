@@ -1,9 +1,11 @@
--- Laws of tests: what a true conjunction shows, and proof by the value of a test. Assumes nothing.
+-- Laws of tests: what a true conjunction shows, proof by the value of a test, what a branch of the code shows. Assumes
+-- nothing.
 use Prim.Native.Nat.{ℕ}
-use mathlib.Core.Bool.{Bool, true, false, cond, _&&_}
-use mathlib.Core.Path.{_≡_, refl}
+use mathlib.Core.Bool.{Bool, true, false, cond, not, _&&_}
+use mathlib.Core.Path.{_≡_, refl, sym, _∙_}
 use native.Mathlib.Omega.{arith}
-use lib.Dec.{T}
+use lib.Dec.{T, eqb}
+use borrow.Author.Tests.{not-true, not-false, eq-eqb, ne-eqb}
 
 pub true-T : {a : Bool} → a ≡ true → T a
 true-T e = rw e tt
@@ -40,3 +42,19 @@ cond-ind false x y P f g = g refl
 pub cond-ap : {A B : Type 0} (f : A → B) (c : Bool) (x y : A) → f (cond c x y) ≡ cond c (f x) (f y)
 cond-ap f true x y = refl
 cond-ap f false x y = refl
+
+-- a call's answer r, which is the test t, behind an `if !r`
+module _ {r t : Bool} (e : r ≡ t) where
+  pub passed : not r ≡ false → t ≡ true
+  passed h = sym e ∙ not-false r h
+
+  pub failed : not r ≡ true → t ≡ false
+  failed h = sym e ∙ not-true r h
+
+-- a number r that was read, which is x, compared with one that is due
+module _ {r x : ℕ} (e : r ≡ x) {p y : ℕ} (q : p ≡ y) where
+  pub equal : r ≡ p → eqb x y ≡ true
+  equal h = eq-eqb x y (sym e ∙ h ∙ q)
+
+  pub unequal : (r ≡ p → ⊥) → eqb x y ≡ false
+  unequal h = ne-eqb x y (λ z. h (e ∙ z ∙ sym q))

@@ -1,5 +1,5 @@
 -- Document 01, "Numbers given to bad input": the table's numbers under its words, and what a call comes to.
-use Prim.Native.Nat.{ℕ}
+use Prim.Native.Nat.{ℕ, zero, suc, _+_}
 use mathlib.Core.Bool.{Bool, true, false}
 
 abbrev pub #length : ℕ
@@ -61,3 +61,8 @@ require false number block next = refused number block
 abbrev pub andThen : {A B : Type 0} → Outcome A → (A → Outcome B) → Outcome B
 andThen (accepted a) next = next a
 andThen (refused number block) next = refused number block
+
+-- n tests in turn, of p and the numbers after it: the first refusal decides
+unfoldable pub inTurn : {A : Type 0} → (ℕ → Outcome A) → ℕ → ℕ → Outcome Unit
+inTurn test p zero = accepted tt
+inTurn test p (suc n) = andThen (test p) (λ _. inTurn test (p + 1) n)

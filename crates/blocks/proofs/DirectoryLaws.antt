@@ -7,12 +7,13 @@ use native.Mathlib.Nat.{add-zero}
 use native.Mathlib.Omega.{arith}
 use lib.ListN.{length}
 use borrow.Author.Tests.{leb-true, le-leb, eqb-true, eq-eqb}
-use Rattle.base.specs.Refusal.{accepted, andThen, #length}
+use Rattle.base.specs.Refusal.{accepted, andThen, #length, inTurn}
+use Rattle.base.specs.Tabulate.{tabulate}
 use Rattle.geometry.specs.Box.{validBox}
+use Rattle.base.proofs.InTurn.{turns-each, turns-all}
 use Rattle.base.proofs.Outcomes.{accepted-injective, require-accepted, andThen-accepted}
 use Rattle.base.proofs.Tests.{and-both}
 use Rattle.codec.specs.Number.{limit16, i32At}
-use Rattle.codec.specs.Tabulate.{tabulate}
 use Rattle.base.proofs.Every.{every-at, every-holds}
 use Rattle.blocks.specs.Accepted.{GoodTiles, GoodDirectoryBlock, GoodLength, GoodDirectory}
 use Rattle.blocks.specs.Block.{blockAt, entriesIn, headerIn, blockHead}
@@ -20,10 +21,8 @@ use Rattle.blocks.specs.Directory.{directoryBlocks, entriesDue, entryOff
 use Rattle.blocks.specs.Directory.{entryValid, directoryBlock, directoryBlockAt, lengthDue, directoryRest}
 use Rattle.blocks.specs.Directory.{directory, boxAt, countAt}
 use Rattle.blocks.specs.Layout.{axes, blockSize, maxLength, directoryKind, entriesPerBlock, maxSites, maxTiles}
-use Rattle.blocks.specs.Outcome.{inTurn}
 use Rattle.blocks.specs.declared.header.Header.{Header}
 use Rattle.blocks.proofs.BlockLaws.{head-good, head-enough}
-use Rattle.blocks.proofs.OutcomeLaws.{turns-each, turns-all}
 
 -- ---- test 6
 pub tiles-good : (h first : Header) (blocks : ℕ) → tilesDue h first blocks ≡ true → (h ≡ first) × GoodTiles h blocks

@@ -10,6 +10,7 @@ use lib.Seq.{slice, getD-take, getD-drop, ext-getD}
 use borrow.Author.Tests.{eqb-true}
 use Rattle.base.specs.Refusal.{accepted, require, andThen, #length}
 use Rattle.geometry.specs.Box.{validBox}
+use Rattle.base.proofs.InTurn.{turns-same}
 use Rattle.base.proofs.Outcomes.{andThen-same}
 use Rattle.base.proofs.Tests.{and-both}
 use Rattle.blocks.specs.Accepted.{GoodDirectory}
@@ -22,7 +23,6 @@ use Rattle.blocks.specs.Same.{SameDirectory}
 use Rattle.blocks.specs.declared.header.Header.{Header}
 use Rattle.blocks.proofs.ChecksumLaws.{sums-small}
 use Rattle.blocks.proofs.DirectoryLaws as laws
-use Rattle.blocks.proofs.OutcomeLaws.{turns-same}
 
 -- "a stored 255 never agrees"
 pub stored-255 : (s : List ℕ) → checkAgrees s ≡ true → (getD s checkAt 0 < 255) × (getD s (checkAt + 1) 0 < 255)

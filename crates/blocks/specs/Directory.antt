@@ -5,17 +5,16 @@ use mathlib.Core.List.{List, [], _∷_}
 use lib.Dec.{eqb, leb}
 use lib.IntN.{ℤ}
 use lib.ListN.{length}
-use Rattle.base.specs.Refusal.{Outcome, accepted, require, andThen, #length, #tiles, #entries, #padding, #box}
+use Rattle.base.specs.Refusal.{Outcome, accepted, require, andThen, #length, #tiles, #entries, #padding, #box, inTurn}
 use Rattle.base.specs.Every.{every}
+use Rattle.base.specs.Tabulate.{tabulate}
 use Rattle.codec.specs.Zeros.{zeros}
 use Rattle.codec.specs.Number.{u16At, i32At}
-use Rattle.codec.specs.Tabulate.{tabulate}
 use Rattle.geometry.specs.Box.{validBox}
 use Rattle.blocks.specs.Block.{blockAt, headerIn, entriesIn, blockHead}
 use Rattle.blocks.specs.Layout.{axes, blockSize, maxLength, directoryKind, reservedAt, payloadAt, checkAt}
 use Rattle.blocks.specs.Layout.{entrySize, numberOffset, countOffset, zeroOffset, entriesPerBlock, maxSites}
 use Rattle.blocks.specs.Layout.{maxTiles}
-use Rattle.blocks.specs.Outcome.{inTurn}
 use Rattle.blocks.specs.declared.header.Header.{Header}
 
 -- "d = T/24 rounded up"

@@ -5,4 +5,3 @@ pub mod Block
 pub mod Directory
 pub mod Accepted
 pub mod Same
-pub mod Inner

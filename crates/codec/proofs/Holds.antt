@@ -9,12 +9,12 @@ use lib.Dec.{ltb}
 use lib.ListN.{length, getD, take, drop, replicate, length-append, length-replicate, getD-replicate, List·getD-append}
 use lib.Seq.{getD-append-add, getD-take, getD-drop, ext-getD, length-take-le}
 use borrow.Author.Tests.{ltb-true, ltb-false}
+use Rattle.base.specs.Over.{over}
+use Rattle.base.specs.Tabulate.{joined}
+use Rattle.base.proofs.Over.{getD-run, length-over}
 use Rattle.base.proofs.Tests.{by-test}
 use Rattle.codec.specs.Zeros.{zeros}
-use Rattle.codec.specs.Over.{over}
-use Rattle.codec.specs.Tabulate.{joined}
 use Rattle.codec.proofs.Zeros.{zeros-at, zeros-hold}
-use Rattle.codec.proofs.Over.{getD-run, length-over}
 
 -- s has vs from index i on
 pub record Holds (s : List ℕ) (i : ℕ) (vs : List ℕ) : Type 0 where

@@ -1,7 +1,4 @@
 pub mod Zeros
 pub mod Number
-pub mod Tabulate
-pub mod Over
-pub mod Joined
 pub mod Holds
 pub mod Bytes

@@ -1,5 +1,3 @@
 pub mod Zeros
 pub mod Number
-pub mod Tabulate
-pub mod Over
 pub mod Bytes

@@ -3,8 +3,8 @@ ghost use mathlib.Core.Path.{_≡_};
 ghost use mathlib.Core.List.{[], _∷_};
 ghost use Prim.Native.Nat.{_+_, _-_, _<_, _≤_};
 ghost use lib.ListN.{length, replicate};
+ghost use Rattle.base.specs.Over.{over};
 ghost use Rattle.codec.specs.Bytes.{bytes16, bytes32, bits, bytesSigned};
-ghost use Rattle.codec.specs.Over.{over};
 
 pub fn put_u8(d: &mut [u8], at: usize, b: u8)
     requires { ⌜ at < length (now d) ⌝ }

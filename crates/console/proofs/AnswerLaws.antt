@@ -7,8 +7,8 @@ use Rattle.base.specs.Refusal.{accepted}
 use Rattle.join.specs.Join.{Result, joinEnd}
 use Rattle.list.specs.Lists.{Slices}
 use Rattle.stops.specs.Stops.{stopCount}
+use Rattle.base.proofs.Outcomes.{by-outcome}
 use Rattle.join.proofs.Theorems.{answer-fits}
-use Rattle.search.proofs.Walk.{by-outcome}
 use Rattle.console.specs.Inner.Room.{Fitting, Printable}
 use Rattle.console.specs.Limits.{requestStops}
 

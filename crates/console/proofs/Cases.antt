@@ -1,6 +1,9 @@
 -- "The twelve cases form a table, proved of the definitions by a lone statement."
 use mathlib.Core.Path.{refl}
 use Rattle.base.specs.Every.{every}
+use Rattle.base.specs.Over.{over}
+use Rattle.base.specs.Refusal.{inTurn}
+use Rattle.base.specs.Tabulate.{tabulate, joined}
 use Rattle.geometry.specs.Box.{withinLimits, validAxis, validBox, validPoint, onAxis, inside}
 use Rattle.geometry.specs.Distance.{gap, square, D, closest, farthest, closestPoint, farthestPoint, minDist, maxDist}
 use Rattle.geometry.specs.Margin.{gain, bestEnd, bestPoint, difference, reachedFrom, reached, margin, closer}
@@ -8,14 +11,11 @@ use Rattle.geometry.specs.Around.{equalColumns, row, rows, points, foremost, le
 use Rattle.codec.specs.Bytes.{bytes, bytes16, bytes32, bits, bytesSigned}
 use Rattle.codec.specs.Number.{u16At, u32At, signed, i32At}
 use Rattle.codec.specs.Zeros.{zeros}
-use Rattle.codec.specs.Tabulate.{tabulate, joined}
-use Rattle.codec.specs.Over.{over}
 use Rattle.blocks.specs.Checksum.{sumsFrom, sums, checkAgrees}
 use Rattle.blocks.specs.Block.{blockAt, kindDue, blockHead}
 use Rattle.blocks.specs.Directory.{directoryBlocks, entriesDue, entryOffset, entryBox, entryCount, entryZero, tilesDue}
 use Rattle.blocks.specs.Directory.{directoryPadding, entryValid, directoryBlock, directoryBlockAt, lengthDue}
 use Rattle.blocks.specs.Directory.{directoryRest, directory, boxAt, countAt}
-use Rattle.blocks.specs.Outcome.{inTurn}
 use Rattle.tiles.specs.Tile.{siteOffset, siteIn, tilePadding, siteInside, tileBlock, tilePosition, openTile, siteAt}
 use Rattle.tiles.specs.Tile.{sitesAt}
 use Rattle.encode.specs.Supply.{boxOf, offset}

@@ -11,9 +11,9 @@ use lib.IntN.{ℤ, pos}
 use lib.ListN.{length, getD, set, take, drop, length-drop}
 use lib.Seq.{take-all, take-at, set-at, drop-cons}
 use borrow.Author.Tests.{leb-true}
+use Rattle.base.proofs.Tabulate.{length-tabulate, tabulate-last}
 use Rattle.base.proofs.Tests.{and-both}
 use Rattle.codec.specs.Number.{i32At}
-use Rattle.codec.proofs.Tabulate.{length-tabulate, tabulate-last}
 use Rattle.console.specs.Limits.{maxInput, requestStops}
 use Rattle.console.specs.Request.{stopsAsked, coordinates, headLength, wellFormed}
 

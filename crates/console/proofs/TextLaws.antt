@@ -10,10 +10,10 @@ use lib.Dec.{ltb}
 use borrow.Author.Tests.{lt-ltb}
 use lib.ListN.{length, getD, set, drop, length-append, drop-of-length-le}
 use lib.Seq.{drop-cons}
+use Rattle.base.specs.Over.{over}
+use Rattle.base.specs.Tabulate.{joined}
+use Rattle.base.proofs.Over.{length-over, over-nil, over-cons, over-next, over-last}
 use Rattle.base.proofs.Tests.{cond-ind, by-test}
-use Rattle.codec.specs.Over.{over}
-use Rattle.codec.specs.Tabulate.{joined}
-use Rattle.codec.proofs.Over.{length-over, over-nil, over-cons, over-next, over-last}
 use Rattle.console.specs.Text.{widthUpTo, width, digits, decimal, labelled, Wrote}
 
 -- ---- digits

@@ -3,7 +3,7 @@
 use Prim.Native.Nat.{ℕ, zero, suc, _+_, _*_}
 use mathlib.Core.List.{List, _++_}
 use lib.ListN.{getD}
-use Rattle.codec.specs.Tabulate.{joined}
+use Rattle.base.specs.Tabulate.{joined}
 use Rattle.console.specs.Text.{textBytes, labelled}
 
 -- "refused N block P"

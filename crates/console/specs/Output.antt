@@ -4,7 +4,7 @@ use mathlib.Core.Bool.{cond}
 use mathlib.Core.List.{List, [], _∷_, _++_}
 use lib.ListN.{replicate}
 use Rattle.base.specs.Refusal.{Outcome, accepted, refused}
-use Rattle.codec.specs.Tabulate.{joined}
+use Rattle.base.specs.Tabulate.{joined}
 use Rattle.join.specs.Join.{Result, End, joinEnd}
 use Rattle.list.specs.Lists.{Lists, Slices, lent}
 use Rattle.blocks.specs.Layout.{maxTiles}

@@ -6,8 +6,8 @@ use mathlib.Core.List.{List}
 use lib.Dec.{leb}
 use lib.IntN.{ℤ}
 use lib.ListN.{length, drop}
+use Rattle.base.specs.Tabulate.{tabulate}
 use Rattle.codec.specs.Number.{u32At, i32At}
-use Rattle.codec.specs.Tabulate.{tabulate}
 use Rattle.console.specs.Limits.{maxInput, requestStops}
 
 unfoldable pub kOf : List ℕ → ℕ

@@ -7,7 +7,7 @@ use mathlib.Core.List.{List, [], _∷_, _++_}
 use mathlib.Core.Path.{_≡_}
 use lib.Dec.{ltb}
 use lib.ListN.{length}
-use Rattle.codec.specs.Over.{over}
+use Rattle.base.specs.Over.{over}
 
 -- a text as bytes: the numbers of its characters
 abbrev pub textBytes : String → List ℕ

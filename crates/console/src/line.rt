@@ -1,7 +1,7 @@
 // The lines of the program's output. A number takes at most 20 bytes: a place at most 44, a stop 27 and its places.
 ghost use Prim.Native.Nat.{_+_, _*_, _≤_};
 ghost use lib.ListN.{length};
-ghost use Rattle.codec.specs.Tabulate.{joined};
+ghost use Rattle.base.specs.Tabulate.{joined};
 ghost use Rattle.search.specs.Limits.{maxK};
 ghost use Rattle.console.specs.Inner.Room.{stopRoom};
 ghost use Rattle.console.specs.Line.{separator, placeText, placesText, stopLine, countsLine, refusedLine};

@@ -2,7 +2,7 @@
 ghost use mathlib.Core.Path.{_≡_};
 ghost use Prim.Native.Nat.{_+_, _≤_};
 ghost use lib.ListN.{length};
-ghost use Rattle.codec.specs.Over.{over};
+ghost use Rattle.base.specs.Over.{over};
 ghost use Rattle.console.specs.Text.{width, digits, decimal, labelled, Wrote};
 
 // The most digits of a number of 64 bits.

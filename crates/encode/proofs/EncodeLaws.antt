@@ -7,6 +7,8 @@ use lib.Dec.{lit<}
 use lib.IntN.{ℤ, pos}
 use lib.ListN.{length, getD, take, drop, replicate, length-append, length-replicate, length-drop}
 use lib.Seq.{slice, take-all, length-take-le}
+use Rattle.base.specs.Over.{over}
+use Rattle.base.specs.Tabulate.{joined}
 use Rattle.blocks.specs.Checksum.{sumsFrom, sums}
 use Rattle.blocks.specs.Directory.{directoryBlocks, entriesDue}
 use Rattle.blocks.specs.Layout.{axes, syncByte, directoryKind, tileKind, kindAt, positionAt, entriesAt, tilesAt}
@@ -15,14 +17,12 @@ use Rattle.blocks.specs.Layout.{entriesPerBlock, siteSize, cueOffset, maxSites}
 use Rattle.blocks.specs.declared.checksum.Sums.{Sums}
 use Rattle.blocks.specs.declared.header.Header.{Header}
 use Rattle.codec.specs.Bytes.{bytes, bytes16, bytes32, bytesSigned}
-use Rattle.codec.specs.Over.{over}
-use Rattle.codec.specs.Tabulate.{joined}
 use Rattle.geometry.specs.Around.{row}
 use Rattle.tiles.specs.Tile.{tilePosition}
+use Rattle.base.proofs.Joined.{length-joined}
+use Rattle.base.proofs.Over.{also, length-over}
 use Rattle.blocks.proofs.ChecksumLaws.{sums-small}
 use Rattle.codec.proofs.Holds.{Holds, holds-over, holds-part, holds-front}
-use Rattle.codec.proofs.Joined.{length-joined}
-use Rattle.codec.proofs.Over.{also, length-over}
 use Rattle.encode.specs.Encode.{headBytes, checkBytes, bodyBytes, blockBytes, boxBytes, entryBytes, siteBytes}
 use Rattle.encode.specs.Encode.{directoryBytes, tileBytes, tileBytesOf}
 use Rattle.encode.specs.Supply.{headerOf, boxNumber, countOf, offset}

@@ -3,13 +3,13 @@ use Prim.Native.Nat.{ℕ, _+_, _*_, _-_}
 use mathlib.Core.List.{List, [], _∷_, _++_}
 use lib.IntN.{ℤ, pos}
 use lib.ListN.{getD, length, replicate}
+use Rattle.base.specs.Tabulate.{joined}
 use Rattle.blocks.specs.Checksum.{sums}
 use Rattle.blocks.specs.Directory.{directoryBlocks, entriesDue}
 use Rattle.blocks.specs.Layout.{axes, blockSize, syncByte, directoryKind, tileKind, reservedAt, payloadAt, checkAt}
 use Rattle.blocks.specs.Layout.{entrySize, zeroOffset, entriesPerBlock}
 use Rattle.blocks.specs.declared.header.Header.{Header}
 use Rattle.codec.specs.Bytes.{bytes16, bytes32, bytesSigned}
-use Rattle.codec.specs.Tabulate.{joined}
 use Rattle.geometry.specs.Around.{row}
 use Rattle.tiles.specs.Tile.{tilePosition}
 use Rattle.encode.specs.Supply.{Supply, headerOf, tilesOf, numbersPerBox, boxNumber, countOf, offset}

@@ -4,9 +4,9 @@ use Prim.Native.Nat.{ℕ, zero, suc, _+_, _*_}
 use mathlib.Core.List.{List, [], _∷_}
 use lib.IntN.{ℤ, pos}
 use lib.ListN.{getD, length}
+use Rattle.base.specs.Tabulate.{tabulate}
 use Rattle.blocks.specs.Layout.{axes}
 use Rattle.blocks.specs.declared.header.Header.{Header}
-use Rattle.codec.specs.Tabulate.{tabulate}
 use Rattle.geometry.specs.Around.{row}
 use Rattle.tiles.specs.declared.tile.Site.{Site}
 

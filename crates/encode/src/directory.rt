@@ -2,10 +2,10 @@
 ghost use mathlib.Core.Path.{_≡_};
 ghost use Prim.Native.Nat.{_+_, _*_, _<_, _≤_};
 ghost use lib.ListN.{length};
+ghost use Rattle.base.specs.Over.{over};
+ghost use Rattle.base.specs.Tabulate.{joined};
 ghost use Rattle.blocks.specs.Directory.{directoryBlocks};
 ghost use Rattle.blocks.specs.Layout.{axes, blockSize, entrySize, countOffset, maxTiles};
-ghost use Rattle.codec.specs.Over.{over};
-ghost use Rattle.codec.specs.Tabulate.{joined};
 ghost use Rattle.encode.specs.Encode.{boxBytes, entryBytes, directoryBytes};
 ghost use Rattle.encode.specs.Supply.{headerOf, numbersPerBox};
 use crate::head::put_checksum;

@@ -2,8 +2,8 @@
 ghost use mathlib.Core.Path.{_≡_};
 ghost use Prim.Native.Nat.{_+_, _<_, _≤_};
 ghost use lib.ListN.{length, take, drop};
+ghost use Rattle.base.specs.Over.{over};
 ghost use Rattle.blocks.specs.Layout.{blockSize, reservedAt, checkAt};
-ghost use Rattle.codec.specs.Over.{over};
 ghost use Rattle.encode.specs.Encode.{headBytes, checkBytes};
 use blocks::checksum::sums_of;
 use blocks::layout;

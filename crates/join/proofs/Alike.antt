@@ -6,10 +6,10 @@ use native.Mathlib.Nat.{zero-add}
 use native.Mathlib.Omega.{arith}
 use lib.IntN.{ℤ}
 use lib.ListN.{length, getD, replicate, length-replicate}
+use Rattle.base.specs.Over.{over}
 use Rattle.base.specs.Refusal.{Outcome, accepted, refused}
 use Rattle.blocks.specs.Directory.{directory}
 use Rattle.blocks.specs.declared.header.Header.{Header}
-use Rattle.codec.specs.Over.{over}
 use Rattle.geometry.specs.Around.{around}
 use Rattle.list.specs.Lists.{Lists, Slices, Long, placeAt, lay, cleared}
 use Rattle.plan.specs.FilePlan.{entries, openingOf}
@@ -18,12 +18,12 @@ use Rattle.search.specs.Run.{noPlace, noMark, slices, mark, marks}
 use Rattle.search.specs.declared.Place.{Place}
 use Rattle.stops.specs.Arguments.{arguments}
 use Rattle.stops.specs.Stops.{stopCount, stopsOf}
-use Rattle.codec.proofs.Over.{getD-run}
+use Rattle.base.proofs.Outcomes.{by-outcome}
+use Rattle.base.proofs.Over.{getD-run}
 use Rattle.list.proofs.Laying.{lay-place}
 use Rattle.plan.proofs.Tables.{range-length}
 use Rattle.search.proofs.Marks.{slices-length}
 use Rattle.search.proofs.Run.{join-length}
-use Rattle.search.proofs.Walk.{by-outcome}
 use Rattle.stops.proofs.ArgumentLaws.{arguments-good}
 use Rattle.stops.proofs.StopLaws.{stops-length}
 use Rattle.join.specs.Claims.{SameAnswer}

@@ -15,12 +15,12 @@ use Rattle.search.specs.Run.{noPlace, noMark, slices, mark, marks}
 use Rattle.search.specs.declared.Place.{Place}
 use Rattle.stops.specs.Arguments.{arguments}
 use Rattle.stops.specs.Stops.{stopCount, stopsOf}
-use Rattle.codec.proofs.Over.{getD-after}
+use Rattle.base.proofs.Outcomes.{by-outcome}
+use Rattle.base.proofs.Over.{getD-after}
 use Rattle.list.proofs.Laying.{lay-after}
 use Rattle.plan.proofs.Tables.{range-length}
 use Rattle.search.proofs.Marks.{slices-length}
 use Rattle.search.proofs.Run.{join-length}
-use Rattle.search.proofs.Walk.{by-outcome}
 use Rattle.stops.proofs.StopLaws.{stops-length}
 use Rattle.join.specs.Claims.{PastStays}
 use Rattle.join.specs.Join.{runFor, lengthsOf, tests, filled, ended, runEnd, joinFrom, joinEnd}

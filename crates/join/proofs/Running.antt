@@ -9,10 +9,10 @@ use lib.Dec.{eqb, ltb}
 use lib.IntN.{ℤ}
 use lib.ListN.{length, take, replicate, length-replicate}
 use Rattle.base.specs.Lists.{All}
+use Rattle.base.specs.Over.{over}
 use Rattle.base.specs.Refusal.{Outcome, accepted, refused, andThen}
 use Rattle.blocks.specs.declared.header.Header.{Header}
 use Rattle.codec.specs.Number.{Bytes}
-use Rattle.codec.specs.Over.{over}
 use Rattle.geometry.specs.Around.{points, around, SmallestAround}
 use Rattle.geometry.specs.Box.{validPoint}
 use Rattle.list.specs.Lists.{Lists, Slices, lay, cleared}
@@ -32,7 +32,7 @@ use Rattle.serve.specs.Inner.Marks.{markAll}
 use Rattle.serve.specs.Inner.Serving.{lastLength, waiting, walksOf, StopsReady, afterStops}
 use Rattle.stops.specs.Stops.{stopCount, stopsOf, validStop}
 use Rattle.base.proofs.Outcomes.{andThen-accepted, andThen-refused, accepted-injective}
-use Rattle.codec.proofs.Over.{over-under, length-over}
+use Rattle.base.proofs.Over.{over-under, length-over}
 use Rattle.geometry.proofs.Theorems.{all-rows, around-smallest}
 use Rattle.list.proofs.Laying.{lay-under, lay-long}
 use Rattle.list.proofs.Padding.{clear-all}

@@ -36,7 +36,7 @@ use Rattle.stops.specs.Arguments.{arguments}
 use Rattle.stops.specs.Stops.{stopCount, stopsOf}
 use Rattle.tiles.specs.Tile.{tilePosition, openTile, sitesAt}
 use Rattle.tiles.specs.Validate.{validate}
-use Rattle.base.proofs.Outcomes.{accepted-injective, accepted-refused, andThen-refused}
+use Rattle.base.proofs.Outcomes.{accepted-injective, accepted-refused, andThen-refused, by-outcome}
 use Rattle.base.proofs.Tests.{both-and}
 use Rattle.blocks.proofs.Theorems.{same-directory, directory-exactly}
 use Rattle.list.proofs.Laying.{lay-place, lay-long}
@@ -49,7 +49,6 @@ use Rattle.search.proofs.Marks.{slices-length, marks-at}
 use Rattle.search.proofs.Queue.{candidate-unpruned, candidate-some}
 use Rattle.search.proofs.Run.{join-refused}
 use Rattle.search.proofs.Theorems as run
-use Rattle.search.proofs.Walk.{by-outcome}
 use Rattle.stops.specs.Inner.Good.{GoodArguments}
 use Rattle.stops.proofs.ArgumentLaws.{arguments-good}
 use Rattle.stops.proofs.StopLaws.{stops-length}

@@ -4,8 +4,8 @@ use mathlib.Core.List.{List}
 use mathlib.Core.Path.{_≡_, refl, _∙_}
 use native.Mathlib.Omega.{arith}
 use lib.ListN.{length, set, replicate, length-set}
-use Rattle.codec.specs.Over.{over}
-use Rattle.codec.proofs.Over.{fill-turn, fill-end}
+use Rattle.base.specs.Over.{over}
+use Rattle.base.proofs.Over.{fill-turn, fill-end}
 
 -- at the start the slice held d₀; now it holds d, and elements i to n - 1 are left
 pub record Clearing (d₀ : List ℕ) (n : ℕ) (d : List ℕ) (i : ℕ) : Type 0 where

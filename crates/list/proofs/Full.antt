@@ -9,7 +9,7 @@ use borrow.Author.Tests.{eq-eqb, ne-eqb}
 use Rattle.search.specs.Inner.Cut.{inserts, lastAhead}
 use Rattle.search.specs.Run.{noPlace, rank, aheadOf}
 use Rattle.search.specs.declared.Place.{Place}
-use Rattle.codec.proofs.Tabulate.{getD-tabulate}
+use Rattle.base.proofs.Tabulate.{getD-tabulate}
 use Rattle.search.proofs.Places.{rank-order}
 use Rattle.search.proofs.Sort.{insert-length}
 use Rattle.list.specs.Inner.Keeping.{places, withPlace, Adds, Ready}

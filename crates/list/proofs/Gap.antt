@@ -7,7 +7,7 @@ use native.Mathlib.Numerals.{sub-one}
 use native.Mathlib.Omega.{arith}
 use lib.ListN.{length, length-set}
 use lib.Seq.{getD-set-other}
-use Rattle.codec.specs.Tabulate.{tabulate}
+use Rattle.base.specs.Tabulate.{tabulate}
 use Rattle.search.specs.Inner.Cut.{Sorted}
 use Rattle.search.specs.Order.{insert}
 use Rattle.search.specs.Run.{rank}

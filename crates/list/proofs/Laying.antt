@@ -14,15 +14,14 @@ use native.Mathlib.Numerals.{add-one}
 use native.Mathlib.Omega.{arith}
 use lib.ListN.{length, getD, set, length-map, List·getD-map}
 use lib.Seq.{set-getD, ext-getD}
-use Rattle.codec.specs.Over.{over}
-use Rattle.codec.specs.Tabulate.{tabulate}
+use Rattle.base.specs.Over.{over}
+use Rattle.base.specs.Tabulate.{tabulate}
 use Rattle.search.specs.Inner.Cut.{Sorted}
 use Rattle.search.specs.Run.{noPlace, rank}
 use Rattle.search.specs.declared.Place.{Place}
-use Rattle.codec.proofs.Over.{length-over, over-nil, over-cons, getD-before, getD-run, getD-after, over-next}
-use Rattle.codec.proofs.Over.{over-under}
-use Rattle.codec.proofs.Over.{over-last, set-over}
-use Rattle.codec.proofs.Tabulate.{length-tabulate, getD-tabulate, tabulate-last, tabulate-same, tabulate-take}
+use Rattle.base.proofs.Over.{length-over, over-nil, over-cons, getD-before, getD-run, getD-after, over-next, over-under}
+use Rattle.base.proofs.Over.{over-last, set-over}
+use Rattle.base.proofs.Tabulate.{length-tabulate, getD-tabulate, tabulate-last, tabulate-same, tabulate-take}
 use Rattle.search.proofs.Cut.{sorted-take}
 use Rattle.list.specs.Inner.Keeping.{places, put}
 use Rattle.list.specs.Lists.{Lists, lists, Long, placeAt, dists, sites, cues, lay}

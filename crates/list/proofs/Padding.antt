@@ -5,10 +5,10 @@ use mathlib.Core.Path.{_≡_, refl, sym, ap, _∙_}
 use native.Mathlib.Omega.{arith}
 use lib.ListN.{length, take, replicate, length-replicate, getD-replicate}
 use lib.Seq.{take-append-add}
-use Rattle.codec.specs.Over.{over}
+use Rattle.base.specs.Over.{over}
 use Rattle.search.specs.Run.{noPlace, padded, slices}
 use Rattle.search.specs.declared.Place.{Place}
-use Rattle.codec.proofs.Tabulate.{tabulate-const}
+use Rattle.base.proofs.Tabulate.{tabulate-const}
 use Rattle.search.proofs.Marks.{padded-length}
 use Rattle.list.specs.Inner.Keeping.{places}
 use Rattle.list.specs.Lists.{Lists, lists, Long, placeAt, lay}

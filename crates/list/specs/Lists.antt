@@ -11,7 +11,7 @@
 use Prim.Native.Nat.{ℕ, _≤_}
 use mathlib.Core.List.{List, map}
 use lib.ListN.{getD, length, replicate}
-use Rattle.codec.specs.Over.{over}
+use Rattle.base.specs.Over.{over}
 use Rattle.search.specs.Run.{noPlace, noMark}
 use Rattle.search.specs.declared.Place.{Place}
 

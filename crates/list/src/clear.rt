@@ -2,7 +2,7 @@
 ghost use mathlib.Core.Path.{_≡_};
 ghost use Prim.Native.Nat.{_≤_};
 ghost use lib.ListN.{length, replicate};
-ghost use Rattle.codec.specs.Over.{over};
+ghost use Rattle.base.specs.Over.{over};
 ghost use Rattle.search.specs.Run.{noPlace};
 ghost use Rattle.list.specs.Lists.{lists, Long, lay};
 

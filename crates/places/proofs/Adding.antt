@@ -8,7 +8,7 @@ use lib.Dec.{ltb}
 use lib.IntN.{ℤ}
 use lib.ListN.{length, getD}
 use borrow.Author.Tests.{ltb-true, ltb-false}
-use Rattle.codec.specs.Tabulate.{tabulate}
+use Rattle.base.specs.Tabulate.{tabulate}
 use Rattle.list.specs.Inner.Keeping.{places, Adds, Ready}
 use Rattle.list.specs.Lists.{Lists, placeAt, lay}
 use Rattle.plan.specs.FilePlan.{plane}

@@ -1,7 +1,7 @@
 // The sites of an opened tile put into the list of a stop.
 ghost use Prim.Native.Nat.{_+_, _<_, _≤_, _^_};
 ghost use lib.ListN.{length};
-ghost use Rattle.codec.specs.Tabulate.{tabulate};
+ghost use Rattle.base.specs.Tabulate.{tabulate};
 ghost use Rattle.list.specs.Inner.Keeping.{Ready, Adds};
 ghost use Rattle.list.specs.Lists.{lists};
 ghost use Rattle.plan.specs.FilePlan.{plane, townOf};

@@ -7,9 +7,9 @@ use native.Mathlib.Omega.{arith}
 use lib.IntN.{ℤ, pos}
 use lib.ListN.{length, getD}
 use Rattle.base.specs.Refusal.{accepted}
+use Rattle.base.specs.Tabulate.{tabulate}
 use Rattle.blocks.specs.Directory.{entryBox, directory, boxAt}
 use Rattle.blocks.specs.declared.header.Header.{Header}
-use Rattle.codec.specs.Tabulate.{tabulate}
 use Rattle.geometry.specs.Box.{validBox, inside}
 use Rattle.geometry.specs.Claims.{Least}
 use Rattle.geometry.specs.Distance.{minDist}

@@ -6,23 +6,22 @@ use native.Mathlib.Nat.{add-zero, zero-add}
 use native.Mathlib.Omega.{arith}
 use lib.ListN.{length}
 use Rattle.base.specs.Refusal.{accepted, andThen}
+use Rattle.base.specs.Tabulate.{tabulate}
 use Rattle.blocks.specs.Block.{blockAt}
 use Rattle.blocks.specs.Directory.{directoryBlocks, boxAt, countAt}
 use Rattle.blocks.specs.declared.header.Header.{Header}
 use Rattle.codec.specs.Number.{Bytes}
-use Rattle.codec.specs.Tabulate.{tabulate}
 use Rattle.search.specs.Lists.{All}
 use Rattle.search.specs.Plan.{Fills, Agrees}
 use Rattle.search.specs.Run.{Checked}
 use Rattle.tiles.specs.Accepted.{GoodFile}
 use Rattle.tiles.specs.Tile.{siteIn, tilePosition, openTile, siteAt, sitesAt}
 use Rattle.tiles.specs.declared.tile.Site.{Site}
-use Rattle.base.proofs.Outcomes.{accepted-injective, andThen-accepted}
+use Rattle.base.proofs.Outcomes.{accepted-injective, andThen-accepted, by-outcome}
 use Rattle.blocks.proofs.BlockLaws.{length-block, block-bytes}
 use Rattle.blocks.proofs.DirectoryLaws.{directory-good, block-fits, box-valid, count-small}
 use Rattle.codec.proofs.Bytes.{u32-small}
 use Rattle.geometry.proofs.Theorems.{inside-valid}
-use Rattle.search.proofs.Walk.{by-outcome}
 use Rattle.tiles.proofs.Theorems.{opening-exactly, opened-count, opened-inside, sites-length}
 use Rattle.plan.specs.FilePlan.{entries, openingOf, townOf}
 use Rattle.plan.specs.Inner.Seam.{TileOf, Opens, BlockOf}

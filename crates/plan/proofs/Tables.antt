@@ -10,9 +10,9 @@ use native.Mathlib.Omega.{arith}
 use lib.ListN.{length, getD, set, take}
 use lib.Seq.{take-at}
 use mir.Val.{boolByte}
-use Rattle.codec.specs.Over.{over}
+use Rattle.base.specs.Over.{over}
 use Rattle.search.specs.Lists.{range, bit}
-use Rattle.codec.proofs.Over.{over-eq, over-nil, over-cons, getD-run}
+use Rattle.base.proofs.Over.{over-eq, over-nil, over-cons, getD-run}
 
 module _ (g : ℕ → ℕ) where
   pub fill-turn : (d : List ℕ) (t n : ℕ) → t < n

@@ -10,20 +10,20 @@ use lib.Dec.{ltb, leb}
 use lib.IntN.{ℤ}
 use lib.ListN.{getD, set}
 use borrow.Author.Tests.{ltb-true, ltb-false, le-ltb}
+use Rattle.base.specs.Over.{over}
 use Rattle.base.specs.Refusal.{accepted}
 use Rattle.blocks.specs.Directory.{directory}
 use Rattle.blocks.specs.Layout.{maxTiles}
 use Rattle.blocks.specs.declared.header.Header.{Header}
-use Rattle.codec.specs.Over.{over}
 use Rattle.plan.specs.FilePlan.{plane, entries}
 use Rattle.plan.specs.Inner.Seam.{ValidRegion, cornerOf, cornerCount, far}
 use Rattle.search.specs.Lists.{range}
 use Rattle.search.specs.Plan.{near}
 use Rattle.search.specs.Pruning.{pruned}
 use Rattle.base.proofs.Every.{every-fails, every-same}
+use Rattle.base.proofs.Over.{over-nil, over-cons, length-over, getD-before, getD-run}
 use Rattle.base.proofs.Tests.{by-test}
 use Rattle.blocks.proofs.Theorems.{directory-exactly}
-use Rattle.codec.proofs.Over.{over-nil, over-cons, length-over, getD-before, getD-run}
 use Rattle.plan.proofs.Measures.{closer-by-corners}
 use Rattle.plan.proofs.Tables.{range-length, range-at}
 use Rattle.search.proofs.Lists.{all-map, range-below}

@@ -9,10 +9,10 @@ use lib.Dec.{leb}
 use lib.IntN.{ℤ}
 use lib.ListN.{length}
 use borrow.Author.Tests.{leb-true}
+use Rattle.base.specs.Over.{over}
 use Rattle.base.specs.Refusal.{accepted, #k, #box, #short}
 use Rattle.blocks.specs.Directory.{directory}
 use Rattle.blocks.specs.declared.header.Header.{Header}
-use Rattle.codec.specs.Over.{over}
 use Rattle.geometry.specs.Box.{validBox}
 use Rattle.plan.specs.FilePlan.{entries}
 use Rattle.search.specs.Limits.{validK}
@@ -20,8 +20,8 @@ use Rattle.search.specs.Lists.{range, bit, member}
 use Rattle.search.specs.Pruning.{pruned, prunedCount}
 use Rattle.search.specs.Run.{mark, marks}
 use Rattle.base.proofs.Outcomes.{accepted-injective, require-accepted, andThen-accepted}
+use Rattle.base.proofs.Over.{getD-after}
 use Rattle.base.proofs.Tests.{by-test}
-use Rattle.codec.proofs.Over.{getD-after}
 use Rattle.plan.proofs.Tables.{range-length, filled-at, filled-take}
 use Rattle.search.proofs.Lists.{all-any}
 use Rattle.search.proofs.Marks.{mark-pruned, mark-neither, marks-pruned}

@@ -8,10 +8,10 @@ use mathlib.Core.List.{List, map}
 use lib.Dec.{leb}
 use lib.IntN.{ℤ}
 use lib.ListN.{length}
+use Rattle.base.specs.Over.{over}
 use Rattle.base.specs.Refusal.{Outcome, accepted, refused, require, andThen, #k, #box, #short}
 use Rattle.blocks.specs.Directory.{directory}
 use Rattle.blocks.specs.declared.header.Header.{Header}
-use Rattle.codec.specs.Over.{over}
 use Rattle.geometry.specs.Box.{validBox}
 use Rattle.plan.specs.FilePlan.{entries}
 use Rattle.search.specs.Limits.{validK}

@@ -4,10 +4,10 @@
 ghost use mathlib.Core.Path.{_≡_};
 ghost use Prim.Native.Nat.{_*_, _<_};
 ghost use lib.ListN.{length};
+ghost use Rattle.base.specs.Over.{over};
 ghost use Rattle.base.specs.Refusal.{accepted};
 ghost use Rattle.blocks.specs.Directory.{directory};
 ghost use Rattle.blocks.specs.Layout.{maxTiles};
-ghost use Rattle.codec.specs.Over.{over};
 ghost use Rattle.plan.specs.Inner.Seam.{TileOf, ValidStop, ValidRegion, cornerCount};
 ghost use Rattle.prune.specs.Inner.Tables.{farSize, fars, nears, FarTable};
 use blocks::header::Header;

@@ -5,8 +5,8 @@ use mathlib.Core.Path.{_≡_, sym}
 use native.Mathlib.Numerals.{add-one}
 use lib.ListN.{length, getD, set, drop}
 use lib.Seq.{drop-cons, drop-length}
-use Rattle.codec.specs.Over.{over}
-use Rattle.codec.proofs.Over.{over-nil, over-cons}
+use Rattle.base.specs.Over.{over}
+use Rattle.base.proofs.Over.{over-nil, over-cons}
 
 module _ (g : ℕ → ℕ) (order keys : List ℕ) (j : ℕ) where
   pub fill-turn : j < length order

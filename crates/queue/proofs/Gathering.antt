@@ -10,11 +10,11 @@ use lib.Dec.{ltb}
 use lib.ListN.{length, take, drop, set, length-append, length-set}
 use lib.Seq.{take-at}
 use borrow.Author.Tests.{lt-ltb}
-use Rattle.codec.specs.Over.{over}
+use Rattle.base.specs.Over.{over}
 use Rattle.search.specs.Lists.{range, bit, filter, All}
 use Rattle.search.specs.Order.{Strict}
+use Rattle.base.proofs.Over.{over-eq, over-nil, over-cons, over-set}
 use Rattle.base.proofs.Tests.{by-test}
-use Rattle.codec.proofs.Over.{over-eq, over-nil, over-cons, over-set}
 use Rattle.plan.proofs.Tables.{bit-small}
 use Rattle.search.proofs.Lists.{all-map, filter-all, range-below, range-above}
 use Rattle.queue.specs.Inner.Keys.{spare, Gathers}

@@ -19,18 +19,18 @@ use lib.IntN.{ℤ}
 use lib.ListN.{length, getD, set, length-map, length-set}
 use lib.Seq.{getD-set-same, getD-set-other}
 use borrow.Author.Tests.{eqb-true, eqb-false, leb-true, leb-false, lt-ltb, le-ltb, ltb-true, ltb-false}
+use Rattle.base.specs.Over.{over}
 use Rattle.base.specs.Refusal.{accepted}
 use Rattle.blocks.specs.Directory.{directory}
 use Rattle.blocks.specs.declared.header.Header.{Header}
-use Rattle.codec.specs.Over.{over}
 use Rattle.plan.specs.FilePlan.{entries}
 use Rattle.plan.specs.Inner.Seam.{ValidStop}
 use Rattle.search.specs.Lists.{All}
 use Rattle.search.specs.Order.{insert, sort, Strict}
 use Rattle.search.specs.Plan.{Geometry, Directory, near}
 use Rattle.search.specs.Run.{byKey, inOrder}
+use Rattle.base.proofs.Over.{length-over, getD-run}
 use Rattle.base.proofs.Tests.{by-test}
-use Rattle.codec.proofs.Over.{length-over, getD-run}
 use Rattle.plan.proofs.Measures.{near-bounded}
 use Rattle.search.proofs.Pairs.{lex-less, lex-not-less}
 use Rattle.search.proofs.Sort.{sort-length, skip, stop}

@@ -11,6 +11,7 @@ use lib.Dec.{eqb, ltb}
 use lib.ListN.{length, getD, length-map}
 use borrow.Author.Tests.{eqb-true, ltb-true, ltb-false}
 use Rattle.base.specs.Refusal.{accepted, refused}
+use Rattle.base.proofs.Outcomes.{by-outcome}
 use Rattle.base.proofs.Tests.{clash, by-test}
 use Rattle.search.specs.FullSearch.{refill, firstOf, fullSearch, Fits, Changes}
 use Rattle.search.specs.Inner.Walk.{both}
@@ -26,7 +27,7 @@ use Rattle.search.proofs.Marks.{unpad, slices-at, getD-map-lt}
 use Rattle.search.proofs.Ranking.{first-length, first-short}
 use Rattle.search.proofs.Run.{join-same, join-good}
 use Rattle.search.proofs.Sound.{walk-first}
-use Rattle.search.proofs.Walk.{by-outcome, walk, cut, walks, Walked, walked}
+use Rattle.search.proofs.Walk.{walk, cut, walks, Walked, walked}
 
 map-same : {A B : Type 0} (f h : A → B) {l : List A} {x : A} → map f l ≡ map h l → List·Memᴰ x l → f x ≡ h x
 map-same f h e (List·Memᴰ·head i) = rw i (head-eq-of-cons-eq e)

@@ -11,7 +11,7 @@ use lib.ListN.{length, take, getD, length-take}
 use lib.Seq.{take-nil}
 use borrow.Author.Tests.{eqb-true, eq-eqb, leb-true, le-leb}
 use Rattle.base.specs.Refusal.{accepted, refused, andThen}
-use Rattle.base.proofs.Outcomes.{accepted-injective, accepted-refused, andThen-accepted}
+use Rattle.base.proofs.Outcomes.{accepted-injective, accepted-refused, andThen-accepted, by-outcome}
 use Rattle.base.proofs.Tests.{and-both, both-and, by-test, iff-eq}
 use Rattle.search.specs.Inner.Cut.{Sorted, inserts, lastAhead}
 use Rattle.search.specs.Inner.Walk.{enter, both, cutWalk, cutWalks}
@@ -27,7 +27,7 @@ use Rattle.search.proofs.Places.{rank-order, Own, own-tight, known}
 use Rattle.search.proofs.Queue.{queue-tiles}
 use Rattle.search.proofs.Run.{contents-accepted}
 use Rattle.search.proofs.Sort.{Order, Tight, insert-cut, sort-perm, sort-sorted, count-cut, count-sort}
-use Rattle.search.proofs.Walk.{by-outcome, walk, cut, cutOut, walks}
+use Rattle.search.proofs.Walk.{walk, cut, cutOut, walks}
 
 -- ---- putting in
 

@@ -8,6 +8,7 @@ use native.Mathlib.Omega.{arith}
 use lib.Dec.{ltb}
 use borrow.Author.Tests.{le-leb}
 use Rattle.base.specs.Refusal.{accepted}
+use Rattle.base.proofs.Outcomes.{by-outcome}
 use Rattle.base.proofs.Tests.{by-test}
 use Rattle.search.specs.Inner.Cut.{Sorted}
 use Rattle.search.specs.Lists.{range, count, filter, member, All}
@@ -27,7 +28,6 @@ use Rattle.search.proofs.Queue.{queue-tiles}
 use Rattle.search.proofs.Run.{contents-accepted, enoughFor}
 use Rattle.search.proofs.Sort.{sort-is-perm, sort-sorted, sort-filter, order-irrefl}
 use Rattle.search.proofs.Sound.{filled, pruned-passes}
-use Rattle.search.proofs.Walk.{by-outcome}
 
 module _ {G : Geometry} (E : Directory G) (O : G .Box) (k : ℕ) where
   open Geometry G using (Site, Stop, Within)

@@ -6,7 +6,7 @@ use mathlib.Core.Path.{_≡_, refl, sym, ap, _∙_}
 use native.Mathlib.Omega.{arith}
 use lib.ListN.{length}
 use Rattle.base.specs.Refusal.{accepted, refused, andThen}
-use Rattle.base.proofs.Outcomes.{accepted-injective, accepted-refused, andThen-accepted, andThen-refused}
+use Rattle.base.proofs.Outcomes.{accepted-injective, accepted-refused, andThen-accepted, andThen-refused, by-outcome}
 use Rattle.base.proofs.Tests.{by-test}
 use Rattle.search.specs.Lists.{member, All, Distinct}
 use Rattle.search.specs.Plan.{Geometry, Directory}
@@ -15,7 +15,6 @@ use Rattle.search.specs.Run.{serve, follow, run, join}
 use Rattle.search.proofs.Lists.{all-map, all-append, all-left, all-right, distinct-snoc}
 use Rattle.search.proofs.Places.{placesOf-same}
 use Rattle.search.proofs.Queue.{Chosen, queue-chosen}
-use Rattle.search.proofs.Walk.{by-outcome}
 
 module _ {G : Geometry} (E : Directory G) (k : ℕ) where
   open Geometry G using (Site, Stop)

@@ -7,16 +7,13 @@ use mathlib.Core.Path.{_≡_, refl, ap, _∙_, subst}
 use lib.ListN.{take}
 use borrow.Author.Tests.{leb-true}
 use Rattle.base.specs.Refusal.{Outcome, accepted, refused, andThen}
+use Rattle.base.proofs.Outcomes.{by-outcome}
 use Rattle.base.proofs.Tests.{by-test}
 use Rattle.search.specs.Inner.Walk.{Trace, enter, both}
 use Rattle.search.specs.Lists.{count, All}
 use Rattle.search.specs.Order.{sort}
 use Rattle.search.specs.Plan.{Geometry, Directory, Town}
 use Rattle.search.specs.Run.{tilePlaces, Reading, Place, rank, placesOf, ahead, enough}
-
-pub by-outcome : {X Y : Type 0} (o : Outcome X) → ((x : X) → o ≡ accepted x → Y) → ((n b : ℕ) → o ≡ refused n b → Y) → Y
-by-outcome (accepted x) f g = f x refl
-by-outcome (refused n b) f g = g n b refl
 
 -- the first k of what was found
 unfoldable pub cut : ℕ → List Place → List Place

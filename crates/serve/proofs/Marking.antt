@@ -9,13 +9,13 @@ use lib.Dec.{eqb}
 use lib.ListN.{length, getD, set, length-set}
 use lib.Seq.{getD-set-same, getD-set-other, ext-getD}
 use borrow.Author.Tests.{eqb-true, eqb-false}
-use Rattle.codec.specs.Over.{over}
+use Rattle.base.specs.Over.{over}
 use Rattle.search.specs.Lists.{range, bit, member, All}
 use Rattle.search.specs.Plan.{Geometry, Directory}
 use Rattle.search.specs.Pruning.{pruned}
 use Rattle.search.specs.Run.{mark, marks}
+use Rattle.base.proofs.Over.{length-over, getD-after}
 use Rattle.base.proofs.Tests.{by-test}
-use Rattle.codec.proofs.Over.{length-over, getD-after}
 use Rattle.plan.proofs.Tables.{filled-at, range-length}
 use Rattle.search.proofs.Equation.{withNew, withNew-member}
 use Rattle.serve.specs.Inner.Marks.{markAll}

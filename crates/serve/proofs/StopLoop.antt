@@ -7,10 +7,10 @@ use native.Mathlib.Numerals.{add-one}
 use native.Mathlib.Omega.{arith}
 use lib.IntN.{ℤ}
 use lib.ListN.{length, replicate, length-replicate}
+use Rattle.base.specs.Over.{over}
 use Rattle.base.specs.Refusal.{Outcome, accepted, refused, andThen}
+use Rattle.base.specs.Tabulate.{tabulate}
 use Rattle.blocks.specs.declared.header.Header.{Header}
-use Rattle.codec.specs.Over.{over}
-use Rattle.codec.specs.Tabulate.{tabulate}
 use Rattle.geometry.specs.Around.{rows, points}
 use Rattle.list.specs.Inner.Keeping.{places, Ready}
 use Rattle.list.specs.Lists.{Long, Lists, Slices, lay, cleared}

@@ -8,10 +8,10 @@ use lib.Dec.{eqb}
 use lib.ListN.{length, getD, set, replicate, length-set, length-replicate}
 use lib.Seq.{getD-set-other}
 use borrow.Author.Tests.{eqb-true, eqb-false}
+use Rattle.base.specs.Over.{over}
 use Rattle.base.specs.Refusal.{accepted, refused}
+use Rattle.base.specs.Tabulate.{tabulate}
 use Rattle.blocks.specs.declared.header.Header.{Header}
-use Rattle.codec.specs.Over.{over}
-use Rattle.codec.specs.Tabulate.{tabulate}
 use Rattle.list.specs.Inner.Keeping.{places, Adds, Ready}
 use Rattle.list.specs.Lists.{Slices, lay, cleared}
 use Rattle.places.specs.declared.tile.Target.{Target}
@@ -26,8 +26,8 @@ use Rattle.search.specs.Run.{noPlace, inOrder, tilePlaces, openedMark}
 use Rattle.search.specs.declared.Place.{Place}
 use Rattle.tiles.specs.declared.tile.Site.{Site}
 use Rattle.base.proofs.Outcomes.{accepted-injective, accepted-refused}
+use Rattle.base.proofs.Over.{over-set}
 use Rattle.base.proofs.Tests.{by-test}
-use Rattle.codec.proofs.Over.{over-set}
 use Rattle.list.proofs.Added.{added-list, added-ready, added-laid}
 use Rattle.list.proofs.Laying.{places-length, lay-self, lay-under}
 use Rattle.plan.proofs.Theorems.{opens-own-town}

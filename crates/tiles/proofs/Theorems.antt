@@ -6,13 +6,13 @@ use mathlib.Core.Path.{_≡_, sym, ap, _∙_}
 use native.Mathlib.Nat.{zero-add}
 use lib.ListN.{length, getD}
 use Rattle.base.specs.Refusal.{accepted, refused}
+use Rattle.base.specs.Tabulate.{tabulate}
 use Rattle.blocks.specs.Block.{blockAt}
 use Rattle.blocks.specs.Directory.{boxAt, countAt}
 use Rattle.blocks.specs.declared.header.Header.{Header}
-use Rattle.codec.specs.Tabulate.{tabulate}
 use Rattle.geometry.specs.Box.{inside}
 use Rattle.base.proofs.Outcomes.{accepted-injective}
-use Rattle.codec.proofs.Tabulate.{length-tabulate, getD-tabulate}
+use Rattle.base.proofs.Tabulate.{length-tabulate, getD-tabulate}
 use Rattle.tiles.specs.Accepted.{GoodTile, GoodFile}
 use Rattle.tiles.specs.Tile.{siteIn, sitePoint, tilePosition, openTile, siteAt, sitesAt}
 use Rattle.tiles.specs.Validate.{validate}

@@ -9,18 +9,17 @@ use lib.Dec.{eqb}
 use lib.ListN.{getD}
 use borrow.Author.Tests.{eqb-true, eq-eqb}
 use Rattle.base.specs.Every.{every}
-use Rattle.base.specs.Refusal.{Outcome, accepted, refused, require, andThen, #sync, #check, #kind, #position}
+use Rattle.base.specs.Refusal.{Outcome, accepted, refused, require, andThen, #sync, #check, #kind, #position, inTurn}
 use Rattle.base.specs.Refusal.{#entries, #padding, #stray}
 use Rattle.blocks.specs.Block.{positionIn, entriesIn, kindDue, blockHead}
 use Rattle.blocks.specs.Checksum.{checkAgrees}
 use Rattle.blocks.specs.Directory.{directory, countAt}
 use Rattle.blocks.specs.Layout.{syncByte, tileKind}
-use Rattle.blocks.specs.Outcome.{inTurn}
 use Rattle.blocks.specs.declared.header.Header.{Header}
+use Rattle.base.proofs.InTurn.{turns-each, turns-all}
 use Rattle.base.proofs.Outcomes.{accepted-injective, accepted-refused, require-accepted, andThen-accepted}
 use Rattle.blocks.proofs.BlockLaws.{head-good, head-enough}
 use Rattle.blocks.proofs.DirectoryLaws.{directory-good, directory-enough}
-use Rattle.blocks.proofs.OutcomeLaws.{turns-each, turns-all}
 use Rattle.base.proofs.Every.{every-at, every-holds}
 use Rattle.tiles.specs.Accepted.{GoodTileBlock, GoodTile, GoodFile}
 use Rattle.tiles.specs.Tile.{tileBlock, tilePadding, siteInside, tilePosition, openTile}

@@ -5,6 +5,7 @@ use mathlib.Core.List.{List, [], _∷_}
 use lib.Dec.{eqb}
 use lib.IntN.{ℤ}
 use Rattle.base.specs.Refusal.{Outcome, accepted, require, andThen, #entries, #padding, #stray}
+use Rattle.base.specs.Tabulate.{tabulate}
 use Rattle.blocks.specs.Block.{blockAt, entriesIn, blockHead}
 use Rattle.blocks.specs.Directory.{directoryBlocks, boxAt, countAt}
 use Rattle.blocks.specs.Layout.{axes, tileKind, tilesAt, payloadAt, checkAt, siteSize, cueOffset}
@@ -12,7 +13,6 @@ use Rattle.blocks.specs.declared.header.Header.{Header}
 use Rattle.base.specs.Every.{every}
 use Rattle.codec.specs.Zeros.{zeros}
 use Rattle.codec.specs.Number.{u32At, i32At}
-use Rattle.codec.specs.Tabulate.{tabulate}
 use Rattle.geometry.specs.Box.{inside}
 use Rattle.tiles.specs.declared.tile.Site.{Site}
 

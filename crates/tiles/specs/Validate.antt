@@ -1,9 +1,8 @@
 -- The full check (document 01, "Writer, full check, host, program").
 use Prim.Native.Nat.{ℕ}
 use mathlib.Core.List.{List}
-use Rattle.base.specs.Refusal.{Outcome, accepted, andThen}
+use Rattle.base.specs.Refusal.{Outcome, accepted, andThen, inTurn}
 use Rattle.blocks.specs.Directory.{directory}
-use Rattle.blocks.specs.Outcome.{inTurn}
 use Rattle.blocks.specs.declared.header.Header.{Header}
 use Rattle.tiles.specs.Tile.{openTile}
 

@@ -11,6 +11,7 @@ use lib.IntN.{ℤ, pos}
 use lib.ListN.{length, getD, replicate, length-append}
 use borrow.Author.Tests.{eqb-true, eq-eqb}
 use Rattle.base.specs.Lists.{All}
+use Rattle.base.specs.Tabulate.{tabulate, joined}
 use Rattle.blocks.specs.Block.{positionIn, entriesIn, headerIn}
 use Rattle.blocks.specs.Checksum.{sums, checkAgrees}
 use Rattle.blocks.specs.Directory.{entryOffset, entryNumber, entryBox, entryCount, entryZero}
@@ -20,17 +21,16 @@ use Rattle.blocks.specs.declared.checksum.Sums.{Sums}
 use Rattle.codec.specs.Bytes.{bytes, bytes16, bytes32, bytesSigned}
 use Rattle.codec.specs.Zeros.{zeros}
 use Rattle.codec.specs.Number.{limit16, Bytes}
-use Rattle.codec.specs.Tabulate.{tabulate, joined}
 use Rattle.encode.specs.Encode.{headBytes, checkBytes, bodyBytes, blockBytes, boxBytes, entryBytes, siteBytes}
 use Rattle.encode.specs.Supply.{numbersPerBox, boxNumber, boxOf, countOf, suppliedSite}
 use Rattle.geometry.specs.Around.{row}
 use Rattle.tiles.specs.Tile.{siteOffset, siteIn, sitePoint}
 use Rattle.tiles.specs.declared.tile.Site.{Site}
+use Rattle.base.proofs.Tabulate.{getD-tabulate}
 use Rattle.base.proofs.Tests.{and-both, both-and}
 use Rattle.codec.proofs.Bytes.{read-16, read-32, read-signed, held-16, held-32, held-signed}
 use Rattle.codec.proofs.Holds.{Holds, holds-run, holds-cons, holds-head, holds-tail, holds-left, holds-right}
 use Rattle.codec.proofs.Holds.{holds-append, holds-each, holds-joined, zeros-held, held-zeros}
-use Rattle.codec.proofs.Tabulate.{getD-tabulate}
 use Rattle.base.proofs.Lists.{two}
 use Rattle.encode.proofs.EncodeLaws.{length-head, length-body, sums-body}
 use Rattle.writer.specs.Made.{Signed, Unsigned, boxNumbers}

@@ -10,6 +10,7 @@ use lib.IntN.{ℤ}
 use lib.ListN.{length, getD}
 use borrow.Author.Tests.{eqb-true, eqb-false, eq-eqb, ltb-true, ltb-false}
 use Rattle.base.specs.Lists.{All}
+use Rattle.base.specs.Tabulate.{joined}
 use Rattle.blocks.specs.Accepted.{GoodHead, GoodDirectoryBlock}
 use Rattle.blocks.specs.Block.{headerIn, kindDue}
 use Rattle.blocks.specs.Directory.{directoryBlocks, entriesDue, entryOffset, entryBox, entryCount, entryZero}
@@ -19,7 +20,6 @@ use Rattle.blocks.specs.Layout.{entriesPerBlock, siteSize, maxSites, maxTiles, 
 use Rattle.blocks.specs.declared.header.Header.{Header}
 use Rattle.codec.specs.Zeros.{zeros}
 use Rattle.codec.specs.Number.{limit16, Bytes, u16At}
-use Rattle.codec.specs.Tabulate.{joined}
 use Rattle.encode.specs.Encode.{entryBytes, siteBytes, directoryBytes, tileBytes}
 use Rattle.encode.specs.Supply.{headerOf, boxOf, countOf, suppliedSite}
 use Rattle.geometry.specs.Around.{row}

@@ -6,22 +6,22 @@ use mathlib.Core.Path.{_≡_, sym, ap, _∙_}
 use native.Mathlib.Nat.{zero-add}
 use native.Mathlib.Omega.{arith}
 use lib.ListN.{length, length-append}
+use Rattle.base.specs.Tabulate.{joined}
 use Rattle.blocks.specs.Accepted.{GoodDirectoryBlock}
 use Rattle.blocks.specs.Block.{blockAt}
 use Rattle.blocks.specs.Directory.{directoryBlocks, boxAt, countAt}
 use Rattle.blocks.specs.Layout.{axes, blockSize, entriesPerBlock, maxSites}
 use Rattle.codec.specs.Number.{Bytes}
-use Rattle.codec.specs.Tabulate.{joined}
 use Rattle.encode.specs.Encode.{directoryBytes, tileBytesOf, fileBytes, fileLength}
 use Rattle.encode.specs.Supply.{Supply, headerOf, tilesOf, boxOf, countOf, offset, siteOf}
 use Rattle.tiles.specs.Accepted.{GoodTileBlock, GoodFile}
 use Rattle.tiles.specs.Tile.{siteIn, tilePosition, siteAt}
+use Rattle.base.proofs.Joined.{length-joined}
 use Rattle.blocks.proofs.BlockLaws as blocks
 use Rattle.blocks.proofs.BlockLaws.{block-bytes}
 use Rattle.blocks.proofs.DirectoryLaws.{entry-block, entry-due, block-fits, count-small}
 use Rattle.codec.proofs.Holds.{Holds, holds-run, holds-part, part-holds, holds-left, holds-right, holds-append}
 use Rattle.codec.proofs.Holds.{holds-each, holds-joined}
-use Rattle.codec.proofs.Joined.{length-joined}
 use Rattle.encode.proofs.EncodeLaws.{length-directory-block, length-tile-block, due-few, due-within, blocks-few}
 use Rattle.writer.specs.Accepted.{GoodSupply}
 use Rattle.writer.specs.Made.{Typed}

@@ -11,23 +11,23 @@ use lib.ListN.{length, getD, take, drop}
 use lib.Seq.{take-length}
 use lib.Signed.{mag}
 use Rattle.base.specs.Lists.{All}
+use Rattle.base.specs.Tabulate.{tabulate, joined}
 use Rattle.blocks.specs.Block.{blockAt}
 use Rattle.blocks.specs.Directory.{entryOffset, entryNumber, entryBox, entryCount, boxAt, countAt}
 use Rattle.blocks.specs.Layout.{axes, countOffset, entriesPerBlock}
 use Rattle.blocks.specs.declared.header.Header.{Header}
 use Rattle.codec.specs.Number.{limit32, limitSigned, Bytes, u32At, i32At}
-use Rattle.codec.specs.Tabulate.{tabulate, joined}
 use Rattle.encode.specs.Supply.{Supply, headerOf, tilesOf, numbersPerBox, boxOf, countOf, offset, siteTotal}
 use Rattle.geometry.specs.Around.{row}
 use Rattle.tiles.specs.Accepted.{GoodFile}
 use Rattle.tiles.specs.Tile.{siteIn, sitePoint, siteAt}
 use Rattle.tiles.specs.declared.tile.Site.{Site}
+use Rattle.base.proofs.Joined.{length-joined, getD-joined, length-joined-next, joined-all, joined-same, joined-parts}
+use Rattle.base.proofs.Tabulate.{length-tabulate, getD-tabulate, tabulate-same, tabulate-all, tabulate-part}
 use Rattle.blocks.proofs.BlockLaws.{block-bytes}
 use Rattle.blocks.proofs.DirectoryLaws.{box-valid, count-small}
 use Rattle.codec.proofs.Bytes.{u16-small, u32-small}
-use Rattle.codec.proofs.Joined.{length-joined, getD-joined, length-joined-next, joined-all, joined-same, joined-parts}
 use Rattle.codec.proofs.Number.{signed-small}
-use Rattle.codec.proofs.Tabulate.{length-tabulate, getD-tabulate, tabulate-same, tabulate-all, tabulate-part}
 use Rattle.encode.proofs.SupplyLaws.{offset-next, offset-within}
 use Rattle.writer.specs.Accepted.{GoodSupply}
 use Rattle.writer.specs.Made.{Signed, Typed, boxNumbers, column, supplyOf}

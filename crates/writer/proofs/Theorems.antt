@@ -7,19 +7,19 @@ use native.Mathlib.Omega.{arith}
 use lib.ListN.{length, take, drop}
 use lib.Seq.{take-at, drop-at}
 use Rattle.base.specs.Refusal.{accepted}
+use Rattle.base.specs.Tabulate.{tabulate}
 use Rattle.blocks.specs.Directory.{boxAt, countAt}
 use Rattle.blocks.specs.declared.header.Header.{Header}
 use Rattle.codec.specs.Number.{Bytes}
-use Rattle.codec.specs.Tabulate.{tabulate}
 use Rattle.encode.specs.Encode.{fileBytes, fileLength}
 use Rattle.encode.specs.Supply.{Supply, headerOf, tilesOf, boxOf, countOf, siteOf}
 use Rattle.tiles.specs.Accepted.{GoodFile}
 use Rattle.tiles.specs.Tile.{siteAt, sitesAt}
 use Rattle.tiles.specs.Validate.{validate}
 use Rattle.base.proofs.Outcomes.{accepted-injective, andThen-accepted}
+use Rattle.base.proofs.Over.{over-eq}
+use Rattle.base.proofs.Tabulate.{tabulate-same}
 use Rattle.codec.proofs.Holds.{Holds, holds-self, holds-all, over-all}
-use Rattle.codec.proofs.Over.{over-eq}
-use Rattle.codec.proofs.Tabulate.{tabulate-same}
 use Rattle.tiles.proofs.Theorems.{validate-exactly}
 use Rattle.writer.specs.Accepted.{GoodSupply}
 use Rattle.writer.specs.Made.{Typed, Made, supplyOf}

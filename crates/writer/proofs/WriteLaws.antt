@@ -8,20 +8,20 @@ use lib.IntN.{ℤ}
 use lib.ListN.{length}
 use borrow.Author.Tests.{leb-true, le-leb, eqb-true, eq-eqb}
 use Rattle.base.specs.Lists.{All}
+use Rattle.base.specs.Over.{over}
 use Rattle.base.specs.Refusal.{accepted, refused}
+use Rattle.base.specs.Tabulate.{joined}
 use Rattle.blocks.specs.Directory.{directoryBlocks}
 use Rattle.blocks.specs.Layout.{axes, blockSize, maxSites, maxTiles}
-use Rattle.codec.specs.Over.{over}
-use Rattle.codec.specs.Tabulate.{joined}
 use Rattle.encode.specs.Encode.{directoryBytes, tileBytesOf, fileBytes, fileLength}
 use Rattle.encode.specs.Supply.{Supply, headerOf, tilesOf, numbersPerBox, boxOf, countOf, offset, siteTotal}
 use Rattle.geometry.specs.Around.{row}
 use Rattle.geometry.specs.Box.{validBox, inside}
+use Rattle.base.proofs.Joined.{length-joined}
 use Rattle.base.proofs.Outcomes.{require-accepted}
+use Rattle.base.proofs.Over.{also}
 use Rattle.base.proofs.Tests.{and-both, both-and}
 use Rattle.base.proofs.Every.{every-at, every-holds}
-use Rattle.codec.proofs.Joined.{length-joined}
-use Rattle.codec.proofs.Over.{also}
 use Rattle.geometry.proofs.Theorems.{columns-equal, equal-columns}
 use Rattle.encode.proofs.EncodeLaws.{length-directory-block}
 use Rattle.writer.specs.Accepted.{GoodSupply}

@@ -8,11 +8,11 @@ use lib.ListN.{getD, length}
 use lib.Signed.{mag}
 use Rattle.base.specs.Lists.{All}
 use Rattle.base.specs.Refusal.{accepted}
+use Rattle.base.specs.Tabulate.{tabulate, joined}
 use Rattle.blocks.specs.Directory.{boxAt, countAt}
 use Rattle.blocks.specs.Layout.{axes}
 use Rattle.blocks.specs.declared.header.Header.{Header}
 use Rattle.codec.specs.Number.{limit32, limitSigned}
-use Rattle.codec.specs.Tabulate.{tabulate, joined}
 use Rattle.encode.specs.Supply.{Supply, headerOf}
 use Rattle.geometry.specs.Box.{lo, hi}
 use Rattle.tiles.specs.Tile.{sitePoint, siteAt}

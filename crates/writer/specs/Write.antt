@@ -5,11 +5,11 @@ use mathlib.Core.List.{List}
 use lib.Dec.{eqb, leb}
 use lib.IntN.{ℤ}
 use lib.ListN.{length}
+use Rattle.base.specs.Over.{over}
 use Rattle.base.specs.Refusal.{Outcome, accepted, refused, require, andThen, #tiles, #box, #stray, #short, #supply}
 use Rattle.blocks.specs.Directory.{validEntry}
 use Rattle.blocks.specs.Layout.{maxTiles}
 use Rattle.base.specs.Every.{every}
-use Rattle.codec.specs.Over.{over}
 use Rattle.encode.specs.Encode.{fileBytes, fileLength}
 use Rattle.encode.specs.Supply.{Supply, headerOf, tilesOf, numbersPerBox, boxOf, countOf, offset, siteTotal}
 use Rattle.geometry.specs.Around.{equalColumns, row}

@@ -3,7 +3,7 @@ use Prim.Native.Nat.{ℕ, _+_, _<_, _≤_}
 use mathlib.Core.List.{List}
 use mathlib.Core.Path.{_≡_}
 use lib.ListN.{length, set}
-use Rattle.codec.specs.Tabulate.{tabulate}
+use Rattle.base.specs.Tabulate.{tabulate}
 use Rattle.search.specs.Inner.Cut.{Sorted, inserts}
 use Rattle.search.specs.Order.{insert}
 use Rattle.search.specs.Run.{rank}

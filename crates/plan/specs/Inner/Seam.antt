@@ -6,11 +6,11 @@ use mathlib.Core.Path.{_≡_}
 use lib.IntN.{ℤ}
 use lib.ListN.{length}
 use Rattle.base.specs.Refusal.{accepted}
+use Rattle.base.specs.Tabulate.{tabulate}
 use Rattle.blocks.specs.Block.{blockAt}
 use Rattle.blocks.specs.Directory.{directory, boxAt}
 use Rattle.blocks.specs.Layout.{blockSize}
 use Rattle.blocks.specs.declared.header.Header.{Header}
-use Rattle.codec.specs.Tabulate.{tabulate}
 use Rattle.geometry.specs.Box.{validBox, validPoint}
 use Rattle.geometry.specs.Corners.{corner, corners}
 use Rattle.geometry.specs.Distance.{D, maxDist}

@@ -11,7 +11,7 @@ use mathlib.Core.List.{List, [], _∷_, _++_}
 use mathlib.Core.Path.{_≡_}
 use lib.Dec.{eqb, leb, ltb}
 use lib.ListN.{length, getD}
-use Rattle.codec.specs.Over.{over}
+use Rattle.base.specs.Over.{over}
 use Rattle.search.specs.Lists.{range, filter}
 use Rattle.search.specs.Plan.{Geometry, Directory, ranked}
 use Rattle.search.specs.Run.{prunedMark}

@@ -1,8 +1,8 @@
 use mathlib.Core.Path.{refl}
 use borrow.Author.Needs.{needs}
 use borrow.Author.Tests.{eq-eqb, ne-eqb}
+use Rattle.base.proofs.Tests.{passed, failed, equal, unequal}
 use Rattle.blocks.specs.Block.{blockHead}
-use Rattle.blocks.proofs.TestLaws.{passed, failed, equal, unequal}
 use Rattle.blocks.proofs.block.head_number.Statement.{statement}
 use Rattle.blocks.proofs.block.head_number.Tie as tie
 

@@ -4,11 +4,11 @@ use lib.Dec.{eqb}
 use borrow.Author.Needs.{needs}
 use Rattle.base.specs.Refusal.{accepted}
 use Rattle.base.specs.Every.{every}
+use Rattle.base.proofs.Outcomes.{number-accepted, number-refused}
+use Rattle.base.proofs.Tests.{passed, failed, equal, unequal}
 use Rattle.blocks.specs.Block.{headerIn, entriesIn, blockHead}
 use Rattle.blocks.specs.Directory.{entriesDue, tilesDue, directoryPadding, entryValid, directoryBlock}
 use Rattle.blocks.specs.Layout.{directoryKind}
-use Rattle.blocks.proofs.OutcomeLaws.{number-accepted, number-refused}
-use Rattle.blocks.proofs.TestLaws.{passed, failed, equal, unequal}
 use Rattle.blocks.proofs.directory.directory_block.Statement.{statement}
 use Rattle.blocks.proofs.directory.directory_block.Tie as tie
 

@@ -2,9 +2,11 @@ use Prim.Native.Nat.{_-_, _≤_}
 use mathlib.Core.Path.{_≡_, sym, ap, _∙_}
 use native.Mathlib.Omega.{arith}
 use borrow.Author.Needs.{needs}
+use Rattle.base.specs.Refusal.{inTurn}
+use Rattle.base.proofs.InTurn.{turn-refused, turn-accepted, turn-end}
+use Rattle.base.proofs.Outcomes.{told}
 use Rattle.blocks.specs.Directory.{directoryBlocks, directoryBlockAt, directoryRest}
-use Rattle.blocks.specs.Outcome.{directoryOutcome, inTurn}
-use Rattle.blocks.proofs.OutcomeLaws.{turn-refused, turn-accepted, turn-end, told}
+use Rattle.blocks.specs.Outcome.{directoryOutcome}
 use Rattle.blocks.proofs.directory.directory_rest.Statement.{statement}
 use Rattle.blocks.proofs.directory.directory_rest.Tie as tie
 

@@ -3,12 +3,12 @@ use mathlib.Core.Path.{_≡_, sym, ap, _∙_}
 use native.Mathlib.Omega.{arith}
 use lib.ListN.{length}
 use borrow.Author.Needs.{needs}
+use Rattle.base.proofs.Outcomes.{told}
+use Rattle.base.proofs.Tests.{passed, failed}
 use Rattle.blocks.specs.Block.{blockAt, headerIn}
 use Rattle.blocks.specs.Directory.{lengthDue, directory}
 use Rattle.blocks.specs.Outcome.{directoryOutcome}
 use Rattle.blocks.proofs.DirectoryLaws.{length-good, first-block}
-use Rattle.blocks.proofs.OutcomeLaws.{told}
-use Rattle.blocks.proofs.TestLaws.{passed, failed}
 use Rattle.blocks.proofs.directory.read_directory.Statement.{statement}
 use Rattle.blocks.proofs.directory.read_directory.Tie as tie
 

@@ -1,8 +1,8 @@
 use mathlib.Core.Path.{ap, _∙_}
 use mir.Facts.{toZ-ofZ}
 use borrow.Author.Needs.{needs}
+use Rattle.base.specs.Over.{over}
 use Rattle.codec.specs.Bytes.{bytes32, bits, bytesSigned}
-use Rattle.codec.specs.Over.{over}
 use Rattle.codec.proofs.writing.put_i32.Statement.{statement}
 use Rattle.codec.proofs.writing.put_i32.Tie as tie
 

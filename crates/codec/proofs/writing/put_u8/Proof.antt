@@ -1,5 +1,5 @@
 use borrow.Author.Needs.{needs}
-use Rattle.codec.specs.Over.{over}
+use Rattle.base.specs.Over.{over}
 use Rattle.codec.proofs.writing.put_u8.Statement.{statement}
 use Rattle.codec.proofs.writing.put_u8.Tie as tie
 

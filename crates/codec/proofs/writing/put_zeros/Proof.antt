@@ -2,8 +2,8 @@ use Prim.Native.Nat.{_-_, _≤_}
 use mathlib.Core.Path.{_≡_, _∙_}
 use lib.ListN.{length, replicate, length-set}
 use borrow.Author.Needs.{needs}
-use Rattle.codec.specs.Over.{over}
-use Rattle.codec.proofs.Over.{fill-turn, fill-end}
+use Rattle.base.specs.Over.{over}
+use Rattle.base.proofs.Over.{fill-turn, fill-end}
 use Rattle.codec.proofs.writing.put_zeros.Statement.{statement}
 use Rattle.codec.proofs.writing.put_zeros.Tie as tie
 

@@ -7,7 +7,7 @@ use mir.Facts.{toZ-ofZ}
 use mir.Syntax.{w32}
 use mir.Val.{SFits}
 use borrow.Author.Needs.{sfits-of, needs}
-use Rattle.codec.specs.Tabulate.{tabulate}
+use Rattle.base.specs.Tabulate.{tabulate}
 use Rattle.console.specs.Request.{coordinates}
 use Rattle.console.proofs.RequestLaws.{stored-next}
 use Rattle.console.proofs.request.read_coordinates.Statement.{statement}

@@ -3,7 +3,7 @@ use mathlib.Core.Path.{_≡_, _∙_}
 use native.Mathlib.Omega.{arith}
 use lib.ListN.{length, length-set}
 use borrow.Author.Needs.{needs}
-use Rattle.codec.specs.Over.{over}
+use Rattle.base.specs.Over.{over}
 use Rattle.console.specs.Text.{digits}
 use Rattle.console.proofs.TextLaws.{digits-turn, digits-end}
 use Rattle.console.proofs.text.put_digits.Statement.{statement}

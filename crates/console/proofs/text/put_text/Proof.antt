@@ -3,7 +3,7 @@ use mathlib.Core.Path.{_≡_, refl, _∙_}
 use native.Mathlib.Omega.{arith}
 use lib.ListN.{length, length-set, drop}
 use borrow.Author.Needs.{needs}
-use Rattle.codec.specs.Over.{over}
+use Rattle.base.specs.Over.{over}
 use Rattle.console.proofs.TextLaws.{copy-start, copy-turn, copy-end}
 use Rattle.console.proofs.text.put_text.Statement.{statement}
 use Rattle.console.proofs.text.put_text.Tie as tie

@@ -3,10 +3,10 @@ use mathlib.Core.Path.{ap, _∙_}
 use native.Mathlib.Omega.{arith}
 use lib.ListN.{length}
 use borrow.Author.Needs.{needs}
+use Rattle.base.specs.Over.{over}
+use Rattle.base.specs.Tabulate.{joined}
 use Rattle.blocks.specs.Directory.{entriesDue}
 use Rattle.blocks.specs.Layout.{axes, directoryKind, blockSize, entriesPerBlock}
-use Rattle.codec.specs.Over.{over}
-use Rattle.codec.specs.Tabulate.{joined}
 use Rattle.encode.specs.Encode.{headBytes, blockBytes, entryBytes, directoryBytes}
 use Rattle.encode.specs.Supply.{headerOf}
 use Rattle.encode.proofs.EncodeLaws.{due-within, blocks-few, length-head, length-entries, block-row}

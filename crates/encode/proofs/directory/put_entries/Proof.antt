@@ -3,10 +3,10 @@ use mathlib.Core.Path.{_≡_, sym, ap, _∙_}
 use native.Mathlib.Omega.{arith}
 use lib.ListN.{length}
 use borrow.Author.Needs.{needs}
+use Rattle.base.specs.Over.{over}
+use Rattle.base.specs.Tabulate.{joined}
 use Rattle.blocks.specs.Layout.{axes, entrySize}
-use Rattle.codec.specs.Over.{over}
-use Rattle.codec.specs.Tabulate.{joined}
-use Rattle.codec.proofs.Joined.{joined-turn, joined-end}
+use Rattle.base.proofs.Joined.{joined-turn, joined-end}
 use Rattle.encode.specs.Encode.{entryBytes}
 use Rattle.encode.specs.Supply.{numbersPerBox}
 use Rattle.encode.proofs.EncodeLaws.{length-entry}

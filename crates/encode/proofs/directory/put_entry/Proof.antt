@@ -1,9 +1,9 @@
 use Prim.Native.Nat.{_+_}
 use mathlib.Core.Path.{ap, _∙_}
 use borrow.Author.Needs.{needs}
+use Rattle.base.specs.Over.{over}
 use Rattle.blocks.specs.Layout.{axes, countOffset}
 use Rattle.codec.specs.Bytes.{bytes16}
-use Rattle.codec.specs.Over.{over}
 use Rattle.encode.proofs.EncodeLaws.{entry-row}
 use Rattle.encode.proofs.directory.put_entry.Statement.{statement}
 use Rattle.encode.proofs.directory.put_entry.Tie as tie

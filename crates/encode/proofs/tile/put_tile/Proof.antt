@@ -2,8 +2,8 @@ use Prim.Native.Nat.{_*_}
 use mathlib.Core.List.{[], _∷_}
 use native.Mathlib.Omega.{arith}
 use borrow.Author.Needs.{needs}
+use Rattle.base.specs.Tabulate.{joined}
 use Rattle.blocks.specs.Layout.{tileKind, blockSize}
-use Rattle.codec.specs.Tabulate.{joined}
 use Rattle.encode.specs.Encode.{headBytes, siteBytes, tileBytes}
 use Rattle.encode.proofs.EncodeLaws.{length-head, length-sites, block-row}
 use Rattle.encode.proofs.tile.put_tile.Statement.{statement}

@@ -5,11 +5,11 @@ use native.Mathlib.Nat.{sub-zero}
 use native.Mathlib.Omega.{arith}
 use lib.ListN.{length}
 use borrow.Author.Needs.{needs}
+use Rattle.base.specs.Over.{over}
+use Rattle.base.specs.Tabulate.{joined}
 use Rattle.blocks.specs.Directory.{directoryBlocks}
 use Rattle.blocks.specs.Layout.{blockSize}
-use Rattle.codec.specs.Over.{over}
-use Rattle.codec.specs.Tabulate.{joined}
-use Rattle.codec.proofs.Joined.{joined-turn, joined-end}
+use Rattle.base.proofs.Joined.{joined-turn, joined-end}
 use Rattle.encode.specs.Encode.{tileBytesOf, fileLength}
 use Rattle.encode.specs.Supply.{headerOf, offset}
 use Rattle.encode.proofs.EncodeLaws.{blocks-few, tile-of, length-tile-block}

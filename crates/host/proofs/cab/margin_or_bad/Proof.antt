@@ -4,8 +4,7 @@ use mir.Facts.{toZ-ofZ}
 use mir.Syntax.{w64}
 use mir.Val.{SFits}
 use borrow.Author.Needs.{sfits-of, needs}
-use Rattle.base.proofs.Tests.{and-both}
-use Rattle.blocks.proofs.TestLaws.{passed, failed}
+use Rattle.base.proofs.Tests.{and-both, passed, failed}
 use Rattle.geometry.specs.Box.{validBox}
 use Rattle.geometry.specs.Calls.{marginCall}
 use Rattle.geometry.specs.Margin.{margin}

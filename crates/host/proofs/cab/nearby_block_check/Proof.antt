@@ -1,6 +1,6 @@
 use borrow.Author.Needs.{needs}
 use borrow.Author.Tests.{eq-eqb, ne-eqb}
-use Rattle.blocks.proofs.TestLaws.{passed, failed}
+use Rattle.base.proofs.Tests.{passed, failed}
 use Rattle.host.specs.Cab.{blockCheck, blockTests}
 use Rattle.host.proofs.cab.nearby_block_check.Statement.{statement}
 use Rattle.host.proofs.cab.nearby_block_check.Tie as tie

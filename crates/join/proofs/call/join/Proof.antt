@@ -3,7 +3,7 @@ use mathlib.Core.Path.{refl}
 use borrow.Author.Needs.{needs}
 use Rattle.blocks.specs.Outcome.{directoryOutcome}
 use Rattle.list.specs.Lists.{lent}
-use Rattle.blocks.proofs.OutcomeLaws.{told}
+use Rattle.base.proofs.Outcomes.{told}
 use Rattle.join.proofs.Calling.{directory-refuses}
 use Rattle.join.proofs.call.join.Statement.{statement}
 use Rattle.join.proofs.call.join.Tie as tie

@@ -5,7 +5,7 @@ use borrow.Author.Needs.{needs}
 use Rattle.base.specs.Refusal.{accepted}
 use Rattle.list.specs.Lists.{Slices, lent}
 use Rattle.stops.specs.Arguments.{arguments}
-use Rattle.blocks.proofs.OutcomeLaws.{number-accepted, number-refused}
+use Rattle.base.proofs.Outcomes.{number-accepted, number-refused}
 use Rattle.join.specs.Join.{lengthsOf}
 use Rattle.join.proofs.Calling.{argument-refuses, tests-pass, run-ready}
 use Rattle.join.proofs.call.join_accepted.Statement.{statement}

@@ -1,7 +1,7 @@
 use mathlib.Core.Path.{refl}
 use borrow.Author.Needs.{needs}
 use Rattle.blocks.specs.Outcome.{directoryOutcome}
-use Rattle.blocks.proofs.OutcomeLaws.{told}
+use Rattle.base.proofs.Outcomes.{told}
 use Rattle.prune.specs.Prune.{pruneCall, marksAfter}
 use Rattle.prune.proofs.call.prune.Statement.{statement}
 use Rattle.prune.proofs.call.prune.Tie as tie

@@ -5,8 +5,8 @@ use mathlib.Core.Path.{_≡_, refl, _∙_}
 use native.Mathlib.Omega.{arith}
 use lib.ListN.{length, length-set}
 use borrow.Author.Needs.{needs}
+use Rattle.base.specs.Over.{over}
 use Rattle.blocks.specs.Layout.{maxTiles}
-use Rattle.codec.specs.Over.{over}
 use Rattle.plan.specs.FilePlan.{entries}
 use Rattle.search.specs.Lists.{bit, range}
 use Rattle.search.specs.Lists as lists

@@ -4,8 +4,8 @@ use mathlib.Core.Path.{_≡_, refl, _∙_}
 use native.Mathlib.Omega.{arith}
 use lib.ListN.{length, length-set}
 use borrow.Author.Needs.{needs}
+use Rattle.base.specs.Over.{over}
 use Rattle.blocks.specs.Layout.{maxTiles}
-use Rattle.codec.specs.Over.{over}
 use Rattle.plan.specs.Inner.Seam as seam
 use Rattle.search.specs.Lists.{range}
 use Rattle.prune.specs.Inner.Tables.{fars}

@@ -3,7 +3,7 @@ use mathlib.Core.List.{map}
 use mathlib.Core.Path.{_≡_, refl, _∙_}
 use lib.ListN.{length, length-set}
 use borrow.Author.Needs.{needs}
-use Rattle.codec.specs.Over.{over}
+use Rattle.base.specs.Over.{over}
 use Rattle.plan.specs.FilePlan.{entries}
 use Rattle.plan.specs.Inner.Seam.{cornerOf, cornerCount}
 use Rattle.search.specs.Lists.{range}

@@ -4,7 +4,7 @@ use mathlib.Core.Path.{_≡_, refl, _∙_}
 use native.Mathlib.Omega.{arith}
 use lib.ListN.{length, length-set, drop}
 use borrow.Author.Needs.{needs}
-use Rattle.codec.specs.Over.{over}
+use Rattle.base.specs.Over.{over}
 use Rattle.plan.specs.FilePlan.{entries}
 use Rattle.search.specs.Plan.{near}
 use Rattle.queue.proofs.Filling.{fill-turn, fill-done}

@@ -6,8 +6,7 @@ use borrow.Author.Needs.{needs}
 use Rattle.base.specs.Refusal.{accepted}
 use Rattle.plan.specs.FilePlan.{openingOf}
 use Rattle.tiles.specs.Inner.Opening.{openingOutcome}
-use Rattle.base.proofs.Outcomes.{andThen-accepted, andThen-refused}
-use Rattle.blocks.proofs.OutcomeLaws.{told}
+use Rattle.base.proofs.Outcomes.{andThen-accepted, andThen-refused, told}
 use Rattle.serve.proofs.marks.open_once.Statement.{statement}
 use Rattle.serve.proofs.marks.open_once.Tie as tie
 

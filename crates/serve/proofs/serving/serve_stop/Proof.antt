@@ -9,8 +9,7 @@ use Rattle.list.specs.Lists.{Lists, lists, lent}
 use Rattle.plan.specs.FilePlan.{openingOf}
 use Rattle.queue.specs.Inner.Keys.{none, Passed}
 use Rattle.search.specs.Inner.Cut.{lastAhead}
-use Rattle.base.proofs.Outcomes.{accepted-injective, andThen-accepted, andThen-refused}
-use Rattle.blocks.proofs.OutcomeLaws.{told}
+use Rattle.base.proofs.Outcomes.{accepted-injective, andThen-accepted, andThen-refused, told}
 use Rattle.list.proofs.Laying.{lay-lengths}
 use Rattle.plan.proofs.Measures.{tiles-few}
 use Rattle.queue.proofs.Scanning.{passed-none, passed-next}

@@ -5,8 +5,7 @@ use lib.ListN.{length}
 use Rattle.plan.specs.FilePlan.{openingOf}
 use Rattle.plan.specs.Inner.Seam.{Opens}
 use Rattle.tiles.specs.Inner.Opening.{openingOutcome}
-use Rattle.base.proofs.Outcomes.{andThen-accepted, andThen-refused}
-use Rattle.blocks.proofs.OutcomeLaws.{told}
+use Rattle.base.proofs.Outcomes.{andThen-accepted, andThen-refused, told}
 use Rattle.plan.proofs.Theorems.{opens-own-town}
 use Rattle.serve.proofs.serving.take_tile.Statement.{statement}
 use Rattle.serve.proofs.serving.take_tile.Tie as tie

@@ -4,8 +4,8 @@ use mathlib.Core.Path.{_≡_, sym}
 use native.Mathlib.Omega.{arith}
 use borrow.Author.Count.{below-more}
 use borrow.Author.Needs.{needs}
-use Rattle.blocks.proofs.TestLaws.{passed, failed}
 use Rattle.base.proofs.Every.{every-fails, every-holds}
+use Rattle.base.proofs.Tests.{passed, failed}
 use Rattle.tiles.specs.Tile.{siteInside}
 use Rattle.tiles.proofs.tile.sites_inside.Statement.{statement}
 use Rattle.tiles.proofs.tile.sites_inside.Tie as tie

@@ -5,8 +5,8 @@ use borrow.Author.Needs.{needs}
 use Rattle.base.specs.Refusal.{accepted}
 use Rattle.blocks.specs.Block.{entriesIn, blockHead}
 use Rattle.blocks.specs.Layout.{tileKind}
-use Rattle.blocks.proofs.OutcomeLaws.{number-accepted, number-refused}
-use Rattle.blocks.proofs.TestLaws.{passed, failed, equal, unequal}
+use Rattle.base.proofs.Outcomes.{number-accepted, number-refused}
+use Rattle.base.proofs.Tests.{passed, failed, equal, unequal}
 use Rattle.tiles.specs.Tile.{tilePadding, tileBlock}
 use Rattle.tiles.proofs.tile.tile_block.Statement.{statement}
 use Rattle.tiles.proofs.tile.tile_block.Tie as tie

@@ -2,8 +2,9 @@ use Prim.Native.Nat.{_-_}
 use mathlib.Core.Path.{_≡_, sym, _∙_}
 use native.Mathlib.Nat.{sub-zero}
 use borrow.Author.Needs.{needs}
-use Rattle.blocks.specs.Outcome.{inTurn}
-use Rattle.blocks.proofs.OutcomeLaws.{turn-refused, turn-accepted, turn-end, told}
+use Rattle.base.specs.Refusal.{inTurn}
+use Rattle.base.proofs.InTurn.{turn-refused, turn-accepted, turn-end}
+use Rattle.base.proofs.Outcomes.{told}
 use Rattle.tiles.specs.Inner.Opening.{openingOutcome}
 use Rattle.tiles.specs.Tile.{openTile}
 use Rattle.tiles.specs.Validate.{openAll}

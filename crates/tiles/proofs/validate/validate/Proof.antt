@@ -1,7 +1,7 @@
 use mathlib.Core.Path.{sym, _∙_}
 use borrow.Author.Needs.{needs}
 use Rattle.blocks.specs.Outcome.{directoryOutcome}
-use Rattle.blocks.proofs.OutcomeLaws.{told}
+use Rattle.base.proofs.Outcomes.{told}
 use Rattle.tiles.specs.Validate.{validate}
 use Rattle.tiles.proofs.validate.validate.Statement.{statement}
 use Rattle.tiles.proofs.validate.validate.Tie as tie

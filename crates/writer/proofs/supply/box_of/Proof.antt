@@ -3,7 +3,7 @@ use native.Mathlib.Nat.{add-zero}
 use lib.IntN.{ℤ, pos}
 use lib.ListN.{getD}
 use borrow.Author.Needs.{needs}
-use Rattle.codec.specs.Tabulate.{tabulate}
+use Rattle.base.specs.Tabulate.{tabulate}
 use Rattle.encode.specs.Supply.{numbersPerBox, boxOf}
 use Rattle.codec.proofs.Number.{local-i32}
 use Rattle.writer.proofs.supply.box_of.Statement.{statement}

@@ -5,8 +5,8 @@ use native.Mathlib.Omega.{arith}
 use lib.ListN.{length}
 use borrow.Author.Count.{below-more}
 use borrow.Author.Needs.{needs}
-use Rattle.blocks.proofs.TestLaws.{passed, failed}
 use Rattle.base.proofs.Every.{every-fails, every-holds}
+use Rattle.base.proofs.Tests.{passed, failed}
 use Rattle.writer.specs.Write.{entryFits}
 use Rattle.writer.proofs.supply.entries_fit.Statement.{statement}
 use Rattle.writer.proofs.supply.entries_fit.Tie as tie

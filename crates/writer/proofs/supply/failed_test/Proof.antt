@@ -11,8 +11,8 @@ use Rattle.base.specs.Refusal.{accepted, require, #stray, #short}
 use Rattle.base.specs.Every.{every}
 use Rattle.encode.specs.Encode.{fileLength}
 use Rattle.encode.specs.Supply.{supply, headerOf, numbersPerBox, siteTotal}
-use Rattle.blocks.proofs.TestLaws.{passed, failed}
 use Rattle.base.proofs.Every.{every-at}
+use Rattle.base.proofs.Tests.{passed, failed}
 use Rattle.writer.specs.Write.{tilesFit, entryFits, listsFit, tileFits, writeTests}
 use Rattle.writer.proofs.WriteLaws.{tiles-good, entry-good, lists-good}
 use Rattle.writer.proofs.supply.failed_test.Statement.{statement}

@@ -7,8 +7,8 @@ use borrow.Author.Count.{below-more}
 use borrow.Author.Needs.{needs}
 use Rattle.geometry.specs.Around.{row}
 use Rattle.geometry.specs.Box.{inside}
-use Rattle.blocks.proofs.TestLaws.{passed, failed}
 use Rattle.base.proofs.Every.{every-fails, every-holds}
+use Rattle.base.proofs.Tests.{passed, failed}
 use Rattle.writer.specs.Write.{sitesFit}
 use Rattle.writer.proofs.supply.sites_fit.Statement.{statement}
 use Rattle.writer.proofs.supply.sites_fit.Tie as tie

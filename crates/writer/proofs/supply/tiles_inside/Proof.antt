@@ -7,8 +7,8 @@ use lib.ListN.{length}
 use borrow.Author.Count.{below-more}
 use borrow.Author.Needs.{needs}
 use Rattle.encode.specs.Supply.{offset}
-use Rattle.blocks.proofs.TestLaws.{passed, failed}
 use Rattle.base.proofs.Every.{every-fails, every-holds}
+use Rattle.base.proofs.Tests.{passed, failed}
 use Rattle.encode.proofs.SupplyLaws.{offset-next, offset-within}
 use Rattle.writer.specs.Write.{tileFits}
 use Rattle.writer.proofs.WriteLaws.{tile-test}

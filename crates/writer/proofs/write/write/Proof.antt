@@ -7,7 +7,7 @@ use borrow.Author.Needs.{needs}
 use Rattle.base.specs.Refusal.{accepted}
 use Rattle.encode.specs.Encode.{fileLength}
 use Rattle.encode.specs.Supply.{Supply, supply, headerOf}
-use Rattle.blocks.proofs.OutcomeLaws.{number-accepted, number-refused}
+use Rattle.base.proofs.Outcomes.{number-accepted, number-refused}
 use Rattle.writer.specs.Accepted.{GoodSupply}
 use Rattle.writer.specs.Write.{writeTests}
 use Rattle.writer.proofs.WriteLaws.{tests-good, call-refused, call-accepted, exit-refused, exit-accepted}

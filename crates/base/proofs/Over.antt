@@ -9,8 +9,8 @@ use lib.Dec.{eqb}
 use lib.ListN.{length, getD, set, take, drop, replicate, length-set}
 use lib.Seq.{sets, sets-eq, length-sets, getD-set-same, getD-set-other, set-set, set-comm}
 use borrow.Author.Tests.{eqb-true, eqb-false}
 use Rattle.base.proofs.Tests.{by-test}
-use Rattle.codec.specs.Over.{over}
+use Rattle.base.specs.Over.{over}
 
 -- what it is, where the run fits
 pub over-eq : (l : List ℕ) (i : ℕ) (vs : List ℕ) → i + length vs ≤ length l

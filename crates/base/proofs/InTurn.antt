@@ -1,23 +1,10 @@
--- Laws of numbered outcomes and of tests in turn. Assumes nothing.
+-- Laws of tests in turn. Assumes nothing.
 use Prim.Native.Nat.{ℕ, zero, suc, _+_, _-_, _<_, _≤_}
 use mathlib.Core.Path.{_≡_, refl, sym, ap, _∙_}
 use native.Mathlib.Nat.{add-zero, not-suc-le-zero}
 use native.Mathlib.Omega.{arith}
-use Rattle.base.specs.Refusal.{Outcome, accepted, refused}
+use Rattle.base.specs.Refusal.{Outcome, accepted, refused, inTurn}
 use Rattle.base.proofs.Outcomes.{andThen-accepted}
-use Rattle.blocks.specs.Inner.Number.{numberOutcome}
-use Rattle.blocks.specs.Outcome.{inTurn}
-
-module _ (n p : ℕ) {o : Outcome Unit} where
-  pub number-accepted : numberOutcome n p ≡ o → n ≡ 0 → o ≡ accepted tt
-  number-accepted e z = sym e ∙ ap (λ k. numberOutcome k p) z
-
-  pub number-refused : numberOutcome n p ≡ o → (n ≡ 0 → ⊥) → o ≡ refused n p
-  number-refused e z = sym e ∙ go n z
-    where
-      go : (n : ℕ) → (n ≡ 0 → ⊥) → numberOutcome n p ≡ refused n p
-      go zero z = absurd (z refl)
-      go (suc n) z = refl
 
 module _ {A : Type 0} (test : ℕ → Outcome A) where
   -- a loop that tests p, p + 1 .. up to n - 1
@@ -66,7 +53,3 @@ turns-same test other p (suc n) h =
     let here = h p (omega arith) (omega arith) in
     let rest = turns-same test other (p + 1) n (λ i a b. h i (omega arith) (omega arith)) in
     rw (here, rest)
-
--- an answer that was taken apart
-pub told : {A B : Type 0} (outcome : A → Outcome B) {a x : A} {o : Outcome B} → outcome a ≡ o → a ≡ x → o ≡ outcome x
-told outcome e q = sym e ∙ ap outcome q

@@ -7,9 +7,9 @@ use native.Mathlib.Numerals.{sub-one}
 use native.Mathlib.Omega.{arith}
 use lib.ListN.{length, getD, take, drop, length-append, List·getD-append}
 use lib.Seq.{getD-append-add, drop-drop, take-add}
-use Rattle.codec.specs.Over.{over}
-use Rattle.codec.specs.Tabulate.{joined}
-use Rattle.codec.proofs.Over.{over-nil, over-next}
+use Rattle.base.specs.Over.{over}
+use Rattle.base.specs.Tabulate.{joined}
+use Rattle.base.proofs.Over.{over-nil, over-next}
 
 module _ {A : Type 0} (g : ℕ → List A) where
   -- parts of one width

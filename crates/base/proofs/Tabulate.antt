@@ -6,7 +6,7 @@ use native.Mathlib.Nat.{add-zero, zero-add, not-suc-le-zero, le-of-suc-le-suc}
 use native.Mathlib.Omega.{arith}
 use lib.ListN.{length, getD, take, drop, replicate, length-drop}
 use lib.Seq.{length-take-le, getD-take, getD-drop, ext-getD}
-use Rattle.codec.specs.Tabulate.{tabulate}
+use Rattle.base.specs.Tabulate.{tabulate}
 
 module _ {A : Type 0} (g : ℕ → A) where
   pub length-tabulate : (a n : ℕ) → length (tabulate g a n) ≡ n
