@@ -27,7 +27,7 @@ use Rattle.search.specs.Order.{lex, insert, sort}
 use Rattle.search.specs.Plan.{ranks, ranked}
 use Rattle.search.specs.Pruning.{pruned, prunedCount}
 use Rattle.search.specs.Run.{rank, aheadOf, listing, placesOf, nearest, contents, opening, byKey, ahead, candidate}
-use Rattle.search.specs.Run.{queue, follow, enough, serve, run, placesUsed, join, padded, slices, mark, marks}
+use Rattle.search.specs.Run.{queue, follow, enough, serve, run, placesUsed, join, padded, inRows, mark, marks}
 use Rattle.search.specs.Limits.{validK}
 use Rattle.stops.specs.Stops.{validStop}
 use Rattle.stops.specs.Arguments.{stopsDue, stopsValid, room, arguments}
@@ -51,7 +51,7 @@ unfolding every withinLimits validAxis validBox validPoint onAxis inside gap squ
     directoryBytes tileBytes tileBytesOf fileBytes fileLength tilesFit entryFits listsFit sitesFit tileFits writeTests
     writeCall writeExit count total filter member lex insert sort ranks ranked pruned
     prunedCount rank aheadOf listing placesOf nearest contents opening byKey ahead candidate queue follow enough serve
-    run placesUsed join padded slices mark marks validK validStop stopsDue stopsValid room arguments lay cleared
+    run placesUsed join padded inRows mark marks validK validStop stopsDue stopsValid room arguments lay cleared
     openingOf runFor tests filled ended runEnd joinFrom joinEnd widthUpTo width digits decimal labelled refusedLine
     countsLine placeText textAt placesText stopLine kOf stopsAsked coordinates xsOf ysOf headLength fileOf wellFormed
     emptySlices answerText endOf endText output

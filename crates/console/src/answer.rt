@@ -26,10 +26,10 @@ const COUNTS_ROOM: usize = 53;
 
 const STOP_ROOM: usize = 2843;
 
-pub const ROOM: usize = COUNTS_ROOM + request::MAX_STOPS * STOP_ROOM;
+pub const ROOM: usize = COUNTS_ROOM + request::REQUEST_STOPS * STOP_ROOM;
 
 // Places that a request can ask for.
-const PLACES: usize = request::MAX_STOPS * (search::MAX_K as usize);
+const PLACES: usize = request::REQUEST_STOPS * (search::MAX_K as usize);
 
 fn put_answer(
     out: &mut [u8],
@@ -86,8 +86,8 @@ fn put_request(input: &[u8], out: &mut [u8]) -> usize
 {
     let n = request::stop_count(input);
     let k = u32_at(input, 0);
-    let mut xs = [0i32; request::MAX_STOPS];
-    let mut ys = [0i32; request::MAX_STOPS];
+    let mut xs = [0i32; request::REQUEST_STOPS];
+    let mut ys = [0i32; request::REQUEST_STOPS];
     request::read_coordinates(input, 8, n, &mut xs);
     request::read_coordinates(input, 12, n, &mut ys);
     let start = request::head_length(n);

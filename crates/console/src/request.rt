@@ -11,7 +11,7 @@ use codec::reading::u32_at;
 // The most bytes that are read, and the most stops.
 pub const MAX_INPUT: usize = 65536;
 
-pub const MAX_STOPS: usize = 128;
+pub const REQUEST_STOPS: usize = 128;
 
 pub fn stop_count(input: &[u8]) -> usize
     requires { ⌜ 8 ≤ length (now input) ⌝ }
@@ -38,7 +38,7 @@ pub fn well_formed(input: &[u8]) -> bool
         return false;
     }
     let n = stop_count(input);
-    if MAX_STOPS < n {
+    if REQUEST_STOPS < n {
         return false;
     }
     head_length(n) <= input.len()

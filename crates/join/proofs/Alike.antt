@@ -14,15 +14,15 @@ use Rattle.geometry.specs.Around.{around}
 use Rattle.list.specs.Lists.{Lists, Slices, Long, placeAt, lay, cleared}
 use Rattle.plan.specs.FilePlan.{entries, openingOf}
 use Rattle.search.specs.Lists.{range}
-use Rattle.search.specs.Run.{noPlace, noMark, slices, mark, marks}
+use Rattle.search.specs.Run.{noPlace, noMark, inRows, mark, marks}
 use Rattle.search.specs.declared.Place.{Place}
 use Rattle.stops.specs.Arguments.{arguments}
 use Rattle.stops.specs.Stops.{stopCount, stopsOf}
 use Rattle.base.proofs.Outcomes.{by-outcome}
 use Rattle.base.proofs.Over.{getD-run}
 use Rattle.list.proofs.Laying.{lay-place}
-use Rattle.plan.proofs.Tables.{range-length}
-use Rattle.search.proofs.Marks.{slices-length}
+use Rattle.plan.proofs.Tables.{table-length}
+use Rattle.search.proofs.Marks.{rows-length}
 use Rattle.search.proofs.Run.{join-length}
 use Rattle.stops.proofs.ArgumentLaws.{arguments-good}
 use Rattle.stops.proofs.StopLaws.{stops-length}
@@ -95,8 +95,8 @@ module _ (f : List ℕ) (cols : List (List ℤ)) (k : ℕ) (out out′ : Slices)
         let O = around cols in
         let m = mark E O k (runFor f h cols k .openings) in
         let c = join-length E O k (openingOf f h) (stopsOf cols) ls e ∙ stops-length cols in
-        let w = filled-alike (slices k ls) (map m (range 0 (h .tiles))) (slices-length k ls ∙ rw c)
-        (range-length m 0 (h .tiles)) in
+        let w = filled-alike (inRows k ls) (map m (range 0 (h .tiles))) (rows-length k ls ∙ rw c)
+        (table-length m 0 (h .tiles)) in
         record { outcome = refl; lists = w .0; marks = w .1 }
     ended-alike (refused x y) e =
         let w = filled-alike (replicate n noPlace) (replicate (h .tiles) noMark) (length-replicate n noPlace)

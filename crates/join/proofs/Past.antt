@@ -11,15 +11,15 @@ use Rattle.blocks.specs.declared.header.Header.{Header}
 use Rattle.geometry.specs.Around.{around}
 use Rattle.list.specs.Lists.{Slices, cleared}
 use Rattle.plan.specs.FilePlan.{entries, openingOf}
-use Rattle.search.specs.Run.{noPlace, noMark, slices, mark, marks}
+use Rattle.search.specs.Run.{noPlace, noMark, inRows, mark, marks}
 use Rattle.search.specs.declared.Place.{Place}
 use Rattle.stops.specs.Arguments.{arguments}
 use Rattle.stops.specs.Stops.{stopCount, stopsOf}
 use Rattle.base.proofs.Outcomes.{by-outcome}
 use Rattle.base.proofs.Over.{getD-after}
 use Rattle.list.proofs.Laying.{lay-after}
-use Rattle.plan.proofs.Tables.{range-length}
-use Rattle.search.proofs.Marks.{slices-length}
+use Rattle.plan.proofs.Tables.{table-length}
+use Rattle.search.proofs.Marks.{rows-length}
 use Rattle.search.proofs.Run.{join-length}
 use Rattle.stops.proofs.StopLaws.{stops-length}
 use Rattle.join.specs.Claims.{PastStays}
@@ -41,8 +41,8 @@ module _ (f : List ℕ) (cols : List (List ℤ)) (k : ℕ) (out : Slices) (h : H
       let E = entries f h in
       let m = mark E (around cols) k (runFor f h cols k .openings) in
       let c = join-length E (around cols) k (openingOf f h) (stopsOf cols) ls e ∙ stops-length cols in
-      filled-past (slices k ls) (marks E (around cols) k (runFor f h cols k .openings)) (slices-length k ls ∙ rw c)
-      (range-length m 0 (h .tiles))
+      filled-past (inRows k ls) (marks E (around cols) k (runFor f h cols k .openings)) (rows-length k ls ∙ rw c)
+      (table-length m 0 (h .tiles))
   ended-past (refused x y) e =
       let n = stopCount cols * k in
       filled-past (replicate n noPlace) (replicate (h .tiles) noMark) (length-replicate n noPlace)

@@ -25,7 +25,7 @@ use Rattle.search.specs.Inner.Places.{maxPlaces}
 use Rattle.search.specs.Limits.{maxK}
 use Rattle.search.specs.Plan.{Lawful, ranked}
 use Rattle.search.specs.Pruning.{pruned, prunedCount}
-use Rattle.search.specs.Run.{noPlace, candidate, candidates, queue, join, slices, placesUsed, mark, marks, openedMark}
+use Rattle.search.specs.Run.{noPlace, candidate, candidates, queue, join, inRows, placesUsed, mark, marks, openedMark}
 use Rattle.search.specs.Run.{prunedMark}
 use Rattle.search.specs.declared.Place.{Place}
 use Rattle.serve.specs.Inner.Marks.{markAll}
@@ -36,12 +36,13 @@ use Rattle.base.proofs.Over.{over-under, length-over}
 use Rattle.geometry.proofs.Theorems.{all-rows, around-smallest}
 use Rattle.list.proofs.Laying.{lay-under, lay-long}
 use Rattle.list.proofs.Padding.{clear-all}
-use Rattle.plan.proofs.Tables.{filled-at, filled-take, range-length, bit-small}
+use Rattle.plan.proofs.Tables.{filled-at, filled-take, table-length, bit-small}
 use Rattle.plan.proofs.Theorems.{plan-lawful, opening-checked}
-use Rattle.search.proofs.Cut.{join-cut, cuts-length}
+use Rattle.search.proofs.Cut.{join-cut}
 use Rattle.search.proofs.Equation.{Alike, withNew-member}
 use Rattle.search.proofs.Lists.{all-map, all-mem, mem-all, member-mem, mem-member, filter-same, range-below}
-use Rattle.search.proofs.Marks.{slices-length}
+use Rattle.search.proofs.Marks.{rows-length}
+use Rattle.search.proofs.Walk.{walks-length}
 use Rattle.search.proofs.Theorems.{places-used, opened-count, only-tiles}
 use Rattle.serve.proofs.Marking.{marks-end}
 use Rattle.stops.proofs.ArgumentLaws.{few-places}
@@ -149,7 +150,7 @@ module _ {f : List ℕ} {h : Header} {cols : List (List ℤ)} {k : ℕ} {out : S
   covered : cleared 0 n (h .tiles) started ≡ cleared 0 n (h .tiles) out
   unfolding cleared pruneMarks
   covered =
-      let a = range-length (λ t. bit (pruned (entries f h) O k t)) 0 (h .tiles) in
+      let a = table-length (λ t. bit (pruned (entries f h) O k t)) 0 (h .tiles) in
       let b = length-replicate {A = ℕ} (h .tiles) 0 in
       let zeros = replicate n noPlace in
       rw (
@@ -159,13 +160,13 @@ module _ {f : List ℕ} {h : Header} {cols : List (List ℤ)} {k : ℕ} {out : S
       )
 
   lists-cover : (ls : List (List Place)) → walksFor f h cols k .out ≡ accepted ls
-      → lay (started .lists) 0 (slices k ls) ≡ lay (out .lists) 0 (slices k ls)
+      → lay (started .lists) 0 (inRows k ls) ≡ lay (out .lists) 0 (inRows k ls)
   lists-cover ls e =
-      let a = cuts-length (entries f h) k (openingOf f h) (queue (entries f h) O k) (stopsOf cols) ls e in
-      let b = slices-length k ls in
-      let q : length (slices k ls) ≡ n = b ∙ ap (λ (m : ℕ). m * k) (a ∙ stops-length cols) in
+      let a = walks-length _ (stopsOf cols) ls e in
+      let b = rows-length k ls in
+      let q : length (inRows k ls) ≡ n = b ∙ ap (λ (m : ℕ). m * k) (a ∙ stops-length cols) in
       let z = length-replicate n noPlace in
-      lay-under (out .lists) 0 0 (replicate n noPlace) (slices k ls) (omega arith) (omega arith)
+      lay-under (out .lists) 0 0 (replicate n noPlace) (inRows k ls) (omega arith) (omega arith)
 
   pub attempted : {from out′ : Slices} {o : Outcome ℕ} {p : ℕ} → from ≡ started → p ≡ prunedCount (entries f h) O k
       → p ≤ h .tiles
@@ -221,7 +222,7 @@ module _ {f : List ℕ} {h : Header} {cols : List (List ℤ)} {k : ℕ} {out : S
         → lastLength 0 ls ≡ placesUsed (entries f h) k
     unfolding runFor
     used-is ls e =
-        let a = cuts-length (entries f h) k (openingOf f h) (queue (entries f h) O k) (stopsOf cols) ls e in
+        let a = walks-length _ (stopsOf cols) ls e in
         let q = stops-length cols in
         last-of (placesUsed (entries f h) k) 0 ls (omega (arith, r .args .some))
         (places-used (entries f h) O k lawful (openingOf f h) (opening-checked f h b) (stopsOf cols)
@@ -248,7 +249,7 @@ module _ {f : List ℕ} {h : Header} {cols : List (List ℤ)} {k : ℕ} {out : S
           let ls = a .0 in
           let u : used ≡ placesUsed (entries f h) k = sym (accepted-injective (a .2)) ∙ used-is ls (a .1) in
           let s : out′ ≡ record {
-            lists = lay (out .lists) 0 (slices k ls);
+            lists = lay (out .lists) 0 (inRows k ls);
             marks = over (out .marks) 0 (marks (entries f h) O k (runFor f h cols k .openings));
           } = t .answered ls (a .1) ∙ rw marks-are in
           let c : opened ≡ length (runFor f h cols k .openings) =

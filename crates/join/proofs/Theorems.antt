@@ -30,7 +30,7 @@ use Rattle.search.specs.Lists.{Distinct}
 use Rattle.search.specs.Limits.{validK, maxK}
 use Rattle.search.specs.Plan.{ranked, Town}
 use Rattle.search.specs.Pruning.{pruned, prunedCount}
-use Rattle.search.specs.Run.{join, mark, padded, noPlace, slices, placesUsed, marks}
+use Rattle.search.specs.Run.{join, mark, padded, noPlace, inRows, placesUsed, marks}
 use Rattle.search.specs.declared.Place.{Place}
 use Rattle.stops.specs.Arguments.{arguments}
 use Rattle.stops.specs.Stops.{stopCount, stopsOf}
@@ -45,7 +45,7 @@ use Rattle.plan.proofs.Theorems.{opening-checked, join-depends, pruned-count-de
 use Rattle.plan.proofs.Theorems.{good-opens, good-agrees}
 use Rattle.prune.proofs.Theorems.{prunes-exactly}
 use Rattle.search.proofs.Lists.{all-map, all-both}
-use Rattle.search.proofs.Marks.{slices-length, marks-at}
+use Rattle.search.proofs.Marks.{rows-length, marks-at}
 use Rattle.search.proofs.Queue.{candidate-unpruned, candidate-some}
 use Rattle.search.proofs.Run.{join-refused}
 use Rattle.search.proofs.Theorems as run
@@ -197,7 +197,7 @@ module _ (f : List ℕ) (cols : List (List ℤ)) (k : ℕ) (out : Slices) where
       pruned = prunedCount (entries f h) (around cols) k;
     }
     slices-are : joinEnd f cols k out .slices
-        ≡ filled (slices k ls) (marks (entries f h) (around cols) k (runFor f h cols k .openings)) out
+        ≡ filled (inRows k ls) (marks (entries f h) (around cols) k (runFor f h cols k .openings)) out
 
   from-run : (h : Header) → directory f ≡ accepted h → arguments (h .tiles) cols k (lengthsOf out) ≡ accepted tt
       → (r : Result) → joinEnd f cols k out .outcome ≡ accepted r
@@ -239,7 +239,7 @@ module _ (f : List ℕ) (cols : List (List ℤ)) (k : ℕ) (out : Slices) where
         omega (arith, g .few-k),
         (
           u,
-          rw (a .slices-are) (lay-long (out .lists) 0 (slices k (a .ls)) (stopCount cols * k)
+          rw (a .slices-are) (lay-long (out .lists) 0 (inRows k (a .ls)) (stopCount cols * k)
               (g .dist, (g .site, g .cue))),
         ),
       )
@@ -280,15 +280,15 @@ module _ (f : List ℕ) (cols : List (List ℤ)) (k : ℕ) (out : Slices) where
 
       -- place j of the list of stop i
       place-left : length (a .ls) ≡ stopCount cols → (i j : ℕ) → i < stopCount cols → j < k
-          → placeAt (left f cols k out H .lists) (i * k + j) ≡ getD (slices k (a .ls)) (i * k + j) noPlace
+          → placeAt (left f cols k out H .lists) (i * k + j) ≡ getD (inRows k (a .ls)) (i * k + j) noPlace
       unfolding filled
       place-left e i j p q =
           let n = stopCount cols * k in
-          let c : length (slices k (a .ls)) ≡ n = slices-length k (a .ls) ∙ rw e in
+          let c : length (inRows k (a .ls)) ≡ n = rows-length k (a .ls) ∙ rw e in
           let m : suc i * k ≤ n = mul-le-mul {n₁ = suc i} {m₁ = k} {n₂ = stopCount cols} {m₂ = k} p (omega arith) in
           let w = a .ready axes .args in
           rw (a .slices-are)
-          (rw (zero-add (i * k + j)) at (lay-place (out .lists) 0 (slices k (a .ls))
+          (rw (zero-add (i * k + j)) at (lay-place (out .lists) 0 (inRows k (a .ls))
           (omega (arith, w .dist), (omega (arith, w .site), omega (arith, w .cue))) (i * k + j) (omega arith)))
 
     -- "Suppose the join answers."

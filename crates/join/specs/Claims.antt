@@ -18,7 +18,7 @@ use lib.IntN.{ℤ}
 use lib.ListN.{length, getD, take}
 use Rattle.base.specs.Refusal.{accepted, refused}
 use Rattle.blocks.specs.Block.{blockAt}
-use Rattle.blocks.specs.Directory.{directory, countAt}
+use Rattle.blocks.specs.Directory.{directory}
 use Rattle.blocks.specs.Same.{SameDirectory}
 use Rattle.blocks.specs.declared.header.Header.{Header}
 use Rattle.geometry.specs.Around.{around, SmallestAround}
@@ -28,7 +28,7 @@ use Rattle.prune.specs.Prune.{pruneCall, marksAfter}
 use Rattle.search.specs.Claims.{FullSearch}
 use Rattle.search.specs.FullSearch.{SiteOf, ByDistanceTileSlot, fullSearch, Fits, Changes}
 use Rattle.search.specs.Lists.{count, member, All, Distinct}
-use Rattle.search.specs.Plan.{Town, Agrees}
+use Rattle.search.specs.Plan.{ranked, Town, Agrees}
 use Rattle.search.specs.Pruning.{pruned}
 use Rattle.search.specs.Run.{Run, rank, noPlace, fullQueue, run, placesUsed, openedMark}
 use Rattle.search.specs.Run.{prunedMark, noMark}
@@ -55,7 +55,7 @@ pub record RefusedRun (f : List ℕ) (h : Header) (cols : List (List ℤ)) (k nu
   pub below : tile < h .tiles
   pub position : block ≡ tilePosition h tile
   pub unpruned : pruned (entries f h) (around cols) k tile ≡ false
-  pub some : 0 < countAt f tile
+  pub some : 0 < ranked (entries f h) tile
   pub refuses : openTile f h tile ≡ refused number block
 
 -- g has the length and the directory of f, and the block of every tile that is not struck; those of the struck ones may

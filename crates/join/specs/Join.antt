@@ -17,7 +17,7 @@ use Rattle.geometry.specs.Around.{around}
 use Rattle.list.specs.Lists.{Slices, lay, cleared}
 use Rattle.plan.specs.FilePlan.{entries, openingOf}
 use Rattle.search.specs.Pruning.{prunedCount}
-use Rattle.search.specs.Run.{Run, join, slices, placesUsed, marks}
+use Rattle.search.specs.Run.{Run, join, inRows, placesUsed, marks}
 use Rattle.search.specs.declared.Place.{Place}
 use Rattle.stops.specs.Arguments.{arguments}
 use Rattle.stops.specs.Stops.{stopCount, stopsOf}
@@ -75,7 +75,7 @@ ended f h cols k opened out (accepted ls) = record {
     opened = length opened;
     pruned = prunedCount (entries f h) (around cols) k;
   });
-  slices = filled (slices k ls) (marks (entries f h) (around cols) k opened) out;
+  slices = filled (inRows k ls) (marks (entries f h) (around cols) k opened) out;
 }
 ended f h cols k opened out (refused number block) =
     record { outcome = refused number block; slices = cleared 0 (stopCount cols * k) (h .tiles) out }

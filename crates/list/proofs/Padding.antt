@@ -6,7 +6,7 @@ use native.Mathlib.Omega.{arith}
 use lib.ListN.{length, take, replicate, length-replicate, getD-replicate}
 use lib.Seq.{take-append-add}
 use Rattle.base.specs.Over.{over}
-use Rattle.search.specs.Run.{noPlace, padded, slices}
+use Rattle.search.specs.Run.{noPlace, padded, inRows}
 use Rattle.search.specs.declared.Place.{Place}
 use Rattle.base.proofs.Tabulate.{tabulate-const}
 use Rattle.search.proofs.Marks.{padded-length}
@@ -70,8 +70,8 @@ module _ (k : ℕ) (o : Lists) (at : ℕ) (l : List Place) (z : Clear o at (at +
       rw (padded-is k l few) (sym (lay-next o at l (replicate n noPlace)) ∙ rw rest at (lay-self o′ (at + length l) n))
 
   -- the list of a stop is laid, and those of the later stops are left
-  pub stop-laid : (ls : List (List Place)) → lay (lay o at l) (at + k) (slices k ls) ≡ lay o at (slices k (l ∷ ls))
-  unfolding slices
+  pub stop-laid : (ls : List (List Place)) → lay (lay o at l) (at + k) (inRows k ls) ≡ lay o at (inRows k (l ∷ ls))
+  unfolding inRows
   stop-laid ls =
       let n = padded-length k l in
-      ap (λ z. lay z (at + k) (slices k ls)) (sym lay-padded) ∙ rw n at (lay-next o at (padded k l) (slices k ls))
+      ap (λ z. lay z (at + k) (inRows k ls)) (sym lay-padded) ∙ rw n at (lay-next o at (padded k l) (inRows k ls))

@@ -22,7 +22,7 @@ use Rattle.blocks.proofs.BlockLaws.{length-block, block-bytes}
 use Rattle.blocks.proofs.DirectoryLaws.{directory-good, block-fits, box-valid, count-small}
 use Rattle.codec.proofs.Bytes.{u32-small}
 use Rattle.geometry.proofs.Theorems.{inside-valid}
-use Rattle.tiles.proofs.Theorems.{opening-exactly, opened-count, opened-inside, sites-length}
+use Rattle.tiles.proofs.Theorems.{opening-exactly, opened-number, opened-inside, sites-length}
 use Rattle.plan.specs.FilePlan.{entries, openingOf, townOf}
 use Rattle.plan.specs.Inner.Seam.{TileOf, Opens, BlockOf}
 
@@ -56,7 +56,7 @@ module _ (f : List ℕ) (h : Header) (t : ℕ) where
   pub opening-counted : andThen (openingOf f h t) (λ l. accepted (length l)) ≡ openTile f h t
   unfolding openingOf
   opening-counted = by-outcome (openTile f h t)
-      (λ n e. rw e (ap accepted (sites-length f h t ∙ sym (opened-count f h t e))))
+      (λ n e. rw e (ap accepted (sites-length f h t ∙ sym (opened-number f h t e))))
       (λ n b e. rw e)
 
   -- the block of a tile that opens

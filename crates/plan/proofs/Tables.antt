@@ -1,48 +1,47 @@
 -- For the crates above: a table filled element by element (one turn of the loop, its end, and reading it), and tests as
 -- numbers.
-use Prim.Native.Nat.{ℕ, zero, suc, _+_, _-_, _<_, _≤_}
+use Prim.Native.Nat.{ℕ, suc, _+_, _-_, _<_, _≤_}
 use mathlib.Core.Bool.{Bool, true, false}
 use mathlib.Core.List.{List, map}
 use mathlib.Core.Path.{_≡_, refl, sym, ap, _∙_}
-use native.Mathlib.Nat.{zero-add, add-suc, add-zero, suc-add}
+use native.Mathlib.Nat.{zero-add}
 use native.Mathlib.Numerals.{add-one}
 use native.Mathlib.Omega.{arith}
-use lib.ListN.{length, getD, set, take}
+use lib.ListN.{length, getD, set, take, length-map}
 use lib.Seq.{take-at}
 use mir.Val.{boolByte}
 use Rattle.base.specs.Over.{over}
 use Rattle.search.specs.Lists.{range, bit}
+use Rattle.search.proofs.Lists.{getD-map-lt, range-length, range-getD}
 use Rattle.base.proofs.Over.{over-eq, over-nil, over-cons, getD-run}
 
 module _ (g : ℕ → ℕ) where
-  pub fill-turn : (d : List ℕ) (t n : ℕ) → t < n
-      → over (set d t (g t)) (t + 1) (map g (range (t + 1) (n - (t + 1)))) ≡ over d t (map g (range t (n - t)))
-  fill-turn d t n h =
+  -- what g gives for t stands at index i
+  pub fill-turn : (d : List ℕ) (i t n : ℕ) → t < n
+      → over (set d i (g t)) (i + 1) (map g (range (t + 1) (n - (t + 1)))) ≡ over d i (map g (range t (n - t)))
+  fill-turn d i t n h =
       let e : n - t ≡ suc (n - (t + 1)) = omega arith in
-      rw e (sym (over-cons d t (g t) (map g (range (suc t) (n - (t + 1)))) ∙ rw (add-one t)))
+      rw (e, add-one i) (sym (over-cons d i (g t) (map g (range (suc t) (n - (t + 1)))) ∙ rw (add-one t)))
 
-  pub fill-done : (d : List ℕ) (t n : ℕ) → n ≤ t → d ≡ over d t (map g (range t (n - t)))
-  fill-done d t n h = let e : n - t ≡ 0 = omega arith in rw e (sym (over-nil d t))
+  pub fill-done : (d : List ℕ) (i t n : ℕ) → n ≤ t → d ≡ over d i (map g (range t (n - t)))
+  fill-done d i t n h = let e : n - t ≡ 0 = omega arith in rw e (sym (over-nil d i))
 
-  pub range-length : (a n : ℕ) → length (map g (range a n)) ≡ n
-  range-length a zero = refl
-  range-length a (suc n) = ap suc (range-length (suc a) n)
+  pub table-length : (a n : ℕ) → length (map g (range a n)) ≡ n
+  table-length a n = length-map (range a n) g ∙ range-length a n
 
-  pub range-at : (a n i : ℕ) → i < n → getD (map g (range a n)) i 0 ≡ g (a + i)
-  range-at a zero i h = absurd (omega arith)
-  range-at a (suc n) zero h = rw (add-zero a)
-  range-at a (suc n) (suc i) h = range-at (suc a) n i (omega arith) ∙ rw (suc-add a i, add-suc a i)
+  pub table-at : (a n i : ℕ) → i < n → getD (map g (range a n)) i 0 ≡ g (a + i)
+  table-at a n i h = getD-map-lt g (range a n) i 0 0 (rw (range-length a n) h) ∙ ap g (range-getD a n i h)
 
   pub filled-at : (d : List ℕ) (n t : ℕ) → n ≤ length d → t < n → getD (over d 0 (map g (range 0 n))) t 0 ≡ g t
   filled-at d n t h k =
-      let l = range-length 0 n in
+      let l = table-length 0 n in
       ap (λ (i : ℕ). getD (over d 0 (map g (range 0 n))) i 0) (sym (zero-add t))
       ∙ getD-run d 0 t (map g (range 0 n)) (omega arith) (omega arith)
-      ∙ range-at 0 n t k ∙ rw (zero-add t)
+      ∙ table-at 0 n t k ∙ rw (zero-add t)
 
   pub filled-take : (d : List ℕ) (n : ℕ) → n ≤ length d → take n (over d 0 (map g (range 0 n))) ≡ map g (range 0 n)
   filled-take d n h =
-      let l = range-length 0 n in
+      let l = table-length 0 n in
       rw (over-eq d 0 (map g (range 0 n)) (omega arith)) (take-at (map g (range 0 n)) _ n l)
 
 -- ---- a test as a number

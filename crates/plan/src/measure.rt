@@ -9,6 +9,9 @@ use blocks::header::Header;
 use geometry::distance::max_dist_within;
 use geometry::distance::min_dist_within;
 
+// Above every distance.
+pub const NONE: u64 = 18_446_744_073_709_551_615;
+
 // Near distance of tile t.
 pub fn near(f: &[u8], h: Header, t: usize, p: Stop) -> u64
     requires { ⌜ TileOf (now f) h t × ValidStop p ⌝ }

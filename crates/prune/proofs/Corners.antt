@@ -1,14 +1,13 @@
 -- The tables of the corners: how they are filled, and what they tell of a pair of tiles. Assumes nothing.
-use Prim.Native.Nat.{ℕ, suc, _+_, _-_, _*_, _<_, _≤_}
+use Prim.Native.Nat.{ℕ, _+_, _-_, _*_, _<_, _≤_}
 use mathlib.Core.Bool.{false}
 use mathlib.Core.List.{List, map}
 use mathlib.Core.Path.{_≡_, refl, sym, ap, _∙_}
 use native.Mathlib.Nat.{zero-add}
-use native.Mathlib.Numerals.{add-one}
 use native.Mathlib.Omega.{arith}
 use lib.Dec.{ltb, leb}
 use lib.IntN.{ℤ}
-use lib.ListN.{getD, set}
+use lib.ListN.{getD}
 use borrow.Author.Tests.{ltb-true, ltb-false, le-ltb}
 use Rattle.base.specs.Over.{over}
 use Rattle.base.specs.Refusal.{accepted}
@@ -21,33 +20,15 @@ use Rattle.search.specs.Lists.{range}
 use Rattle.search.specs.Plan.{near}
 use Rattle.search.specs.Pruning.{pruned}
 use Rattle.base.proofs.Every.{every-fails, every-same}
-use Rattle.base.proofs.Over.{over-nil, over-cons, length-over, getD-before, getD-run}
+use Rattle.base.proofs.Over.{length-over, getD-before, getD-run}
 use Rattle.base.proofs.Tests.{by-test}
-use Rattle.blocks.proofs.Theorems.{directory-exactly}
-use Rattle.plan.proofs.Measures.{closer-by-corners}
-use Rattle.plan.proofs.Tables.{range-length, range-at}
+use Rattle.plan.proofs.Measures.{closer-by-corners, tiles-few}
+use Rattle.plan.proofs.Tables.{table-length, table-at}
 use Rattle.search.proofs.Lists.{all-map, range-below}
 use Rattle.search.proofs.SameEntries.{total-same}
 use Rattle.prune.specs.Inner.Tables.{fars, nears, FarTable, belowAll, sumBelow}
 
--- ---- a part of a table filled tile by tile: one turn of the loop, and its end
-
-module _ (g : ℕ → ℕ) (first : ℕ) (d : List ℕ) (t n : ℕ) where
-  pub part-turn : t < n → over (set d (first + t) (g t)) (first + (t + 1)) (map g (range (t + 1) (n - (t + 1))))
-      ≡ over d (first + t) (map g (range t (n - t)))
-  part-turn l =
-      let e : n - t ≡ suc (n - (t + 1)) = omega arith in
-      let i : first + (t + 1) ≡ suc (first + t) = omega arith in
-      rw (e, i) (sym (over-cons d (first + t) (g t) (map g (range (suc t) (n - (t + 1)))) ∙ rw (add-one t)))
-
-  pub part-done : n ≤ t → d ≡ over d (first + t) (map g (range t (n - t)))
-  part-done l = let e : n - t ≡ 0 = omega arith in rw e (sym (over-nil d (first + t)))
-
 -- ---- the tables of a region
-
--- T of an accepted directory
-pub tiles-most : (f : List ℕ) (h : Header) → directory f ≡ accepted h → h .tiles ≤ maxTiles
-tiles-most f h dir = directory-exactly f h .0 dir .tiles .most
 
 module _ (f : List ℕ) (h : Header) (dir : directory f ≡ accepted h) (o : List (List ℤ)) where
   -- the part of one more corner
@@ -55,8 +36,8 @@ module _ (f : List ℕ) (h : Header) (dir : directory f ≡ accepted h) (o : Lis
       → d′ ≡ over d (c * maxTiles) (fars f h (cornerOf o c)) → FarTable f h o (c + 1) d′
   fill-corner {c} {d} {d′} l table e =
       let g = far f (cornerOf o c) in
-      let most = tiles-most f h dir in
-      let size = range-length g 0 (h .tiles) in
+      let most = tiles-few f h dir in
+      let size = table-length g 0 (h .tiles) in
       let long = table .long in
       let part = map g (range 0 (h .tiles)) in
       rw e (record {
@@ -66,7 +47,7 @@ module _ (f : List ℕ) (h : Header) (dir : directory f ≡ accepted h) (o : Lis
             getD-before d (c * maxTiles) (i * maxTiles + t) part (omega arith) ∙ table .at i t k u)
             (λ b. let q : i ≡ c = omega (arith, ltb-false i c b) in
             rw q (getD-run d (c * maxTiles) t part (omega arith) (omega arith)
-            ∙ range-at g 0 (h .tiles) t u ∙ rw (zero-add t)));
+            ∙ table-at g 0 (h .tiles) t u ∙ rw (zero-add t)));
       })
 
   module _ (v : ValidRegion o) {d : List ℕ} (table : FarTable f h o cornerCount d) (t : ℕ) (below : t < h .tiles) where
@@ -76,7 +57,7 @@ module _ (f : List ℕ) (h : Header) (dir : directory f ≡ accepted h) (o : Lis
     unfolding belowAll
     tells-closer e l =
         let g : ℕ → ℕ = λ c. near (entries f h) (cornerOf o c) t in
-        every-same _ _ cornerCount (λ c i. rw (table .at c e i l, range-at g 0 cornerCount c i, zero-add c))
+        every-same _ _ cornerCount (λ c i. rw (table .at c e i l, table-at g 0 cornerCount c i, zero-add c))
         ∙ sym (closer-by-corners f h dir v e t l below)
 
     -- so the sum over the tables decides

@@ -22,7 +22,7 @@ use Rattle.search.specs.Run.{mark, marks}
 use Rattle.base.proofs.Outcomes.{accepted-injective, require-accepted, andThen-accepted}
 use Rattle.base.proofs.Over.{getD-after}
 use Rattle.base.proofs.Tests.{by-test}
-use Rattle.plan.proofs.Tables.{range-length, filled-at, filled-take}
+use Rattle.plan.proofs.Tables.{table-length, filled-at, filled-take}
 use Rattle.search.proofs.Lists.{all-any}
 use Rattle.search.proofs.Marks.{mark-pruned, mark-neither, marks-pruned}
 use Rattle.search.proofs.SameEntries.{map-same}
@@ -86,6 +86,6 @@ module _ (f : List ℕ) (o : List (List ℤ)) (k : ℕ) (lent : List ℕ) where
               ∙ sym (rw (a .left) (rw (filled-take m lent (h .tiles) (a .room))
               (marks-pruned (entries f h) o k [] tt)));
           past = λ t l. rw (a .left) (getD-after lent 0 t (map m (range 0 (h .tiles)))
-              (omega (arith, range-length m 0 (h .tiles), l)));
+              (omega (arith, table-length m 0 (h .tiles), l)));
         },
       )

@@ -19,6 +19,7 @@ use crate::compare;
 use crate::tables;
 use blocks::header::Header;
 use blocks::layout::MAX_TILES;
+use plan::measure::NONE;
 use plan::region::CORNERS;
 use plan::region::Region;
 use plan::sites;
@@ -107,13 +108,13 @@ fn middle_tile(far: &[u64], h: Header) -> usize
     let tiles = h.tiles;
     let opposite = (CORNERS - 1) * MAX_TILES;
     let mut middle: usize = 0;
-    let mut least: u64 = 18_446_744_073_709_551_615;
+    let mut least: u64 = NONE;
     let mut t: usize = 0;
     while t < tiles {
-        let both = far[t] / 2 + far[opposite + t] / 2;
-        if both < least {
+        let sum = far[t] / 2 + far[opposite + t] / 2;
+        if sum < least {
             middle = t;
-            least = both;
+            least = sum;
         }
         t += 1;
     }

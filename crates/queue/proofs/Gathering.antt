@@ -2,7 +2,7 @@
 use Prim.Native.Nat.{ℕ, zero, suc, _+_, _-_, _<_, _≤_}
 use mathlib.Core.Bool.{Bool, true}
 use mathlib.Core.List.{List, [], _∷_, _++_, append-assoc}
-use mathlib.Core.Path.{_≡_, refl, sym, ap, _∙_}
+use mathlib.Core.Path.{_≡_, refl, sym, _∙_}
 use native.Mathlib.Nat.{add-zero}
 use native.Mathlib.Numerals.{add-one}
 use native.Mathlib.Omega.{arith}
@@ -16,7 +16,7 @@ use Rattle.search.specs.Order.{Strict}
 use Rattle.base.proofs.Over.{over-eq, over-nil, over-cons, over-set}
 use Rattle.base.proofs.Tests.{by-test}
 use Rattle.plan.proofs.Tables.{bit-small}
-use Rattle.search.proofs.Lists.{all-map, filter-all, range-below, range-above}
+use Rattle.search.proofs.Lists.{all-map, filter-all, range-below, range-above, range-length}
 use Rattle.queue.specs.Inner.Keys.{spare, Gathers}
 
 module _ (w : ℕ → Bool) where
@@ -90,10 +90,6 @@ module _ {w : ℕ → Bool} {n : ℕ} {order₀ order : List ℕ} {m t : ℕ} (g
       record { number = omega arith; written = sym (over-nil order m) ∙ rw d at (g .rest) }
 
 -- ---- what is gathered
-
-range-length : (a n : ℕ) → length (range a n) ≡ n
-range-length a zero = refl
-range-length a (suc n) = ap suc (range-length (suc a) n)
 
 -- the front of the slice: the waiting tiles
 pub gathered : {w : ℕ → Bool} {n : ℕ} {order : List ℕ} {r : ℕ} {order′ : List ℕ} → Gathers w n order r order′

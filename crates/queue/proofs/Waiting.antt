@@ -8,7 +8,7 @@
 --   keyed-next, living-fewer   and they go together again, one fewer
 --   living-none    no key is left: no tile waits
 --   tile-at        what stands in the order is a tile
-use Prim.Native.Nat.{ℕ, zero, suc, _+_, _-_, _<_, _≤_}
+use Prim.Native.Nat.{ℕ, suc, _+_, _-_, _<_, _≤_}
 use mathlib.Core.Bool.{cond}
 use mathlib.Core.List.{List, [], _∷_, map}
 use mathlib.Core.Path.{_≡_, refl, sym, ap, _∙_}
@@ -32,22 +32,12 @@ use Rattle.search.specs.Run.{byKey, inOrder}
 use Rattle.base.proofs.Over.{length-over, getD-run}
 use Rattle.base.proofs.Tests.{by-test}
 use Rattle.plan.proofs.Measures.{near-bounded}
+use Rattle.search.proofs.Lists.{all-getD, getD-map-lt}
 use Rattle.search.proofs.Pairs.{lex-less, lex-not-less}
 use Rattle.search.proofs.Sort.{sort-length, skip, stop}
 use Rattle.queue.specs.Inner.Keys.{none, leastKey}
 use Rattle.queue.specs.declared.keys.Least.{Least}
 use Rattle.queue.proofs.Scanning.{least-low, least-here}
-
--- a property of the elements of a list, at an index
-pub all-at : (P : ℕ → Type 0) (l : List ℕ) → All P l → (i : ℕ) → i < length l → P (getD l i 0)
-all-at P [] a i h = absurd (omega arith)
-all-at P (x ∷ l) a zero h = a .0
-all-at P (x ∷ l) a (suc i) h = all-at P l (a .1) i (omega arith)
-
-map-at : (g : ℕ → ℕ) (l : List ℕ) (i : ℕ) → i < length l → getD (map g l) i 0 ≡ g (getD l i 0)
-map-at g [] i h = absurd (omega arith)
-map-at g (x ∷ l) zero h = refl
-map-at g (x ∷ l) (suc i) h = map-at g l i (omega arith)
 
 -- ---- the tiles that wait
 
@@ -134,7 +124,7 @@ module _ {G : Geometry} (E : Directory G) (p : G .Stop) where
         let l : i < length ts = omega (arith, b .0, b .1) in
         let e : a + suc i ≡ rest .at = omega (arith, b .0) in
         let k : getD keys (a + suc i) 0 ≡ rest .key = rw e (b .2) in
-        (sym k ∙ own (suc i) (omega arith) (omega arith), ltb-true t next (all-at _ ts (rise .0) i l))
+        (sym k ∙ own (suc i) (omega arith) (omega arith), ltb-true t next (all-getD _ ts i 0 l (rise .0)))
 
     -- the tile itself is the first
     stay-first : getD keys a 0 ≤ rest .key → getD keys a 0 < none → (rest .key < none → First keys (suc a) ts rest)
@@ -247,7 +237,7 @@ module _ {G : Geometry} {E : Directory G} {p : G .Stop} {order keys : List ℕ} 
   index-at = let here = rw (← e) at (least-here keys 0 (length order) (rw e at h)) in omega (arith, here .1)
 
   pub tile-at : (P : ℕ → Type 0) → All P order → P (getD order (r .at) 0)
-  tile-at P a = all-at P order a (r .at) index-at
+  tile-at P a = all-getD P order (r .at) 0 index-at a
 
 -- keys just filled
 module _ (f : List ℕ) (h : Header) (dir : directory f ≡ accepted h) {p : List ℤ} (v : ValidStop p) (order : List ℕ)
@@ -260,7 +250,7 @@ module _ (f : List ℕ) (h : Header) (dir : directory f ≡ accepted h) {p : Lis
       let g = near (entries f h) p in
       let n = length-map order g in
       let z : 0 + j ≡ j = omega arith in
-      rw z at (getD-run keys 0 j (map g order) (omega arith) (omega arith)) ∙ map-at g order j l
+      rw z at (getD-run keys 0 j (map g order) (omega arith) (omega arith)) ∙ getD-map-lt g order j 0 0 l
 
   pub keyed-start : Strict ltb order → Keyed (entries f h) p order filled
   keyed-start rise = record {
@@ -273,4 +263,4 @@ module _ (f : List ℕ) (h : Header) (dir : directory f ≡ accepted h) {p : Lis
   pub living-start : living order filled ≡ order
   living-start = from-all filled 0 order
       (λ i l. rw (zero-add i) (let e = filled-at i l in
-      omega (arith, near-bounded f h dir v (getD order i 0) (all-at _ order tiles i l))))
+      omega (arith, near-bounded f h dir v (getD order i 0) (all-getD _ order i 0 l tiles))))

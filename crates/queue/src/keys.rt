@@ -13,9 +13,8 @@ ghost use Rattle.search.specs.Plan.{near};
 ghost use Rattle.queue.specs.Inner.Keys.{leastKey, Passed};
 use blocks::header::Header;
 use plan::measure;
+use plan::measure::NONE;
 use plan::region::Stop;
-
-pub const NONE: u64 = 18_446_744_073_709_551_615;
 
 // The key of each waiting tile, for the stop p.
 pub fn fill_keys(f: &[u8], h: Header, order: &[usize], p: Stop, keys: &mut [u64])

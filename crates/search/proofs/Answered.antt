@@ -14,16 +14,16 @@ use Rattle.base.specs.Refusal.{accepted, refused}
 use Rattle.base.proofs.Outcomes.{by-outcome}
 use Rattle.base.proofs.Tests.{clash, by-test}
 use Rattle.search.specs.FullSearch.{refill, firstOf, fullSearch, Fits, Changes}
-use Rattle.search.specs.Inner.Walk.{both}
+use Rattle.search.specs.Inner.Walk.{stopThen, walksBy}
 use Rattle.search.specs.Lists.{member, All}
 use Rattle.search.specs.Plan.{Geometry, Directory, Lawful, Town, Fills, Agrees}
-use Rattle.search.specs.Run.{Reading, Place, noPlace, Run, nearest, queue, Checked, join, padded, slices}
+use Rattle.search.specs.Run.{Reading, Place, noPlace, Run, nearest, queue, Checked, join, padded, inRows}
 use Rattle.search.specs.Run.{placesUsed}
 use Rattle.search.proofs.Equation.{withNew, withNew-member, join-walks}
 use Rattle.search.proofs.Exact.{asked-differs}
 use Rattle.search.proofs.Fillings.{some-filling, refill-there}
-use Rattle.search.proofs.Lists.{all-map, all-mem, mem-all, member-mem, mem-member}
-use Rattle.search.proofs.Marks.{unpad, slices-at, getD-map-lt}
+use Rattle.search.proofs.Lists.{all-map, all-mem, mem-all, member-mem, mem-member, getD-map-lt}
+use Rattle.search.proofs.Marks.{unpad, rows-at}
 use Rattle.search.proofs.Ranking.{first-length, first-short}
 use Rattle.search.proofs.Run.{join-same, join-good}
 use Rattle.search.proofs.Sound.{walk-first}
@@ -48,7 +48,7 @@ module _ {G : Geometry} {E : Directory G} {O : G .Box} (L : Lawful E O) (k : ℕ
 
   walks-town : (g : Town G) → Agrees E g → (ps : List Stop) → All (Within O) ps
       → walks E k (queue E O k) (readTown g) ps .out ≡ accepted (map (λ p. firstOf E k p g) ps)
-  unfolding walks both cut nearest
+  unfolding walksBy stopThen cut nearest
   walks-town g ag [] hs = refl
   walks-town g ag (p ∷ ps) hs =
       let w = walked E k p g (queue E O k p) [] in
@@ -57,7 +57,7 @@ module _ {G : Geometry} {E : Directory G} {O : G .Box} (L : Lawful E O) (k : ℕ
 
   asked-at : (g : Town G) (ps : List Stop) (t : ℕ) → List·Memᴰ t (walks E k (queue E O k) (readTown g) ps .asked)
       → (p : Stop) × List·Memᴰ p ps × List·Memᴰ t (walk E k (readTown g) p (queue E O k p) [] .asked)
-  unfolding walks both
+  unfolding walksBy stopThen
   asked-at g [] t m = elim m [ ]
   asked-at g (p ∷ ps) t m =
       let w = walked E k p g (queue E O k p) [] in
@@ -128,11 +128,11 @@ module _ {G : Geometry} {E : Directory G} {O : G .Box} (L : Lawful E O) (k : ℕ
         twice (q ∷ qs) = ap (λ l. padded k (firstOf E k q g) ∷ l) (twice qs)
 
     pub answer-places : (g : Town G) → Fits E read opened g → (p : Stop) (i j : ℕ) → i < length ps → j < k
-        → getD (slices k ls) (i * k + j) noPlace ≡ getD (fullSearch E k (getD ps i p) g) j noPlace
+        → getD (inRows k ls) (i * k + j) noPlace ≡ getD (fullSearch E k (getD ps i p) g) j noPlace
     unfolding fullSearch
     answer-places g f p i j hi hj =
         let n : i < length (map (λ p. firstOf E k p g) ps) = rw (length-map ps (λ p. firstOf E k p g)) hi in
-        rw (answer-lists g f) (slices-at k (map (λ p. firstOf E k p g) ps) i j noPlace n hj
+        rw (answer-lists g f) (rows-at k (map (λ p. firstOf E k p g) ps) i j noPlace n hj
         ∙ rw (getD-map-lt (λ p. firstOf E k p g) ps i [] p hi))
 
     pub answer-used : (g : Town G) → Fits E read opened g → All (λ l. length l ≡ placesUsed E k) ls

@@ -10,24 +10,24 @@ use lib.Dec.{eqb, leb}
 use lib.ListN.{length, take, getD, length-take}
 use lib.Seq.{take-nil}
 use borrow.Author.Tests.{eqb-true, eq-eqb, leb-true, le-leb}
-use Rattle.base.specs.Refusal.{accepted, refused, andThen}
-use Rattle.base.proofs.Outcomes.{accepted-injective, accepted-refused, andThen-accepted, by-outcome}
+use Rattle.base.specs.Refusal.{accepted}
+use Rattle.base.proofs.Outcomes.{by-outcome}
 use Rattle.base.proofs.Tests.{and-both, both-and, by-test, iff-eq}
 use Rattle.search.specs.Inner.Cut.{Sorted, inserts, lastAhead}
-use Rattle.search.specs.Inner.Walk.{enter, both, cutWalk, cutWalks}
+use Rattle.search.specs.Inner.Walk.{enter, walkBy, cutWalk, cutWalks}
 use Rattle.search.specs.Lists.{count, All}
 use Rattle.search.specs.Order.{lex, sort}
 use Rattle.search.specs.Plan.{Geometry, Directory, near, Lawful, Town}
 use Rattle.search.specs.Run.{tilePlaces, Reading, Place, noPlace, rank, aheadOf, contents, Checked, queue, ahead}
 use Rattle.search.specs.Run.{enough, join}
 use Rattle.search.proofs.Equation.{Alike, join-walks}
-use Rattle.search.proofs.Lists.{all-map, all-append, all-take, all-perm, count-all}
+use Rattle.search.proofs.Lists.{all-map, all-append, all-take, all-perm, count-all, all-getD}
 use Rattle.search.proofs.Pairs.{lex-tight, lex-coarse}
 use Rattle.search.proofs.Places.{rank-order, Own, own-tight, known}
 use Rattle.search.proofs.Queue.{queue-tiles}
 use Rattle.search.proofs.Run.{contents-accepted}
 use Rattle.search.proofs.Sort.{Order, Tight, insert-cut, sort-perm, sort-sorted, count-cut, count-sort}
-use Rattle.search.proofs.Walk.{walk, cut, cutOut, walks}
+use Rattle.search.proofs.Walk.{walk, cut, cutOut, walks, walks-same}
 
 -- ---- putting in
 
@@ -69,11 +69,6 @@ count-full p (x ∷ l) h =
     let c = count-le-length p l in
     by-test (p x) (λ e. (e, count-full p l (let g = rw e at h in omega arith)))
     (λ e. absurd (let g = rw e at h in omega arith))
-
-all-getD : {A : Type 0} (P : A → Type 0) (l : List A) (i : ℕ) (d : A) → i < length l → All P l → P (getD l i d)
-all-getD P [] i d h a = absurd (omega arith)
-all-getD P (x ∷ l) zero d h a = a .0
-all-getD P (x ∷ l) (suc i) d h a = all-getD P l i d (omega arith) (a .1)
 
 -- `p` holds of what is not behind something that it holds of
 module _ {A : Type 0} (lt : A → A → Bool) (o : Order lt) (p : A → Bool)
@@ -150,7 +145,7 @@ module _ {G : Geometry} (E : Directory G) (O : G .Box) (k : ℕ) where
             asked = walk E k read p ts found .asked;
             out = cutOut k (walk E k read p ts found .out);
           }
-      unfolding cutWalk walk enter
+      unfolding walkBy enter
       cut-walk [] found h o = refl
       cut-walk (t ∷ ts) found h o = by-test (enough E k p t found)
           (λ e. rw (full-enough p t found pos, e))
@@ -171,9 +166,7 @@ module _ {G : Geometry} (E : Directory G) (O : G .Box) (k : ℕ) where
 
     walks-cut : (ps : List Stop) → All (Within O) ps
         → cutWalks E k read (queue E O k) ps ≡ walks E k (queue E O k) read ps
-    unfolding cutWalks walks
-    walks-cut [] hs = refl
-    walks-cut (p ∷ ps) hs = rw (stop-cut p (hs .0), walks-cut ps (hs .1))
+    walks-cut ps hs = walks-same _ _ ps (all-map ps stop-cut hs)
 
     -- The join, from what code keeps: the lists are those of the cut walks, and the openings the tiles asked for,
     -- repeats removed.
@@ -181,60 +174,3 @@ module _ {G : Geometry} (E : Directory G) (O : G .Box) (k : ℕ) where
         → Alike [] (join E O k read ps) (cutWalks E k read (queue E O k) ps .asked)
         (cutWalks E k read (queue E O k) ps .out)
     join-cut ps hs = rw (walks-cut ps hs) (join-walks E O k L read checked ps hs)
-
--- ---- the clauses of a cut walk, and of all
-
-module _ {G : Geometry} (E : Directory G) (k : ℕ) (read : Reading G) (p : G .Stop) (t : ℕ) (ts : List ℕ)
-    (l : List Place) where
-  pub cut-full : lastAhead k l (near E p t) t ≡ true
-      → cutWalk E k read p (t ∷ ts) l ≡ record { asked = []; out = accepted l }
-  unfolding cutWalk
-  cut-full e = rw e
-
-  pub cut-refused : (n b : ℕ) → lastAhead k l (near E p t) t ≡ false → read t ≡ refused n b
-      → cutWalk E k read p (t ∷ ts) l ≡ record { asked = t ∷ []; out = refused n b }
-  unfolding cutWalk enter
-  cut-refused n b e r = rw (e, r)
-
-  pub cut-opens : (f : List (G .Site)) → lastAhead k l (near E p t) t ≡ false → read t ≡ accepted f
-      → let rest = cutWalk E k read p ts (inserts rank k (tilePlaces G p t f) l) in
-      cutWalk E k read p (t ∷ ts) l ≡ record { asked = t ∷ rest .asked; out = rest .out }
-  unfolding cutWalk enter
-  cut-opens f e r = rw (e, r)
-
-pub cut-end : {G : Geometry} (E : Directory G) (k : ℕ) (read : Reading G) (p : G .Stop) (l : List Place)
-    → cutWalk E k read p [] l ≡ record { asked = []; out = accepted l }
-unfolding cutWalk
-cut-end E k read p l = refl
-
-module _ {G : Geometry} (E : Directory G) (k : ℕ) (read : Reading G) (tilesOf : G .Stop → List ℕ) where
-  pub cuts-end : cutWalks E k read tilesOf [] ≡ record { asked = []; out = accepted [] }
-  unfolding cutWalks
-  cuts-end = refl
-
-  module _ (p : G .Stop) (ps : List (G .Stop)) where
-    pub cuts-refused : (n b : ℕ) → cutWalk E k read p (tilesOf p) [] .out ≡ refused n b
-        → cutWalks E k read tilesOf (p ∷ ps) .out ≡ refused n b
-    unfolding cutWalks both
-    cuts-refused n b e = rw e
-
-    pub cuts-next : (l : List Place) → cutWalk E k read p (tilesOf p) [] .out ≡ accepted l
-        → cutWalks E k read tilesOf (p ∷ ps)
-        ≡ record {
-          asked = cutWalk E k read p (tilesOf p) [] .asked ++ cutWalks E k read tilesOf ps .asked;
-          out = andThen (cutWalks E k read tilesOf ps .out) (λ ls. accepted (l ∷ ls));
-        }
-    unfolding cutWalks both
-    cuts-next l e = rw e
-
-  -- as many lists as stops
-  pub cuts-length : (ps : List (G .Stop)) (ls : List (List Place)) → cutWalks E k read tilesOf ps .out ≡ accepted ls
-      → length ls ≡ length ps
-  cuts-length [] ls e = let i : ls ≡ [] = sym (accepted-injective (ap (λ w. w .out) (sym cuts-end) ∙ e)) in rw i
-  cuts-length (p ∷ ps) ls e = by-outcome (cutWalk E k read p (tilesOf p) [] .out)
-      (λ l q.
-      let h = andThen-accepted (cutWalks E k read tilesOf ps .out) (λ r. accepted (l ∷ r))
-      (ap (λ w. w .out) (sym (cuts-next p ps l q)) ∙ e) in
-      let i : ls ≡ l ∷ h .0 = sym (accepted-injective (h .2)) in
-      rw i (ap suc (cuts-length ps (h .0) (h .1))))
-      (λ n b q. accepted-refused e (cuts-refused p ps n b q))

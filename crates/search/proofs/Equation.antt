@@ -9,7 +9,7 @@ use lib.Dec.{leb, eqb}
 use borrow.Author.Tests.{leb-true, eqb-true}
 use Rattle.base.specs.Refusal.{Outcome, accepted}
 use Rattle.base.proofs.Tests.{by-test}
-use Rattle.search.specs.Inner.Walk.{both}
+use Rattle.search.specs.Inner.Walk.{stopThen, walkBy, walksBy}
 use Rattle.search.specs.Lists.{count, filter, member, All, Distinct}
 use Rattle.search.specs.Plan.{Geometry, Directory, Lawful, Town}
 use Rattle.search.specs.Run.{tilePlaces, Reading, Place, Run, placesOf, nearest, byKey, queue, ahead, enough}
@@ -22,9 +22,9 @@ use Rattle.search.proofs.Places.{by-key-order, placesOf-append, placesO
 use Rattle.search.proofs.Places.{nearest-front}
 use Rattle.search.proofs.Queue.{Chosen, queue-chosen, queue-sorted, queue-distinct, queue-mem}
 use Rattle.search.proofs.Run.{contents-accepted, enoughFor, Served, none, ends, again, opens, refuses, served}
-use Rattle.search.proofs.Run.{served-all, served-distinct, Opens, served-good, Ran, done, answers, breaks, ran}
+use Rattle.search.proofs.Run.{served-all, served-distinct, OpensIn, served-good, Ran, done, answers, breaks, ran}
 use Rattle.search.proofs.Sort.{sorted-right, order-irrefl}
-use Rattle.search.proofs.Walk.{walk, cut, cutOut, walks, walk-ends, walk-refused, walk-opens, Enough}
+use Rattle.search.proofs.Walk.{foundAdds, walk, cut, cutOut, walks, walk-ends, walk-refused, walk-opens, Enough}
 
 -- the tiles opened, after some are asked for: those that are new, in their order
 unfoldable pub withNew : List ℕ → List ℕ → List ℕ
@@ -66,10 +66,10 @@ module _ {G : Geometry} (E : Directory G) (O : G .Box) (k : ℕ) where
     pub record Open (opened : List ℕ) : Type 0 where
       pub once : Distinct opened
       pub chosen : All (Chosen E O k) opened
-      pub good : All (Opens E k read) opened
+      pub good : All (OpensIn E k read) opened
 
     open-filled : (opened : List ℕ) → Open opened → All (Filled E g) opened
-    open-filled opened o = all-both (Chosen E O k) (Opens E k read) _ opened
+    open-filled opened o = all-both (Chosen E O k) (OpensIn E k read) _ opened
         (λ t c a. (c .0, rw (contents-accepted E k read t (a .0) (a .1)) (checked t (a .0) (c .0) (a .1)))) (o .chosen)
         (o .good)
 
@@ -164,7 +164,7 @@ module _ {G : Geometry} (E : Directory G) (O : G .Box) (k : ℕ) where
       once = distinct-snoc opened t (o .once) m;
       chosen = all-append (Chosen E O k) opened (t ∷ []) (o .chosen)
           (all-right (Chosen E O k) pre (t ∷ ts) (rw e at (queue-chosen E O k p)) .0, tt);
-      good = all-append (Opens E k read) opened (t ∷ []) (o .good) ((f, a), tt);
+      good = all-append (OpensIn E k read) opened (t ∷ []) (o .good) ((f, a), tt);
     }
 
     pub step : (pre : List ℕ) (t : ℕ) (ts l : List ℕ) → l ≡ pre ++ t ∷ ts → l ≡ (pre ++ t ∷ []) ++ ts
@@ -175,28 +175,28 @@ module _ {G : Geometry} (E : Directory G) (O : G .Box) (k : ℕ) where
         → Open opened → All (λ t. member t opened ≡ true) pre
         → Alike opened r (walk E k read p ts (placesOf G p g pre) .asked)
         (cutOut k (walk E k read p ts (placesOf G p g pre) .out))
-    unfolding walk withNew enough
+    unfolding walkBy withNew enough
     serve-walk {p} (none {opened = u}) home pre e o h =
         record { outcome = ap accepted (same-list p home pre [] u e o h tt); openings = refl }
     serve-walk {p} (ends {t = t} {ts = ts} {opened = u} n) home pre e o h =
         let m : enough E k p t (placesOf G p g pre) ≡ true = sym (same-enough p home pre t ts u e o h) ∙ n in
-        rw (walk-ends E k read p t ts (placesOf G p g pre) m)
+        rw (walk-ends (enough E k p) (foundAdds E k p) read t ts (placesOf G p g pre) m)
         (record { outcome = ap accepted (same-list p home pre (t ∷ ts) u e o h (leb-true k _ m)); openings = refl })
     serve-walk {p} (again {t = t} {ts = ts} {opened = u} n m s) home pre e o h =
-        let a = all-mem (Opens E k read) (o .good) (member-mem t u m) in
+        let a = all-mem (OpensIn E k read) (o .good) (member-mem t u m) in
         let l : enough E k p t (placesOf G p g pre) ≡ false = sym (same-enough p home pre t ts u e o h) ∙ n in
         let ih = serve-walk s home (pre ++ t ∷ []) (step pre t ts (queue E O k p) e) o (more-passed t pre u h m) in
-        rw (walk-opens E k read p t ts (placesOf G p g pre) (a .0) l (a .1), grown p pre t (a .0) (a .1))
+        rw (walk-opens (enough E k p) (foundAdds E k p) read t ts (placesOf G p g pre) (a .0) l (a .1), grown p pre t (a .0) (a .1))
         (record { outcome = ih .outcome; openings = rw m (ih .openings) })
     serve-walk {p} (opens {t = t} {ts = ts} {opened = u} {f = f} n m a s) home pre e o h =
         let l : enough E k p t (placesOf G p g pre) ≡ false = sym (same-enough p home pre t ts u e o h) ∙ n in
         let ih = serve-walk s home (pre ++ t ∷ []) (step pre t ts (queue E O k p) e) (new-open p pre t ts u f e o m a)
         (new-passed t pre u h) in
-        rw (walk-opens E k read p t ts (placesOf G p g pre) f l a, grown p pre t f a)
+        rw (walk-opens (enough E k p) (foundAdds E k p) read t ts (placesOf G p g pre) f l a, grown p pre t f a)
         (record { outcome = ih .outcome; openings = rw m (ih .openings) })
     serve-walk {p} (refuses {t = t} {ts = ts} {opened = u} {n = x} {b = b} n m a) home pre e o h =
         let l : enough E k p t (placesOf G p g pre) ≡ false = sym (same-enough p home pre t ts u e o h) ∙ n in
-        rw (walk-refused E k read p t ts (placesOf G p g pre) x b l a) (record { outcome = refl; openings = rw m })
+        rw (walk-refused (enough E k p) (foundAdds E k p) read t ts (placesOf G p g pre) x b l a) (record { outcome = refl; openings = rw m })
 
     -- ---- all stops
 
@@ -220,7 +220,7 @@ module _ {G : Geometry} (E : Directory G) (O : G .Box) (k : ℕ) where
     run-walks : {ps : List Stop} {opened : List ℕ} {r : Run (List (List Place))}
         → Ran E k (queue E O k) read ps opened r → All (Within O) ps
         → Open opened → Alike opened r (walks E k (queue E O k) read ps .asked) (walks E k (queue E O k) read ps .out)
-    unfolding walks both withNew
+    unfolding walksBy stopThen withNew
     run-walks done hs o = record { outcome = refl; openings = refl }
     run-walks (answers {p = p} {ps = ps} {opened = u} {l = l} e s) hs o =
         let a = alone p (hs .0) u o in

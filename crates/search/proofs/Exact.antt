@@ -15,6 +15,7 @@ use borrow.Author.Tests.{leb-false, eqb-true, eqb-false}
 use Rattle.base.specs.Refusal.{accepted}
 use Rattle.base.proofs.Tests.{by-test}
 use Rattle.search.specs.FullSearch.{refill, firstOf}
+use Rattle.search.specs.Inner.Walk.{walkBy}
 use Rattle.search.specs.Lists.{range, count, All}
 use Rattle.search.specs.Order.{lex, sort}
 use Rattle.search.specs.Plan.{Geometry, Directory, Lawful, slots, ranks, Town, Agrees}
@@ -25,12 +26,12 @@ use Rattle.search.proofs.Lists.{all-map, all-any, all-both, all-right, 
 use Rattle.search.proofs.Lists.{count-le, count-none, count-perm, range-mem}
 use Rattle.search.proofs.Pairs.{Ahead, lex-ahead, lex-less, lex-same, lex-not-less, lex-coarse}
 use Rattle.search.proofs.Places.{rank-order, by-key-order, placesOf-append, placesOf-perm, Known, known}
-use Rattle.search.proofs.Places.{listing-from, placeAt, Own, own-tight, own-places, later-none}
+use Rattle.search.proofs.Places.{listing-from, placeOf, Own, own-tight, own-places, later-none}
 use Rattle.search.proofs.Pruning.{below}
 use Rattle.search.proofs.Queue.{queue-tiles, queue-sorted, Chosen, queue-chosen, candidate-some}
 use Rattle.search.proofs.Sort.{sort-is-perm, sorted-right, order-irrefl, listed}
 use Rattle.search.proofs.Sound.{filled, others, tiles-perm, pruned-behind, others-places}
-use Rattle.search.proofs.Walk.{walk, walk-ends, walk-opens, asked-all}
+use Rattle.search.proofs.Walk.{foundAdds, walk, walk-ends, walk-opens, asked-all}
 
 at-seam : {A : Type 0} (a : List A) (x : A) (b : List A) → getElem? (a ++ x ∷ b) (length a) ≡ some x
 at-seam [] x b = refl
@@ -51,11 +52,11 @@ module _ {G : Geometry} (E : Directory G) (O : G .Box) (k : ℕ) where
 
   asked-short : (p : Stop) (g : Town G) (ts : List ℕ) (found : List Place) (t : ℕ)
       → List·Memᴰ t (walk E k (λ u. accepted (g u)) p ts found .asked) → Short p g ts found t
-  unfolding walk placesOf enough
+  unfolding walkBy placesOf enough
   asked-short p g [] found t m = elim m [ ]
   asked-short p g (w ∷ ts) found t m = by-test (enough E k p w found)
-      (λ e. elim (rw (walk-ends E k (λ u. accepted (g u)) p w ts found e) at m) [ ])
-      (λ e. go e (rw (walk-opens E k (λ u. accepted (g u)) p w ts found (g w) e refl) at m)
+      (λ e. elim (rw (walk-ends (enough E k p) (foundAdds E k p) (λ u. accepted (g u)) w ts found e) at m) [ ])
+      (λ e. go e (rw (walk-opens (enough E k p) (foundAdds E k p) (λ u. accepted (g u)) w ts found (g w) e refl) at m)
       (λ n. asked-short p g ts (found ++ here) t n))
     where
       here : List Place
@@ -258,13 +259,13 @@ module _ {G : Geometry} (E : Directory G) (O : G .Box) (k : ℕ) where
 
     -- in the town as it was, the place of that number has another cue
     now-new : List·Memᴰ now (firstOf E k p g) → ⊥
-    unfolding firstOf nearest now Own placeAt slot q
+    unfolding firstOf nearest now Own placeOf slot q
     now-new m =
         let l = placesOf G p g (range 0 tiles) in
         let h = all-take (Own E p g) k (sort rank l)
         (all-perm (Own E p g) (Permᴰ·symm (sort-is-perm rank l))
         (own-places E L p home g (range 0 tiles) (filled E g ag (range 0 tiles) (below E)))) in
-        let e : placeAt E p g (t * slots + slot) ≡ some now = all-mem (Own E p g) h m in
+        let e : placeOf E p g (t * slots + slot) ≡ some now = all-mem (Own E p g) h m in
         let c = slot-small in
         let d : (t * slots + slot) / slots ≡ t = omega arith in
         let r : (t * slots + slot) % slots ≡ slot = omega arith in
@@ -290,7 +291,7 @@ module _ {G : Geometry} (E : Directory G) (O : G .Box) (k : ℕ) where
   asked-differs L p home g ag t m =
       let a = asked-short p g (queue E O k p) [] t m in
       let short = short-town L p home g ag t (short-queue L p home g ag t (a .sooner) (a .later) (a .split) (a .few)) in
-      let c = all-mem (Chosen E O k) (asked-all E k (Chosen E O k) (λ u. accepted (g u)) p (queue E O k p) []
+      let c = all-mem (Chosen E O k) (asked-all (enough E k p) (foundAdds E k p) (λ u. accepted (g u)) (Chosen E O k) (queue E O k p) []
       (queue-chosen E O k p)) m in
       let ht = c .0 in
       let n = candidate-some E O k t (c .1) in

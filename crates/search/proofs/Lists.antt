@@ -1,13 +1,14 @@
 -- Laws of lists: properties of all elements, counts, filters, membership, rearrangement.
 use Prim.Native.Nat.{ℕ, zero, suc, _+_, _≤_, _<_}
 use mathlib.Core.Bool.{Bool, true, false, not, _&&_, _||_}
-use mathlib.Core.List.{List, [], _∷_, _++_, List·Memᴰ, List·Memᴰ·head, List·Memᴰ·tail, List·Permᴰ, List·Permᴰ·nil}
+use mathlib.Core.List.{List, [], _∷_, _++_, map, List·Memᴰ, List·Memᴰ·head, List·Memᴰ·tail, List·Permᴰ, List·Permᴰ·nil}
 use mathlib.Core.List.{List·Permᴰ·cons, List·Permᴰ·swap, List·Permᴰ·trans, Permᴰ·refl, Permᴰ·symm, Permᴰ·middle}
 use mathlib.Core.Logic.{_⊎_, inl, inr, _≢_}
 use mathlib.Core.Path.{_≡_, refl, sym, ap, _∙_, subst}
+use native.Mathlib.Nat.{add-zero}
 use native.Mathlib.Omega.{arith}
 use lib.Dec.{eqb, ltb}
-use lib.ListN.{length, take}
+use lib.ListN.{length, getD, take}
 use borrow.Author.Tests.{ltb-true, ltb-false, eqb-true, eqb-false, eq-eqb}
 use Rattle.base.proofs.Tests.{clash, by-test}
 use Rattle.search.specs.Lists.{range, count, total, filter, member, All, Distinct}
@@ -37,6 +38,11 @@ pub all-both : {A : Type 0} (P Q R : A → Type 0) (l : List A) → ((a : A) →
     → All R l
 all-both P Q R [] f h g = tt
 all-both P Q R (x ∷ l) f h g = (f x (h .0) (g .0), all-both P Q R l f (h .1) (g .1))
+
+pub all-getD : {A : Type 0} (P : A → Type 0) (l : List A) (i : ℕ) (d : A) → i < length l → All P l → P (getD l i d)
+all-getD P [] i d h a = absurd (omega arith)
+all-getD P (x ∷ l) zero d h a = a .0
+all-getD P (x ∷ l) (suc i) d h a = all-getD P l i d (omega arith) (a .1)
 
 pub all-empty : {A : Type 0} (P : A → Type 0) (l : List A) → length l ≡ 0 → All P l
 all-empty P [] e = tt
@@ -290,3 +296,20 @@ same-elements (x ∷ l) m d e f g =
     (λ y h. other (mem-perm y (r .1) (f y (List·Memᴰ·tail h))) (all-mem (λ z. z ≡ x → ⊥) (d .0) h))
     (λ y h. other (g y (mem-perm y (Permᴰ·symm (r .1)) (List·Memᴰ·tail h))) (all-mem (λ z. z ≡ x → ⊥) (c .0) h))))
     (Permᴰ·symm (r .1))
+
+-- ---- a list by index
+
+pub getD-map-lt : {A B : Type 0} (f : A → B) (l : List A) (i : ℕ) (d : B) (e : A) → i < length l
+    → getD (map f l) i d ≡ f (getD l i e)
+getD-map-lt f [] i d e h = absurd (omega arith)
+getD-map-lt f (x ∷ l) zero d e h = refl
+getD-map-lt f (x ∷ l) (suc i) d e h = getD-map-lt f l i d e (omega arith)
+
+pub range-length : (a n : ℕ) → length (range a n) ≡ n
+range-length a zero = refl
+range-length a (suc n) = ap suc (range-length (suc a) n)
+
+pub range-getD : (a n i : ℕ) → i < n → getD (range a n) i 0 ≡ a + i
+range-getD a zero i h = absurd (omega arith)
+range-getD a (suc n) zero h = sym (add-zero a)
+range-getD a (suc n) (suc i) h = let u : suc a + i ≡ a + suc i = omega arith in range-getD (suc a) n i (omega arith) ∙ u

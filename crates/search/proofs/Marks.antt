@@ -4,7 +4,7 @@ use mathlib.Core.Bool.{Bool, true, false}
 use mathlib.Core.List.{List, [], _∷_, _++_, map, head-eq-of-cons-eq, tail-eq-of-cons-eq}
 use mathlib.Core.Logic.{_↔_}
 use mathlib.Core.Path.{_≡_, refl, sym, ap, _∙_}
-use native.Mathlib.Nat.{zero-mul, suc-mul, zero-add, add-zero}
+use native.Mathlib.Nat.{zero-mul, suc-mul, zero-add}
 use native.Mathlib.Omega.{arith}
 use lib.Dec.{eqb}
 use lib.ListN.{length, take, getD, replicate, length-append, length-take, length-replicate, List·getD-append}
@@ -13,8 +13,8 @@ use Rattle.base.proofs.Tests.{clash, by-test}
 use Rattle.search.specs.Lists.{range, count, filter, member, All, Distinct}
 use Rattle.search.specs.Plan.{Geometry, Directory}
 use Rattle.search.specs.Pruning.{pruned, prunedCount}
-use Rattle.search.specs.Run.{Place, noPlace, padded, slices, mark, marks, openedMark, prunedMark, noMark}
-use Rattle.search.proofs.Lists.{all-any, all-mem, count-all, count-perm, filter-passes, filter-mem}
+use Rattle.search.specs.Run.{Place, noPlace, padded, inRows, mark, marks, openedMark, prunedMark, noMark}
+use Rattle.search.proofs.Lists.{all-any, all-mem, count-all, count-perm, filter-passes, filter-mem, getD-map-lt, range-length, range-getD}
 use Rattle.search.proofs.Lists.{filter-distinct, range-mem, range-distinct, member-mem, mem-member}
 use Rattle.search.proofs.Lists.{same-elements}
 
@@ -32,21 +32,6 @@ count-filter : {A : Type 0} (q : A → Bool) (l : List A) → count q l ≡ leng
 unfolding count filter
 count-filter q [] = refl
 count-filter q (x ∷ l) = let ih = count-filter q l in by-test (q x) (λ e. rw e (omega arith)) (λ e. rw e (omega arith))
-
-pub getD-map-lt : {A B : Type 0} (f : A → B) (l : List A) (i : ℕ) (d : B) (e : A) → i < length l
-    → getD (map f l) i d ≡ f (getD l i e)
-getD-map-lt f [] i d e h = absurd (omega arith)
-getD-map-lt f (x ∷ l) zero d e h = refl
-getD-map-lt f (x ∷ l) (suc i) d e h = getD-map-lt f l i d e (omega arith)
-
-range-length : (a n : ℕ) → length (range a n) ≡ n
-range-length a zero = refl
-range-length a (suc n) = ap suc (range-length (suc a) n)
-
-range-getD : (a n i : ℕ) → i < n → getD (range a n) i 0 ≡ a + i
-range-getD a zero i h = absurd (omega arith)
-range-getD a (suc n) zero h = sym (add-zero a)
-range-getD a (suc n) (suc i) h = let u : suc a + i ≡ a + suc i = omega arith in range-getD (suc a) n i (omega arith) ∙ u
 
 -- of the first n numbers as many stand in a list as it is long, if it has no repeats and nothing else
 count-members : (n : ℕ) (l : List ℕ) → Distinct l → All (λ t. t < n) l → count (λ t. member t l) (range 0 n) ≡ length l
@@ -149,26 +134,26 @@ module _ (k : ℕ) where
   unpad a b l h e = same-front a b (replicate k _) (replicate k _) k l h e
 
   -- place j of stop i
-  pub slices-at : (ls : List (List Place)) (i j : ℕ) (d : Place) → i < length ls → j < k
-      → getD (slices k ls) (i * k + j) d ≡ getD (padded k (getD ls i [])) j d
-  unfolding slices
-  slices-at [] i j d h g = absurd (omega arith)
-  slices-at (l ∷ ls) zero j d h g =
+  pub rows-at : (ls : List (List Place)) (i j : ℕ) (d : Place) → i < length ls → j < k
+      → getD (inRows k ls) (i * k + j) d ≡ getD (padded k (getD ls i [])) j d
+  unfolding inRows
+  rows-at [] i j d h g = absurd (omega arith)
+  rows-at (l ∷ ls) zero j d h g =
       let e : 0 * k + j ≡ j = ap (λ (n : ℕ). n + j) (zero-mul k) ∙ zero-add j in
       let f = padded-length l in
-      rw e (List·getD-append (padded k l) (slices k ls) d j (omega arith))
-  slices-at (l ∷ ls) (suc i) j d h g =
+      rw e (List·getD-append (padded k l) (inRows k ls) d j (omega arith))
+  rows-at (l ∷ ls) (suc i) j d h g =
       let f = padded-length l in
       let m = suc-mul i k in
       let e : suc i * k + j ≡ length (padded k l) + (i * k + j) = omega arith in
-      rw e (getD-append-add (padded k l) (slices k ls) (i * k + j) d ∙ slices-at ls i j d (omega arith) g)
+      rw e (getD-append-add (padded k l) (inRows k ls) (i * k + j) d ∙ rows-at ls i j d (omega arith) g)
 
-  pub slices-length : (ls : List (List Place)) → length (slices k ls) ≡ length ls * k
-  unfolding slices
-  slices-length [] = sym (zero-mul k)
-  slices-length (l ∷ ls) =
-      let ih = slices-length ls in
+  pub rows-length : (ls : List (List Place)) → length (inRows k ls) ≡ length ls * k
+  unfolding inRows
+  rows-length [] = sym (zero-mul k)
+  rows-length (l ∷ ls) =
+      let ih = rows-length ls in
       let f = padded-length l in
       let m = suc-mul (length ls) k in
-      let e = length-append (padded k l) (slices k ls) in
+      let e = length-append (padded k l) (inRows k ls) in
       omega arith

@@ -112,18 +112,18 @@ module _ {G : Geometry} (E : Directory G) where
   put p i none = none
   put p i (some s) = some (record { dist = D p s; site = i; cue = cue s })
 
-  unfoldable pub placeAt : Stop → Town G → ℕ → Option Place
+  unfoldable pub placeOf : Stop → Town G → ℕ → Option Place
   unfolding put
-  placeAt p g i = put p i (getElem? (g (i / slots)) (i % slots))
+  placeOf p g i = put p i (getElem? (g (i / slots)) (i % slots))
 
   unfoldable pub Own : Stop → Town G → Place → Type 0
-  Own p g a = placeAt p g (a .site) ≡ some a
+  Own p g a = placeOf p g (a .site) ≡ some a
 
   -- so no two tie
   pub own-tight : (p : Stop) (g : Town G) → Tight rank (Own p g)
   unfolding rank Own
   own-tight p g a b ha hb e f =
-      let q = ap (placeAt p g) (lex-tight (a .dist) (a .site) (b .dist) (b .site) e f .1) in
+      let q = ap (placeOf p g) (lex-tight (a .dist) (a .site) (b .dist) (b .site) e f .1) in
       let r : some a ≡ some b = sym ha ∙ q ∙ hb in
       cc
 
@@ -140,7 +140,7 @@ module _ {G : Geometry} (E : Directory G) where
     known-from : (t j a : ℕ) (f : List Site) → t < tiles → a ≡ t * slots + j → j + length f ≤ slots
         → ((i : ℕ) → getElem? (g t) (j + i) ≡ getElem? f i) → All (Inside (box t)) f
         → All (Known p g t) (listing G p a f)
-    unfolding listing placeAt Own
+    unfolding listing placeOf Own
     known-from t j a [] ht e h same ins = tt
     known-from t j a (s ∷ f) ht e h same ins =
         let q : a / slots ≡ t = omega arith in

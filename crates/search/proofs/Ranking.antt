@@ -20,7 +20,7 @@ use Rattle.search.proofs.Lists.{all-map, all-append, all-left, all-mem,
 use Rattle.search.proofs.Lists.{range-above, range-mem, distinct-perm}
 use Rattle.search.proofs.Pairs.{lex-tile-slot}
 use Rattle.search.proofs.Places.{rank-order, placesOf-all, placesOf-length, known, listing-from, placesOf-known}
-use Rattle.search.proofs.Places.{placeAt, Own, own-tight, own-places}
+use Rattle.search.proofs.Places.{placeOf, Own, own-tight, own-places}
 use Rattle.search.proofs.Pruning.{below}
 use Rattle.search.proofs.Sort.{sort-is-perm, sort-sorted, sort-length, order-irrefl, strictly}
 use Rattle.search.proofs.Sound.{filled}
@@ -203,7 +203,7 @@ module _ {G : Geometry} (E : Directory G) (k : ℕ) where
     one-number : (x y : Place) → Own E p g x → Own E p g y → y .site ≡ x .site → rank x y ≡ false
     unfolding Own
     one-number x y hx hy e =
-        let i : some y ≡ some x = sym hy ∙ ap (placeAt E p g) e ∙ hx in
+        let i : some y ≡ some x = sym hy ∙ ap (placeOf E p g) e ∙ hx in
         let j : y ≡ x = cc in
         rw j (order-irrefl rank rank-order x)
 

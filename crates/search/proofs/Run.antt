@@ -86,16 +86,16 @@ module _ {G : Geometry} (E : Directory G) (k : ℕ) where
 
     -- ---- in a run that answers each opening was accepted
 
-    abbrev pub Opens : ℕ → Type 0
-    Opens t = (f : List Site) × (read t ≡ accepted f)
+    abbrev pub OpensIn : ℕ → Type 0
+    OpensIn t = (f : List Site) × (read t ≡ accepted f)
 
     pub served-good : {p : Stop} {ts opened : List ℕ} {r : Run (List Place)} → Served p ts opened r → (l : List Place)
-        → r .outcome ≡ accepted l → All Opens opened → All Opens (r .openings)
+        → r .outcome ≡ accepted l → All OpensIn opened → All OpensIn (r .openings)
     served-good none l e h = h
     served-good (ends n) l e h = h
     served-good (again n m s) l e h = served-good s l e h
     served-good (opens {t = t} {opened = u} {f = f} n m a s) l e h =
-        served-good s l e (all-append Opens u (t ∷ []) h ((f, a), tt))
+        served-good s l e (all-append OpensIn u (t ∷ []) h ((f, a), tt))
     served-good (refuses n m a) l e h = absurd (let z : _≡_ {A = ℕ} 0 1 = cc in omega arith)
 
     -- ---- and one that is refused is refused by an opening
@@ -166,7 +166,7 @@ module _ {G : Geometry} (E : Directory G) (k : ℕ) where
 
     ran-good : {ps : List Stop} {opened : List ℕ} {r : Run (List (List Place))} → Ran ps opened r
         → (ls : List (List Place))
-        → r .outcome ≡ accepted ls → All (Opens read) opened → All (Opens read) (r .openings)
+        → r .outcome ≡ accepted ls → All (OpensIn read) opened → All (OpensIn read) (r .openings)
     ran-good done ls e h = h
     ran-good (answers {p = p} {opened = u} {l = l} {r = r} e s) ls f h = by-outcome (r .outcome)
         (λ ms q. ran-good s ms q (served-good read (served read p (tilesOf p) u) l e h))
@@ -247,7 +247,7 @@ module _ {G : Geometry} (E : Directory G) (O : G .Box) (k : ℕ) where
 
   pub join-good : (read : Reading G) (ps : List Stop) (ls : List (List Place))
       → join E O k read ps .outcome ≡ accepted ls
-      → All (Opens E k read) (join E O k read ps .openings)
+      → All (OpensIn E k read) (join E O k read ps .openings)
   unfolding join
   join-good read ps ls e = ran-good E k (queue E O k) read (ran E k (queue E O k) read ps []) ls e tt
 

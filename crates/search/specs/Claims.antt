@@ -11,7 +11,7 @@ use Rattle.search.specs.Lists.{count, member, All, Distinct}
 use Rattle.search.specs.Order.{Strict}
 use Rattle.search.specs.Plan.{Geometry, Directory, Town}
 use Rattle.search.specs.Pruning.{pruned, prunedCount}
-use Rattle.search.specs.Run.{Reading, Place, noPlace, rank, join, padded, slices, placesUsed, marks, openedMark}
+use Rattle.search.specs.Run.{Reading, Place, noPlace, rank, join, padded, inRows, placesUsed, marks, openedMark}
 use Rattle.search.specs.Run.{prunedMark, noMark}
 
 -- What a full search gives: the town's sites, each once, in their ranking, and every site left out behind every listed
@@ -32,7 +32,7 @@ module _ {G : Geometry} (E : Directory G) (O : G .Box) (k : ℕ) (read : Reading
     pub lists : (g : Town G) → Fits E read opened g → map (padded k) ls ≡ map (λ p. fullSearch E k p g) ps
     -- "the same distance, site and cue at each place": place j of stop i, in the output slices
     pub places : (g : Town G) → Fits E read opened g → (p : G .Stop) (i j : ℕ) → i < length ps → j < k
-        → getD (slices k ls) (i * k + j) noPlace ≡ getD (fullSearch E k (getD ps i p) g) j noPlace
+        → getD (inRows k ls) (i * k + j) noPlace ≡ getD (fullSearch E k (getD ps i p) g) j noPlace
     -- "A tile was opened exactly when some other filling of it .. changes what the full search gives for at least one
     -- stop"
     pub opened-exactly : (g : Town G) → Fits E read opened g → (t : ℕ) → (member t opened ≡ true) ↔ Changes E k g ps t

@@ -8,7 +8,7 @@
 --   ahead, enough                   the end of a stop's search
 --   Reading, contents, Checked      what openings give
 --   serve, run, join                one stop, the stops in turn, the join
---   padded, slices, placesUsed, mark, marks   what it gives out
+--   padded, inRows, placesUsed, mark, marks   what it gives out
 use Prim.Native.Nat.{ℕ, suc, _*_, _/_, _<_, min}
 use mathlib.Core.Bool.{Bool, true, cond, not, _&&_}
 use mathlib.Core.List.{List, [], _∷_, _++_, map}
@@ -175,9 +175,9 @@ unfoldable pub padded : ℕ → List Place → List Place
 padded k l = take k (l ++ replicate k noPlace)
 
 -- what the output slices hold: "place j of stop i is at i × k + j"
-unfoldable pub slices : ℕ → List (List Place) → List Place
-slices k [] = []
-slices k (l ∷ ls) = padded k l ++ slices k ls
+unfoldable pub inRows : ℕ → List (List Place) → List Place
+inRows k [] = []
+inRows k (l ∷ ls) = padded k l ++ inRows k ls
 
 -- "Marks, one byte for each tile: 2 opened, 1 struck, 0 neither."
 abbrev pub openedMark : ℕ

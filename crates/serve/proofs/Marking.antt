@@ -16,7 +16,7 @@ use Rattle.search.specs.Pruning.{pruned}
 use Rattle.search.specs.Run.{mark, marks}
 use Rattle.base.proofs.Over.{length-over, getD-after}
 use Rattle.base.proofs.Tests.{by-test}
-use Rattle.plan.proofs.Tables.{filled-at, range-length}
+use Rattle.plan.proofs.Tables.{filled-at, table-length}
 use Rattle.search.proofs.Equation.{withNew, withNew-member}
 use Rattle.serve.specs.Inner.Marks.{markAll}
 
@@ -88,8 +88,8 @@ module _ {G : Geometry} (E : Directory G) (O : G .Box) (k : ℕ) (asked : List �
             filled-at (mark E O k (withNew [] asked)) m (E .tiles) i h l,
           ) (sym (mark-of i))
       go i (no l) =
-          let e = range-length (λ t. bit (pruned E O k t)) 0 (E .tiles) in
-          let e′ = range-length (mark E O k (withNew [] asked)) 0 (E .tiles) in
+          let e = table-length (λ t. bit (pruned E O k t)) 0 (E .tiles) in
+          let e′ = table-length (mark E O k (withNew [] asked)) 0 (E .tiles) in
           let b : E .tiles ≤ i = omega arith in
           rw (outside i b asked a) (getD-after m 0 i pruning (omega arith)
           ∙ sym (getD-after m 0 i (map (mark E O k (withNew [] asked)) (range 0 (E .tiles))) (omega arith)))

@@ -16,13 +16,13 @@ use Rattle.list.specs.Inner.Keeping.{places, Ready}
 use Rattle.list.specs.Lists.{Long, Lists, Slices, lay, cleared}
 use Rattle.plan.specs.FilePlan.{entries, openingOf}
 use Rattle.search.specs.Inner.Walk.{Trace, cutWalks}
-use Rattle.search.specs.Run.{noPlace, noMark, inOrder, slices}
+use Rattle.search.specs.Run.{noPlace, noMark, inOrder, inRows}
 use Rattle.search.specs.declared.Place.{Place}
 use Rattle.stops.specs.Stops.{stopCount, stopAt}
 use Rattle.base.proofs.Outcomes.{andThen-accepted, andThen-refused, accepted-injective, accepted-refused}
 use Rattle.list.proofs.Laying.{lay-nil, lay-under, lay-lengths}
 use Rattle.list.proofs.Padding.{Clear, clear-kept, stop-laid}
-use Rattle.search.proofs.Cut.{cuts-end, cuts-refused, cuts-next}
+use Rattle.search.proofs.Walk.{walks-none, walks-refused, walks-next}
 use Rattle.serve.specs.Inner.Marks.{markAll, OpenedOpen}
 use Rattle.serve.specs.Inner.Serving.{walkOf, walksOf, lastLength, StopServed, StopsServed, afterStops}
 use Rattle.serve.proofs.Marking.{length-mark-all, mark-all-append}
@@ -42,7 +42,7 @@ module _ (f : List ℕ) (h : Header) (order : List ℕ) (cols : List (List ℤ))
   pub record Ends (o : Slices) (at used : ℕ) (ls : List (List Place)) : Type 0 where
     pub all : List (List Place)
     pub out : whole .out ≡ accepted all
-    pub laid : lay (o .lists) at (slices k ls) ≡ lay (o₀ .lists) 0 (slices k all)
+    pub laid : lay (o .lists) at (inRows k ls) ≡ lay (o₀ .lists) 0 (inRows k all)
     pub last : lastLength used ls ≡ lastLength 0 all
 
   pub record StopTurn (o : Slices) (i at used : ℕ) : Type 0 where
@@ -108,7 +108,7 @@ module _ {f : List ℕ} {h : Header} {order : List ℕ} {cols : List (List ℤ)}
 
   -- no stop is left
   pub turn-ends : stopCount cols ≤ i → StopsServed h W k N o₀ (accepted used) o
-  unfolding rows markAll slices
+  unfolding rows markAll inRows
   turn-ends l = record {
     outcome = rw (end .out) (ap accepted (end .last));
     answered = λ ls q. rw (← (accepted-injective (sym (end .out) ∙ q)), ← (end .laid), lay-nil (o .lists) at, marks);
@@ -118,7 +118,7 @@ module _ {f : List ℕ} {h : Header} {order : List ℕ} {cols : List (List ℤ)}
       none : R i ≡ record { asked = []; out = accepted [] }
       none =
           let e : stopCount cols - i ≡ 0 = omega arith in
-          rw e (cuts-end (entries f h) k (openingOf f h) (inOrder (entries f h) order))
+          rw e (walks-none _)
 
       end : Ends f h order cols k o₀ o at used []
       end = turn .fine [] (ap (λ w. w .out) none)
@@ -161,7 +161,7 @@ module _ {f : List ℕ} {h : Header} {order : List ℕ} {cols : List (List ℤ)}
       turn-refused a b e =
           let q : stop .out ≡ refused a b = lengths (stop .out) (sym (x .outcome) ∙ e) in
           let w : W .out ≡ refused a b = turn .bad a b (rw stops-are
-          (cuts-refused (entries f h) k (openingOf f h) (inOrder (entries f h) order) (stopAt cols i) _ a b q)) in
+          (walks-refused _ (stopAt cols i) _ a b q)) in
           record {
             outcome = rw w;
             answered = λ ls z. accepted-refused z w;
@@ -202,7 +202,7 @@ module _ {f : List ℕ} {h : Header} {order : List ℕ} {cols : List (List ℤ)}
           out = andThen (R (i + 1) .out) (λ ls. accepted (list ∷ ls));
         }
         rest-is = rw stops-are
-            (cuts-next (entries f h) k (openingOf f h) (inOrder (entries f h) order) (stopAt cols i) _ list came)
+            (walks-next _ (stopAt cols i) _ list came)
 
         fine : (ls : List (List Place)) → R (i + 1) .out ≡ accepted ls → Ends f h order cols k o₀ o′ (at + k) n ls
         fine ls z =
@@ -211,7 +211,7 @@ module _ {f : List ℕ} {h : Header} {order : List ℕ} {cols : List (List ℤ)}
             record {
               all = p .all;
               out = p .out;
-              laid = ap (λ y. lay y (at + k) (slices k ls)) lists-are
+              laid = ap (λ y. lay y (at + k) (inRows k ls)) lists-are
                   ∙ stop-laid k (o .lists) at list (λ j a b. turn .clear j a (omega arith)) few ls ∙ p .laid;
               last = ap (λ (y : ℕ). lastLength y ls) (sym number) ∙ p .last;
             }

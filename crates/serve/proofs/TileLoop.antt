@@ -1,6 +1,6 @@
 -- The loop over the tiles of one stop: what holds at each turn, and how it starts, goes on and ends.
 use Prim.Native.Nat.{ℕ, _<_, _≤_}
-use mathlib.Core.Bool.{true, false}
+use mathlib.Core.Bool.{Bool, true, false}
 use mathlib.Core.List.{List, [], _∷_}
 use mathlib.Core.Path.{_≡_, refl, sym, ap, _∙_}
 use native.Mathlib.Omega.{arith}
@@ -19,7 +19,7 @@ use Rattle.plan.specs.FilePlan.{plane, entries, openingOf}
 use Rattle.queue.specs.Inner.Keys.{none, leastKey}
 use Rattle.queue.specs.declared.keys.Least.{Least}
 use Rattle.search.specs.Inner.Cut.{lastAhead}
-use Rattle.search.specs.Inner.Walk.{Trace, cutWalk}
+use Rattle.search.specs.Inner.Walk.{Trace, cutEnds, cutAdds, cutWalk}
 use Rattle.search.specs.Order.{sort}
 use Rattle.search.specs.Plan.{near}
 use Rattle.search.specs.Run.{noPlace, inOrder, tilePlaces, openedMark}
@@ -33,7 +33,7 @@ use Rattle.list.proofs.Laying.{places-length, lay-self, lay-under}
 use Rattle.plan.proofs.Theorems.{opens-own-town}
 use Rattle.queue.proofs.Scanning.{least-here}
 use Rattle.queue.proofs.Waiting.{Keyed, living, living-none, living-next, keyed-next}
-use Rattle.search.proofs.Cut.{cut-full, cut-refused, cut-opens, cut-end}
+use Rattle.search.proofs.Walk.{walk-none, walk-ends, walk-refused, walk-opens}
 use Rattle.serve.specs.Inner.Marks.{markAll, OpenedOpen}
 use Rattle.serve.specs.Inner.Serving.{walkOf, withSites, afterTile, StopServed}
 
@@ -90,6 +90,12 @@ module _ {f : List ℕ} {h : Header} {order : List ℕ} {g : Target} {o₀ : Sli
   abbrev F : Slices → ℕ → List Place
   F p n = found f h order g o₀ p n
 
+  abbrev ends : ℕ → List Place → Bool
+  ends = cutEnds (entries f h) (g .k) (g .stop)
+
+  abbrev adds : ℕ → List Site → List Place → List Place
+  adds = cutAdds (entries f h) (g .k) (g .stop)
+
   -- the stop's places cover what was written
   covered : cleared (g .at) (g .k) (h .tiles) o ≡ cleared (g .at) (g .k) (h .tiles) o₀
   unfolding cleared
@@ -128,7 +134,7 @@ module _ {f : List ℕ} {h : Header} {order : List ℕ} {g : Target} {o₀ : Sli
     pub turn-none : none ≤ r .key → StopServed f h W (g .k) (g .at) o₀ (accepted used) o
     unfolding sort
     turn-none e = turn-ends (rw (living-none order keys (rw s at e))
-        (cut-end (entries f h) (g .k) (openingOf f h) (g .stop) (F o used)))
+        (walk-none ends adds (openingOf f h) (F o used)))
 
     module _ (below : r .key < none) where
       abbrev tile : ℕ
@@ -149,7 +155,7 @@ module _ {f : List ℕ} {h : Header} {order : List ℕ} {g : Target} {o₀ : Sli
       pub turn-full : lastAhead (g .k) (F o used) (r .key) tile ≡ true
           → StopServed f h W (g .k) (g .at) o₀ (accepted used) o
       turn-full e = turn-ends (rw waits
-          (cut-full (entries f h) (g .k) (openingOf f h) (g .stop) tile others (F o used) (rw (← key-is) e)))
+          (walk-ends ends adds (openingOf f h) tile others (F o used) (rw (← key-is) e)))
 
       module _ (free : lastAhead (g .k) (F o used) (r .key) tile ≡ false) where
         not-full : lastAhead (g .k) (F o used) (near (entries f h) (g .stop) tile) tile ≡ false
@@ -161,7 +167,7 @@ module _ {f : List ℕ} {h : Header} {order : List ℕ} {g : Target} {o₀ : Sli
         turn-refused n b e =
             let q : W .out ≡ refused n b = turn .out ∙ rw waits
             (ap (λ w. w .out)
-            (cut-refused (entries f h) (g .k) (openingOf f h) (g .stop) tile others (F o used) n b not-full e)) in
+            (walk-refused ends adds (openingOf f h) tile others (F o used) n b not-full e)) in
             record {
               outcome = rw q;
               few = λ l w. accepted-refused w q;
@@ -188,7 +194,7 @@ module _ {f : List ℕ} {h : Header} {order : List ℕ} {g : Target} {o₀ : Sli
             out = R (set keys (r .at) none) (F next n) .out;
           }
           walk-is = rw (waits, list-is)
-              (cut-opens (entries f h) (g .k) (openingOf f h) (g .stop) tile others (F o used) l not-full e)
+              (walk-opens ends adds (openingOf f h) tile others (F o used) l not-full e)
 
           opens-next : OpenedOpen f h (set (o .marks) tile openedMark)
           opens-next t i q = by-test (eqb t tile)

@@ -32,8 +32,8 @@ module _ (f : List ℕ) (h : Header) (t : ℕ) where
   opening-exactly = (laws.open-good f h t, laws.open-enough f h t)
 
   -- an accepted opening gives the directory's count, and all its sites lie in the box
-  pub opened-count : {n : ℕ} → openTile f h t ≡ accepted n → n ≡ countAt f t
-  opened-count e = accepted-injective (sym e ∙ laws.open-enough f h t (laws.open-good f h t e))
+  pub opened-number : {n : ℕ} → openTile f h t ≡ accepted n → n ≡ countAt f t
+  opened-number e = accepted-injective (sym e ∙ laws.open-enough f h t (laws.open-good f h t e))
 
   pub opened-inside : {n : ℕ} → openTile f h t ≡ accepted n → (slot : ℕ) → slot < countAt f t →
       inside (boxAt f t) (sitePoint (siteAt f h t slot)) ≡ true

@@ -13,7 +13,7 @@ use Rattle.plan.specs.FilePlan.{axisCount, entries, openingOf}
 use Rattle.prune.specs.Prune.{pruneMarks}
 use Rattle.search.specs.Inner.Walk.{Trace, cutWalks}
 use Rattle.search.specs.Pruning.{prunedCount}
-use Rattle.search.specs.Run.{queue, slices}
+use Rattle.search.specs.Run.{queue, inRows}
 use Rattle.search.specs.declared.Place.{Place}
 use Rattle.serve.specs.Inner.Marks.{markAll}
 use Rattle.serve.specs.Inner.Serving.{lastLength}
@@ -40,7 +40,7 @@ pub record Attempted (f : List ℕ) (h : Header) (cols : List (List ℤ)) (k : �
   pub outcome : r ≡ andThen (walksFor f h cols k .out) (λ ls. accepted (lastLength 0 ls))
   pub answered : (ls : List (List Place)) → walksFor f h cols k .out ≡ accepted ls
       → out′ ≡ record {
-        lists = lay (out .lists) 0 (slices k ls);
+        lists = lay (out .lists) 0 (inRows k ls);
         marks = markAll (over (out .marks) 0 (pruneMarks f h (around cols) k)) (walksFor f h cols k .asked);
       }
   pub refused : (number block : ℕ) → walksFor f h cols k .out ≡ refused number block

@@ -2,7 +2,7 @@
 -- later stop.
 -- `join-cut` (proofs/Cut) says that lists and openings are those of the join.
 use Prim.Native.Nat.{ℕ}
-use mathlib.Core.Bool.{cond}
+use mathlib.Core.Bool.{Bool, cond}
 use mathlib.Core.List.{List, [], _∷_, _++_}
 use Rattle.base.specs.Refusal.{Outcome, accepted, refused, andThen}
 use Rattle.search.specs.Plan.{Geometry, Directory, near}
@@ -20,24 +20,35 @@ enter t (accepted f) rest = record { asked = t ∷ rest f .asked; out = rest f .
 enter t (refused n b) rest = record { asked = t ∷ []; out = refused n b }
 
 -- a stop's list before those of the later stops, unless it is refused
-unfoldable pub both : List ℕ → Outcome (List Place) → Trace (List (List Place)) → Trace (List (List Place))
-both ts (accepted l) rest = record { asked = ts ++ rest .asked; out = andThen (rest .out) (λ ls. accepted (l ∷ ls)) }
-both ts (refused n b) rest = record { asked = ts; out = refused n b }
+unfoldable pub stopThen : List ℕ → Outcome (List Place) → Trace (List (List Place)) → Trace (List (List Place))
+stopThen ts (accepted l) rest = record { asked = ts ++ rest .asked; out = andThen (rest .out) (λ ls. accepted (l ∷ ls)) }
+stopThen ts (refused n b) rest = record { asked = ts; out = refused n b }
 
-module _ {G : Geometry} (E : Directory G) (k : ℕ) (read : Reading G) where
-  open Geometry G using (Stop)
+-- A stop's walk over the tiles that wait: it ends before a tile, or opens the tile and adds its sites to what is kept.
+module _ {S A : Type 0} (ends : ℕ → A → Bool) (adds : ℕ → List S → A → A) (read : ℕ → Outcome (List S)) where
+  unfoldable pub walkBy : List ℕ → A → Trace A
+  walkBy [] a = record { asked = []; out = accepted a }
+  walkBy (t ∷ ts) a =
+      cond (ends t a) (record { asked = []; out = accepted a }) (enter t (read t) (λ f. walkBy ts (adds t f a)))
 
-  -- one stop: the tiles that wait, and the list so far
-  unfoldable pub cutWalk : Stop → List ℕ → List Place → Trace (List Place)
-  cutWalk p [] l = record { asked = []; out = accepted l }
-  cutWalk p (t ∷ ts) l =
-      cond (lastAhead k l (near E p t) t)
-      (record { asked = []; out = accepted l })
-      (enter t (read t) (λ f. cutWalk p ts (inserts rank k (tilePlaces G p t f) l)))
+-- the walks of all stops in turn
+unfoldable pub walksBy : {P : Type 0} → (P → Trace (List Place)) → List P → Trace (List (List Place))
+walksBy stop [] = record { asked = []; out = accepted [] }
+walksBy stop (p ∷ ps) = stopThen (stop p .asked) (stop p .out) (walksBy stop ps)
 
-  -- all stops in turn, each over the tiles of its queue
-  unfoldable pub cutWalks : (Stop → List ℕ) → List Stop → Trace (List (List Place))
-  cutWalks tilesOf [] = record { asked = []; out = accepted [] }
-  cutWalks tilesOf (p ∷ ps) =
-      let w = cutWalk p (tilesOf p) [] in
-      both (w .asked) (w .out) (cutWalks tilesOf ps)
+module _ {G : Geometry} (E : Directory G) (k : ℕ) where
+  open Geometry G using (Site, Stop)
+
+  -- what ends the walk with a list cut at k, and what adds to it
+  abbrev pub cutEnds : Stop → ℕ → List Place → Bool
+  cutEnds p t l = lastAhead k l (near E p t) t
+
+  abbrev pub cutAdds : Stop → ℕ → List Site → List Place → List Place
+  cutAdds p t f l = inserts rank k (tilePlaces G p t f) l
+
+  abbrev pub cutWalk : Reading G → Stop → List ℕ → List Place → Trace (List Place)
+  cutWalk read p ts l = walkBy (cutEnds p) (cutAdds p) read ts l
+
+  -- each over the tiles of its queue, from nothing found
+  abbrev pub cutWalks : Reading G → (Stop → List ℕ) → List Stop → Trace (List (List Place))
+  cutWalks read tilesOf ps = walksBy (λ p. cutWalk read p (tilesOf p) []) ps

@@ -27,7 +27,7 @@ use Rattle.search.specs.Inner.Places.{maxPlaces}
 use Rattle.search.specs.Inner.Walk.{Trace, cutWalk, cutWalks}
 use Rattle.search.specs.Lists.{range, filter}
 use Rattle.search.specs.Order.{Strict}
-use Rattle.search.specs.Run.{noPlace, rank, tilePlaces, inOrder, slices, openedMark}
+use Rattle.search.specs.Run.{noPlace, rank, tilePlaces, inOrder, inRows, openedMark}
 use Rattle.search.specs.declared.Place.{Place}
 use Rattle.stops.specs.Stops.{stopCount, stopsOf, validStop}
 use Rattle.tiles.specs.declared.tile.Site.{Site}
@@ -118,7 +118,7 @@ pub record StopsServed (h : Header) (w : Trace (List (List Place))) (k n : ℕ) 
     (o′ : Slices) : Type 0 where
   pub outcome : r ≡ andThen (w .out) (λ ls. accepted (lastLength 0 ls))
   pub answered : (ls : List (List Place)) → w .out ≡ accepted ls
-      → o′ ≡ record { lists = lay (o .lists) 0 (slices k ls); marks = markAll (o .marks) (w .asked) }
+      → o′ ≡ record { lists = lay (o .lists) 0 (inRows k ls); marks = markAll (o .marks) (w .asked) }
   pub under : cleared 0 n (h .tiles) o′ ≡ cleared 0 n (h .tiles) o
 
 -- all lists and the marks; or refused, with n places and T marks zero
@@ -126,5 +126,5 @@ abbrev pub afterStops : Header → Trace (List (List Place)) → ℕ → ℕ →
 afterStops h w k n o = go (w .out)
   where
     go : Outcome (List (List Place)) → Slices
-    go (accepted ls) = record { lists = lay (o .lists) 0 (slices k ls); marks = markAll (o .marks) (w .asked) }
+    go (accepted ls) = record { lists = lay (o .lists) 0 (inRows k ls); marks = markAll (o .marks) (w .asked) }
     go (refused number block) = cleared 0 n (h .tiles) o

@@ -8,7 +8,7 @@ use Rattle.blocks.specs.Layout.{maxTiles}
 use Rattle.geometry.specs.Box.{validBox}
 use Rattle.search.specs.Limits.{validK}
 use Rattle.prune.specs.Prune.{pruneCall, marksAfter}
-use Rattle.prune.proofs.Corners.{tiles-most}
+use Rattle.plan.proofs.Measures.{tiles-few}
 use Rattle.prune.proofs.call.prune_accepted.Statement.{statement}
 use Rattle.prune.proofs.call.prune_accepted.Tie as tie
 
@@ -24,7 +24,7 @@ good-box c =
     sym (a .valid-box .ensures) ∙ not-false (a .valid-box .result) (c .if2 .left)
 
 most : (s : tie.Start) → s .args .h .tiles ≤ maxTiles
-most s = tiles-most (s .args .f .now) (s .args .h) (s .pre)
+most s = tiles-few (s .args .f .now) (s .args .h) (s .pre)
 
 valid-k-requires : tie.Need-valid-k-requires
 valid-k-requires c κs = search needs

@@ -22,23 +22,23 @@ mul-opposite c = search needs
 loop-holds : tie.Need-loop-holds Inv-loop μ-loop
 loop-holds c = search needs
 
-mul-both : tie.Need-mul-both Inv-loop μ-loop
-mul-both c = search needs
+mul-sum : tie.Need-mul-sum Inv-loop μ-loop
+mul-sum c = search needs
 
-shared-slice-read-both : tie.Need-shared-slice-read-both Inv-loop μ-loop
-shared-slice-read-both c = search needs
+shared-slice-read-sum : tie.Need-shared-slice-read-sum Inv-loop μ-loop
+shared-slice-read-sum c = search needs
 
-add-both : tie.Need-add-both Inv-loop μ-loop
-add-both c = search needs
+add-sum : tie.Need-add-sum Inv-loop μ-loop
+add-sum c = search needs
 
-mul-both-2 : tie.Need-mul-both-2 Inv-loop μ-loop
-mul-both-2 c = search needs
+mul-sum-2 : tie.Need-mul-sum-2 Inv-loop μ-loop
+mul-sum-2 c = search needs
 
-shared-slice-read-both-2 : tie.Need-shared-slice-read-both-2 Inv-loop μ-loop
-shared-slice-read-both-2 c = search needs
+shared-slice-read-sum-2 : tie.Need-shared-slice-read-sum-2 Inv-loop μ-loop
+shared-slice-read-sum-2 c = search needs
 
-add-both-2 : tie.Need-add-both-2 Inv-loop μ-loop
-add-both-2 c =
+add-sum-2 : tie.Need-add-sum-2 Inv-loop μ-loop
+add-sum-2 c =
     let l : tie.At-loop Inv-loop μ-loop = search in
     let far = c .shared-slice-known2 .given in
     omega (arith, far (l .loop .t), far ((cornerCount - 1) * maxTiles + l .loop .t))
@@ -60,5 +60,5 @@ returns : tie.Need-returns Inv-loop μ-loop
 returns c = search needs
 
 pub middle-tile-spec : {M : Type 1} → statement M
-middle-tile-spec = tie.close (tie.spec Inv-loop μ-loop sub-opposite mul-opposite loop-holds mul-both
-    shared-slice-read-both add-both mul-both-2 shared-slice-read-both-2 add-both-2 add-t loop-less loop-again returns)
+middle-tile-spec = tie.close (tie.spec Inv-loop μ-loop sub-opposite mul-opposite loop-holds mul-sum
+    shared-slice-read-sum add-sum mul-sum-2 shared-slice-read-sum-2 add-sum-2 add-t loop-less loop-again returns)

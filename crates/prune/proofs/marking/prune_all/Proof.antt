@@ -13,7 +13,7 @@ use Rattle.search.specs.Lists as lists
 use Rattle.search.specs.Pruning.{pruned, prunedCount}
 use Rattle.plan.proofs.Tables.{fill-turn, fill-done, bit-small}
 use Rattle.prune.specs.Prune.{pruneMarks}
-use Rattle.prune.proofs.Corners.{tiles-most}
+use Rattle.plan.proofs.Measures.{tiles-few}
 use Rattle.prune.proofs.Summing.{count-turn, count-done}
 use Rattle.prune.proofs.marking.prune_all.Statement.{statement}
 use Rattle.prune.proofs.marking.prune_all.Tie as tie
@@ -29,7 +29,7 @@ abbrev μ-loop : tie.MeasureT-loop
 μ-loop f h far o k marks₀ middle count₀ t₀ marks count t = h .tiles - t
 
 most : (s : tie.Start Inv-loop μ-loop) → s .args .h .tiles ≤ maxTiles
-most s = tiles-most (s .args .f .now) (s .args .h) (s .pre .0 .0)
+most s = tiles-few (s .args .f .now) (s .args .h) (s .pre .0 .0)
 
 abbrev test : tie.Start Inv-loop μ-loop → ℕ → Bool
 test s = pruned (entries (s .args .f .now) (s .args .h)) (s .args .o) (s .args .k)
@@ -86,7 +86,7 @@ loop-again c =
       omega (arith, x, bit-small (test s t)),
       length-set (l .loop .marks) t (c .prune-tile .result) ∙ i .2,
       omega (arith, x, q, i .3),
-      rw x (fill-turn (λ i. bit (test s i)) (l .loop .marks) t (s .args .h .tiles) in-loop ∙ i .4),
+      rw x (fill-turn (λ i. bit (test s i)) (l .loop .marks) t t (s .args .h .tiles) in-loop ∙ i .4),
     )
 
 same-length : tie.Need-same-length Inv-loop μ-loop
@@ -99,7 +99,7 @@ returns c =
     let past : s .args .h .tiles ≤ l .loop .t = search needs in
     let q = count-done (test s) (l .loop .t) (s .args .h .tiles) past in (
       (omega (arith, q, l .loop .inv .3), omega arith),
-      fill-done (λ i. bit (test s i)) (l .loop .marks) (l .loop .t) (s .args .h .tiles) past ∙ l .loop .inv .4,
+      fill-done (λ i. bit (test s i)) (l .loop .marks) (l .loop .t) (l .loop .t) (s .args .h .tiles) past ∙ l .loop .inv .4,
     )
 
 pub prune-all-spec : {M : Type 1} → statement M

@@ -10,7 +10,8 @@ use Rattle.blocks.specs.Layout.{maxTiles}
 use Rattle.plan.specs.FilePlan.{entries}
 use Rattle.search.specs.Plan.{slots, ranked}
 use Rattle.prune.specs.Inner.Tables.{belowAll, sumBelow, FirstBelow}
-use Rattle.prune.proofs.Corners.{tiles-most, not-below}
+use Rattle.plan.proofs.Measures.{tiles-few}
+use Rattle.prune.proofs.Corners.{not-below}
 use Rattle.prune.proofs.Summing.{sum-turn, sum-skip, sum-done}
 use Rattle.prune.proofs.marking.reaches_among.Statement.{statement}
 use Rattle.prune.proofs.marking.reaches_among.Tie as tie
@@ -35,7 +36,7 @@ abbrev sites : tie.Start Inv-loop μ-loop → ℕ → ℕ
 sites s = ranked (entries (s .args .f .now) (s .args .h))
 
 most : (s : tie.Start Inv-loop μ-loop) → s .args .h .tiles ≤ maxTiles
-most s = tiles-most (s .args .f .now) (s .args .h) (s .pre .0 .0)
+most s = tiles-few (s .args .f .now) (s .args .h) (s .pre .0 .0)
 
 -- the tiles passed over add nothing
 passed : (s : tie.Start Inv-loop μ-loop) {a r : ℕ}

@@ -1,14 +1,14 @@
 use mathlib.Core.Path.{sym, _∙_}
 use native.Mathlib.Omega.{arith}
 use borrow.Author.Needs.{needs}
-use Rattle.prune.proofs.Corners.{tiles-most}
+use Rattle.plan.proofs.Measures.{tiles-few}
 use Rattle.prune.proofs.marking.weight.Statement.{statement}
 use Rattle.prune.proofs.marking.weight.Tie as tie
 
 below-requires : tie.Need-below-requires
 below-requires c κs =
     let s : tie.Start = search in
-    let most = tiles-most (s .args .f .now) (s .args .h) (s .pre .0 .dir) in
+    let most = tiles-few (s .args .f .now) (s .args .h) (s .pre .0 .dir) in
     (omega (arith, s .pre .0 .below), s .pre .1)
 
 ranked-requires : tie.Need-ranked-requires

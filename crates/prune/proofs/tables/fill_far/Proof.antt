@@ -9,7 +9,8 @@ use Rattle.blocks.specs.Layout.{maxTiles}
 use Rattle.plan.specs.Inner.Seam as seam
 use Rattle.search.specs.Lists.{range}
 use Rattle.prune.specs.Inner.Tables.{fars}
-use Rattle.prune.proofs.Corners.{tiles-most, part-turn, part-done}
+use Rattle.plan.proofs.Measures.{tiles-few}
+use Rattle.plan.proofs.Tables.{fill-turn, fill-done}
 use Rattle.prune.proofs.tables.fill_far.Statement.{statement}
 use Rattle.prune.proofs.tables.fill_far.Tie as tie
 
@@ -22,7 +23,7 @@ abbrev μ-loop : tie.MeasureT-loop
 μ-loop f h p c far₀ first t₀ far t = h .tiles - t
 
 most : (s : tie.Start Inv-loop μ-loop) → s .args .h .tiles ≤ maxTiles
-most s = tiles-most (s .args .f .now) (s .args .h) (s .pre .0 .0)
+most s = tiles-few (s .args .f .now) (s .args .h) (s .pre .0 .0)
 
 mul-first : tie.Need-mul-first Inv-loop μ-loop
 mul-first c = search needs
@@ -59,11 +60,12 @@ loop-again c =
     let s : tie.Start Inv-loop μ-loop = search in
     let l : tie.At-loop Inv-loop μ-loop = search in
     let g = seam.far (s .args .f .now) (s .args .p) in
-    let first = s .args .c * maxTiles in (
+    let first = s .args .c * maxTiles in
+    let next : first + (l .loop .t + 1) ≡ first + l .loop .t + 1 = omega arith in (
       search needs,
       length-set (l .loop .far) (first + l .loop .t) (c .far .result) ∙ l .loop .inv .1,
-      rw (c .far .ensures)
-          (part-turn g first (l .loop .far) (l .loop .t) (s .args .h .tiles) (search needs) ∙ l .loop .inv .2),
+      rw (next, c .far .ensures) (fill-turn g (l .loop .far) (first + l .loop .t) (l .loop .t) (s .args .h .tiles)
+          (search needs) ∙ l .loop .inv .2),
     )
 
 same-length : tie.Need-same-length Inv-loop μ-loop
@@ -74,7 +76,8 @@ returns c =
     let s : tie.Start Inv-loop μ-loop = search in
     let l : tie.At-loop Inv-loop μ-loop = search in
     let g = seam.far (s .args .f .now) (s .args .p) in
-    part-done g (s .args .c * maxTiles) (l .loop .far) (l .loop .t) (s .args .h .tiles) (search needs) ∙ l .loop .inv .2
+    fill-done g (l .loop .far) (s .args .c * maxTiles + l .loop .t) (l .loop .t) (s .args .h .tiles) (search needs)
+    ∙ l .loop .inv .2
 
 pub fill-far-spec : {M : Type 1} → statement M
 fill-far-spec = tie.close (tie.spec Inv-loop μ-loop mul-first loop-holds far-requires add-far mul-far slice-write-far

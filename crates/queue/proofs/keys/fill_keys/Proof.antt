@@ -7,8 +7,8 @@ use borrow.Author.Needs.{needs}
 use Rattle.base.specs.Over.{over}
 use Rattle.plan.specs.FilePlan.{entries}
 use Rattle.search.specs.Plan.{near}
+use Rattle.search.proofs.Lists.{all-getD}
 use Rattle.queue.proofs.Filling.{fill-turn, fill-done}
-use Rattle.queue.proofs.Waiting.{all-at}
 use Rattle.queue.proofs.keys.fill_keys.Statement.{statement}
 use Rattle.queue.proofs.keys.fill_keys.Tie as tie
 
@@ -33,7 +33,7 @@ near-requires c κs =
     let i : tie.In-loop Inv-loop μ-loop = search in
     let l : tie.At-loop Inv-loop μ-loop = search in
     let s : tie.Start Inv-loop μ-loop = search in
-    let below = all-at _ (s .args .order .now) (s .pre .2) (l .loop .j) (i .loop-test .taken) in
+    let below = all-getD _ (s .args .order .now) (l .loop .j) 0 (i .loop-test .taken) (s .pre .2) in
     (record { dir = s .pre .0; below = below }, s .pre .1)
 
 mul-keys : tie.Need-mul-keys Inv-loop μ-loop
