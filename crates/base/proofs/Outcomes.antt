@@ -1,4 +1,5 @@
--- Laws of outcomes: what an accepted outcome shows of its parts, proof by an outcome, answers by number. Assumes nothing.
+-- Laws of outcomes: what an accepted outcome shows of its parts, proof by an outcome, answers by number. Assumes
+-- nothing.
 use Prim.Native.Nat.{ℕ, zero, suc}
 use mathlib.Core.Bool.{Bool, true, false}
 use mathlib.Core.Path.{_≡_, refl, sym, ap, _∙_}

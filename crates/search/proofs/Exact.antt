@@ -291,8 +291,9 @@ module _ {G : Geometry} (E : Directory G) (O : G .Box) (k : ℕ) where
   asked-differs L p home g ag t m =
       let a = asked-short p g (queue E O k p) [] t m in
       let short = short-town L p home g ag t (short-queue L p home g ag t (a .sooner) (a .later) (a .split) (a .few)) in
-      let c = all-mem (Chosen E O k) (asked-all (enough E k p) (foundAdds E k p) (λ u. accepted (g u)) (Chosen E O k) (queue E O k p) []
-      (queue-chosen E O k p)) m in
+      let chosen = asked-all (enough E k p) (foundAdds E k p) (λ u. accepted (g u)) (Chosen E O k) (queue E O k p) []
+      (queue-chosen E O k p) in
+      let c = all-mem (Chosen E O k) chosen m in
       let ht = c .0 in
       let n = candidate-some E O k t (c .1) in
       let e = ranked-count E t (g t) (ag t ht) in

@@ -14,7 +14,8 @@ use Rattle.search.specs.Lists.{range, count, filter, member, All, Distin
 use Rattle.search.specs.Plan.{Geometry, Directory}
 use Rattle.search.specs.Pruning.{pruned, prunedCount}
 use Rattle.search.specs.Run.{Place, noPlace, padded, inRows, mark, marks, openedMark, prunedMark, noMark}
-use Rattle.search.proofs.Lists.{all-any, all-mem, count-all, count-perm, filter-passes, filter-mem, getD-map-lt, range-length, range-getD}
+use Rattle.search.proofs.Lists.{all-any, all-mem, count-all, count-perm, filter-passes, filter-mem}
+use Rattle.search.proofs.Lists.{getD-map-lt, range-length, range-getD}
 use Rattle.search.proofs.Lists.{filter-distinct, range-mem, range-distinct, member-mem, mem-member}
 use Rattle.search.proofs.Lists.{same-elements}
 

@@ -6,7 +6,7 @@ use mathlib.Core.List.{List, [], _∷_, _++_, map, List·Memᴰ, List·Memᴰ·h
 use mathlib.Core.List.{Memᴰ·append-left, Memᴰ·append-right, Permᴰ·symm}
 use mathlib.Core.Logic.{_⊎_, inl, inr, _↔_}
 use mathlib.Core.Option.{some}
-use mathlib.Core.Path.{_≡_, refl, sym, ap, _∙_}
+use mathlib.Core.Path.{_≡_, refl, sym, ap, _∙_, subst}
 use native.Mathlib.Nat.{add-zero, zero-add}
 use native.Mathlib.Omega.{arith}
 use lib.ListN.{length, drop, getElem?, length-take, take-append-drop}
@@ -118,11 +118,14 @@ module _ {G : Geometry} (E : Directory G) (k : ℕ) where
     placesOf-mem a t ts (List·Memᴰ·tail {x = u} {xs = us} m) h =
         Memᴰ·append-right (tilePlaces G p u (g u)) (placesOf-mem a t us m h)
 
+    pub site-here : (a : Place) (s : SiteOf E p g a) → List·Memᴰ a (tilePlaces G p (s .tile) (g (s .tile)))
+    site-here a s = subst (λ x. List·Memᴰ x (tilePlaces G p (s .tile) (g (s .tile)))) (sym (s .place))
+        (listing-mem (s .tile * slots) (s .slot) (g (s .tile)) (s .it) (s .there) (s .ranked))
+
     site-placed : (a : Place) → SiteOf E p g a → List·Memᴰ a (placesOf G p g (range 0 tiles))
     site-placed a s =
-        rw (s .place) (placesOf-mem _ (s .tile) (range 0 tiles)
-        (range-mem (s .tile) 0 tiles (omega arith) (let h = s .below in omega arith))
-        (listing-mem (s .tile * slots) (s .slot) (g (s .tile)) (s .it) (s .there) (s .ranked)))
+        placesOf-mem a (s .tile) (range 0 tiles)
+        (range-mem (s .tile) 0 tiles (omega arith) (let h = s .below in omega arith)) (site-here a s)
 
     -- ---- each once
 

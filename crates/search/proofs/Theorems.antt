@@ -1,8 +1,8 @@
 -- The theorems for the reader: demands 2 and 3 of the run, sentence by sentence.
 -- The definition of the run is `join` (specs/Run), what is claimed of it `RunAnswers` (specs/Claims). G is the
 -- geometry, E the directory, O the box around the stops, and L what is assumed of them.
-use Prim.Native.Nat.{ℕ, _<_}
-use mathlib.Core.Bool.{true, false}
+use Prim.Native.Nat.{ℕ, _<_, _≤_}
+use mathlib.Core.Bool.{true, false, not, _&&_}
 use mathlib.Core.List.{List, [], _∷_, map}
 use mathlib.Core.Logic.{_↔_}
 use mathlib.Core.Path.{_≡_, ap, _∙_}
@@ -11,24 +11,29 @@ use lib.ListN.{length, getD}
 use Rattle.base.specs.Refusal.{accepted}
 use Rattle.search.specs.Claims.{FullSearch, RunAnswers}
 use Rattle.search.specs.FullSearch.{firstOf, SiteOf, ByDistanceTileSlot, Fits}
-use Rattle.search.specs.Lists.{count, member, All, Distinct}
+use Rattle.search.specs.Lists.{range, count, total, member, All, Distinct}
 use Rattle.search.specs.Plan.{Geometry, Directory, Lawful, ranked, Town, Agrees}
 use Rattle.search.specs.Pruning.{pruned, prunedCount}
-use Rattle.search.specs.Run.{Reading, Place, Run, Checked, rank, fullQueue, run, join, placesUsed, marks}
+use Rattle.search.specs.Run.{Reading, Place, Run, Checked, rank, placesOf, queue, fullQueue, run, join}
+use Rattle.search.specs.Run.{placesUsed, marks}
 use Rattle.search.specs.Run.{openedMark, prunedMark, noMark}
 use Rattle.search.proofs.Answered.{readTown, join-town, some-town, answer-padded, answer-places, answer-used}
 use Rattle.search.proofs.Answered.{opened-changes, changes-opened}
 use Rattle.search.proofs.FullQueue.{full-alike}
-use Rattle.search.proofs.Lists.{all-map}
+use Rattle.search.proofs.Lists.{all-map, all-mem}
 use Rattle.search.proofs.Marks.{marks-at, mark-opened, mark-pruned, mark-neither, marks-opened}
 use Rattle.search.proofs.Marks.{marks-pruned}
+use Rattle.search.proofs.Places.{Known, known}
+use Rattle.search.proofs.Pruning as pruning
 use Rattle.search.proofs.Queue.{candidate-unpruned, candidate-some}
-use Rattle.search.proofs.Ranking.{rank-exactly, first-strict, first-sites, first-once, first-rest, first-length}
+use Rattle.search.proofs.Ranking.{rank-exactly, site-here, first-strict, first-sites, first-once, first-rest}
+use Rattle.search.proofs.Ranking.{first-length}
 use Rattle.search.proofs.Run.{join-chosen, join-once, join-same}
+use Rattle.search.proofs.Sound as sound
 
 module _ {G : Geometry} (E : Directory G) (O : G .Box) (k : ℕ) where
-  open Geometry G using (Stop, Within)
-  open Directory E using (tiles)
+  open Geometry G using (Stop, Within, closer)
+  open Directory E using (tiles, box)
 
   -- ---- every run, refused ones too; nothing is assumed
 
@@ -90,6 +95,19 @@ module _ {G : Geometry} (E : Directory G) (O : G .Box) (k : ℕ) where
     pub pruning-opens-alike : (read : Reading G) → Checked E read → (ps : List Stop) → All (Within O) ps
         → run E k (fullQueue E) read ps [] ≡ join E O k read ps
     pruning-opens-alike = full-alike E O k L
+
+    -- Why striking is right: the tiles nearer than a struck tile that are not struck themselves have k sites or more,
+    pub pruned-by-free : (b : ℕ) → b < tiles → pruned E O k b ≡ true
+        → k ≤ total (λ e. not (pruned E O k e) && closer O (box e) (box b)) (ranked E) (range 0 tiles)
+    pruned-by-free = pruning.pruned-by-free E O k L
+
+    -- and every site of it is behind k sites of tiles that a stop may come to
+    pub pruned-behind : (p : Stop) → Within O p → (g : Town G) → Agrees E g → (y : Place) (u : SiteOf E p g y)
+        → pruned E O k (u .tile) ≡ true → k ≤ count (λ x. rank x y) (placesOf G p g (queue E O k p))
+    pruned-behind p home g ag y u s =
+        let t = u .tile in
+        let i = all-mem (Known E p g t) (known E L p home g t (u .below, ag t (u .below))) (site-here E k p g y u) in
+        sound.pruned-behind E O k L p home g ag t (u .below) s y i
 
   -- ---- a full search, and a run that answers
 

@@ -21,7 +21,8 @@ enter t (refused n b) rest = record { asked = t ∷ []; out = refused n b }
 
 -- a stop's list before those of the later stops, unless it is refused
 unfoldable pub stopThen : List ℕ → Outcome (List Place) → Trace (List (List Place)) → Trace (List (List Place))
-stopThen ts (accepted l) rest = record { asked = ts ++ rest .asked; out = andThen (rest .out) (λ ls. accepted (l ∷ ls)) }
+stopThen ts (accepted l) rest =
+    record { asked = ts ++ rest .asked; out = andThen (rest .out) (λ ls. accepted (l ∷ ls)) }
 stopThen ts (refused n b) rest = record { asked = ts; out = refused n b }
 
 -- A stop's walk over the tiles that wait: it ends before a tile, or opens the tile and adds its sites to what is kept.

@@ -99,7 +99,8 @@ returns c =
     let past : s .args .h .tiles ≤ l .loop .t = search needs in
     let q = count-done (test s) (l .loop .t) (s .args .h .tiles) past in (
       (omega (arith, q, l .loop .inv .3), omega arith),
-      fill-done (λ i. bit (test s i)) (l .loop .marks) (l .loop .t) (l .loop .t) (s .args .h .tiles) past ∙ l .loop .inv .4,
+      fill-done (λ i. bit (test s i)) (l .loop .marks) (l .loop .t) (l .loop .t) (s .args .h .tiles) past
+          ∙ l .loop .inv .4,
     )
 
 pub prune-all-spec : {M : Type 1} → statement M
