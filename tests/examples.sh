@@ -28,6 +28,12 @@ compare samples/riverside.town text_to_town samples/riverside.txt
 compare samples/riverside.host "$built/host" samples/riverside.town
 compare samples/riverside.answer ask samples/riverside.town 3 1200,3000 2600,3100 4100,3200 5600,3200
 
+# A line may end in CR LF, and the last one may have no end.
+with_cr() { sed 's/$/\r/' samples/riverside.txt | "$built/town"; }
+without_end() { printf %s "$(cat samples/riverside.txt)" | "$built/town"; }
+compare samples/riverside.town with_cr
+compare samples/riverside.town without_end
+
 # A standard input that cannot be read is no empty input.
 read_folder() { target/bin/nearby </; }
 compare <(echo "nearby: standard input cannot be read") read_folder

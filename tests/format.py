@@ -332,8 +332,55 @@ def check_what_is_seen(engine, sample):
         for at in range(1, 255):
             apart = put(put(block, at, block[at + 255:at + 256]), at + 255, block[at:at + 1])
             expect(f"bytes {at} and {at + 255} swapped", engine.block_check(apart), 0)
+    unseen_by_the_check(engine, sample)
+    # a block that is moved: 4 where the other kind is due, else 5
+    two = engine.written(*town(30))[2]
+    for file, one, other, due in (sample, 0, 2, 4), (sample, 2, 0, 4), (sample, 2, 3, 5), (two, 0, 1, 5), (two, 1, 2, 4):
+        expect("a moved block", engine.checked(put(file, BLOCK * other, block_of(file, one))), (due, other))
     zero = put(bytes(BLOCK), 0, [0xD6])
     expect("zeros", [engine.block_check(put(zero, at, [255])) for at in (1, 509, 510, 511)], [0, 0, 3, 3])
+
+
+def unseen_by_the_check(engine, sample):
+    """Each byte that turns from 0 to 255 or back: which test sees it, if any."""
+    boxes = [struct.unpack_from("<4i", sample, 16 + 20 * t) for t in range(24)]
+    sites = {t: [struct.unpack_from("<2i", sample, BLOCK * (t + 1) + 16 + 12 * slot)
+                 for slot in range(sample[16 + 20 * t + 16])] for t in range(24)}
+    unseen = {"cue": 0, "coordinate": 0}
+
+    def due_in_tile(t, at):
+        if 16 <= at < 16 + 12 * len(sites[t]):
+            slot, place = divmod(at - 16, 12)
+            if place >= 8:
+                unseen["cue"] += 1
+                return 0, 0
+            point = struct.unpack_from("<2i", damaged, BLOCK * (t + 1) + 16 + 12 * slot)
+            fits = all(boxes[t][axis] <= point[axis] <= boxes[t][axis + 2] for axis in (0, 1))
+            unseen["coordinate"] += fits
+            return (0, 0) if fits else (10, t + 1)
+        return {2: 5, 3: 5, 4: 7, 5: 7}.get(at, 8), t + 1
+
+    def due_in_directory(at):
+        if 16 <= at < 16 + 20 * 24:
+            t, place = divmod(at - 16, 20)
+            if place >= 16:
+                return (9 if place < 18 else 8), 0
+            low_x, low_y, high_x, high_y = struct.unpack_from("<4i", damaged, 16 + 20 * t)
+            if not (-1_000_000 <= low_x <= high_x <= 1_000_000 and -1_000_000 <= low_y <= high_y <= 1_000_000):
+                return 9, 0
+            fits = all(low_x <= x <= high_x and low_y <= y <= high_y for x, y in sites[t])
+            unseen["coordinate"] += fits
+            return (0, 0) if fits else (10, t + 1)
+        return {2: 5, 3: 5, 4: 7, 5: 7, 6: 6, 7: 6}.get(at, 8), 0
+
+    for position in 0, 1, 2, 20, 24:
+        for at in range(1, 510):
+            byte = sample[BLOCK * position + at]
+            if byte in (0, 255):
+                damaged = put(sample, BLOCK * position + at, [255 - byte])
+                due = due_in_tile(position - 1, at) if position else due_in_directory(at)
+                expect(f"byte {at} of block {position} as {255 - byte}", engine.checked(damaged), due)
+    expect("bytes of cues and coordinates that no test sees", all(unseen.values()), True)
 
 
 # What the document says of blocks
@@ -581,9 +628,10 @@ def check_orders_of_calls(document, engine):
 
 
 def check_refusals(document):
-    for head in ["No.", "Name", "Refused when"], ["No.", "What has mostly happened"]:
-        rows = document.table(*head)
-        expect(f"numbers of {head}", [int(row[0]) for row in rows], list(range(1, 16 if head[1] == "Name" else 11)))
+    numbers = [int(row[0]) for row in document.table("No.", "Name", "Refused when")]
+    expect("numbers of the refusals", numbers, list(range(1, 16)))
+    causes = [int(row[0].split()[0]) for row in document.table("No.", "Usual cause", "What to look at")]
+    expect("numbers of the causes", causes, [1, 2, 3, 4, 5, 6, 7, 7, 8, 9, 10])
     constants = dict(re.findall(r"NEARBY_(\w+) = (\d+)", (ROOT / "include/nearby.h").read_text()))
     block, tiles, sites, stops, k, file = (int(constants[name]) for name in (
         "BLOCK_SIZE", "MAX_TILES", "MAX_SITES", "MAX_STOPS", "MAX_K", "MAX_FILE"))
@@ -649,11 +697,15 @@ def check_reader(document, engine, reader, sample):
     expect("pieces of C in the document", [piece in source for piece in pieces], [True] * len(pieces))
     expect("there are pieces of C", len(pieces) > 1, True)
 
+    constants = dict(re.findall(r"(\w+) = (\w+)", " ".join(pieces[0].splitlines())))
+    expect("the enums of the reader", {"HEAD", "ENTRY", "ENTRIES", "CHECK", "LIMIT"} <= set(constants), True)
+
     large = engine.written(*town(960, 40))[2]
     mixed = file_of(engine, "tile -1000000 -1000000 1000000 1000000\nsite -1000000 1000000 4294967295\n"
                             "site -1 -256 0\ntile -7 -7 -7 -7\nsite -7 -7 255\ntile 0 0 0 0\n")
     small = [engine.written(*town(tiles, sites))[2] for tiles, sites in ((1, 0), (24, 2), (25, 2), (48, 1), (49, 40))]
-    for good in sample, large, mixed, *small:
+    crossing = (ROOT / "samples/crossing.town").read_bytes()
+    for good in sample, crossing, large, mixed, *small:
         expect("a good file", engine.checked(good)[0], 0)
         reader.compare(good)
 

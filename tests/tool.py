@@ -106,6 +106,11 @@ def texts():
                                                 "site 74 840 51  # site 0, slot 0"]), "show")
     same(run("make", "-", target, given=shown.encode())[0], 0, "make of what show prints")
     same(target.read_bytes(), SAMPLE.read_bytes(), "show and make give the file again")
+    # A line may end in CR LF, and the last one may have no end.
+    for given in (shown.replace("\n", "\r\n"), shown.rstrip("\n")):
+        target.unlink()
+        same(run("make", "-", target, given=given.encode())[0], 0, "make of lines with other ends")
+        same(target.read_bytes(), SAMPLE.read_bytes(), "lines with other ends give the same file")
 
 
 def round_trips(engine, rng):
