@@ -252,6 +252,15 @@ def numbers_exchanged():
     return ask_of(tiles)[0]
 
 
+def zero_counted():
+    """What a program that counts a margin of 0 does with that town: it has tile 1 struck, and so another list of stop 0."""
+    boxes = [BOXES[0], BOXES[3], BOXES[2], BOXES[1], *BOXES[4:]]
+    counts = [COUNTS[0], COUNTS[3], COUNTS[2], COUNTS[1], *COUNTS[4:]]
+    not_farther = [e for e in ALL if margin(O, boxes[e], boxes[1]) <= 0]
+    assert not_farther == [3] and counts[3] == K and numbers_exchanged()[1][1] // 40 == 1
+    return "If 0 counted, tile 1 would be struck, since tile 3 has two sites, and this list would be wrong."
+
+
 def both_at(stop, a, b):
     """The distance of two sites that are equally far."""
     assert near(stop, a * 2) == near(stop, b * 2)
@@ -304,6 +313,10 @@ def sentences():
         f" {margin((0, 0, 10, 0), (0, 0) * 2, (15, 0) * 2)}.",
         f"The margin of tile 1 and tile 3 is {MARGINS[1, 3]}.",
         f"(3,2) and (-3,-2) are both at {near((0, 0), (3, 2) * 2)} from (0,0).",
+        f"From 0 it is {far((0, 0), (20, 0, 30, 0))} against {near((0, 0), (30, 0, 70, 0))}, from 10 it is"
+        f" {far((10, 0), (20, 0, 30, 0))} against {near((10, 0), (30, 0, 70, 0))}: the margin is"
+        f" {margin((0, 0, 10, 0), (20, 0, 30, 0), (30, 0, 70, 0))}.",
+        zero_counted(),
         f"The margin of tiles 1 and 2 is {MARGINS[1, 2]}, that of tiles 2 and 1 is {MARGINS[2, 1]}."
         f" Of the {pairs} pairs of tiles in this town, {compared} can be compared and {pairs - compared} cannot.",
         f"stop 0 ends at the key ({end_0[0]}, {end_0[1]}). Tile 4 would have the key ({near_of((0, 0), 4)}, 4),"
@@ -315,10 +328,10 @@ def sentences():
         f"the next key is ({end_0[0]}, {end_0[1]}), and the places are {' and '.join(map(place, LISTS[0]))}.",
         f"the sites (-3,2) of tile 0 and (3,2) of tile 1 are both at {both_at((0, 0), (-3, 2), (3, 2))}",
         f"the sites (2,1) of tile 1 and (10,3) of tile 2 are both at {both_at((6, 2), (2, 1), (10, 3))}",
-        f"The site of tile 3 can come no closer to stop 0 than {near_of((0, 0), 3)}, at (-3,-2), and there it ranks"
-        f" behind {place(LISTS[0][1])}. It can come no closer to stop 1 than {near_of((6, 2), 3)}.",
-        f"The site of tile 4 can come no closer to the stops than {near_of((0, 0), 4)} and {near_of((6, 2), 4)},"
-        f" that of tile 5 no closer than {near_of((0, 0), 5)} and {near_of((6, 2), 5)}.",
+        f"The least D that the site of tile 3 can have from stop 0 is {near_of((0, 0), 3)}, at (-3,-2), and there it ranks"
+        f" behind {place(LISTS[0][1])}. From stop 1 its least D is {near_of((6, 2), 3)}.",
+        f"For the site of tile 4 the least D from the two stops are {near_of((0, 0), 4)} and {near_of((6, 2), 4)}, for that"
+        f" of tile 5 they are {near_of((0, 0), 5)} and {near_of((6, 2), 5)}.",
     ]  # fmt: skip
 
 
