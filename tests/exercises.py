@@ -4,10 +4,12 @@
 The towns are read from the document's own commands (`printf .. > target/class/NAME.txt`), the answers from its tables
 and sentences; what they should say is asked of target/lib/libnearby.so, which `make lib` makes. What a mistaken program
 would answer comes from a small model of the join with that mistake put in; without a mistake the model has to agree
-with the engine. The commands themselves are run by tests/documents.py. What CONTRIBUTING.md says of the repository's
-files is looked at too.
+with the engine. The commands themselves are run by tests/documents.py. What exercise 6 shows of the prover is compared
+with what the prover said to the same edit: `rt ci`, or `rt must-fail serve`, leaves it in target/must-fail. If it is
+not there, or of other sources, that part is left out, with a word; with --gate this is a failure. What CONTRIBUTING.md
+says of the repository's files is looked at too.
 
-use: exercises.py [DOCUMENT]
+use: exercises.py [--gate] [DOCUMENT]
 """
 import re
 import sys
@@ -21,6 +23,8 @@ from towns.engine import Engine, NoLibrary, Refused, refusal  # noqa: E402
 from towns.text import parse  # noqa: E402
 
 LIBRARY = ROOT / "target/lib/libnearby.so"
+EDIT = ROOT / "crates/serve/must-fail/ends_at_k_sites.edit"
+TRIED = ROOT / "target/must-fail/serve/ends_at_k_sites"  # the crate with the edit in it, and what the prover said: .log
 SLOTS = 40
 BLOCK = 512
 
@@ -338,7 +342,9 @@ def mistakes(engine, document):
     for stop, words in (((5, 0), "From the middle, (5,0),"), ((10, 0), "From the stop at (10,0)")):
         document.says("Answer 4.2", f"{words} tile 0 is at D = {engine.near(stop, e)}"
                       f" and tile 1 at D = {engine.near(stop, b)}")
-    document.says("Answer 4.3", f"Tile 1 begins at D = {engine.near((0, 0), document.town('found')[1][0])},")
+    (first_box, [held]), (second_box, _) = document.town("found")
+    document.says("Answer 4.3", f"near of tile 0 is {engine.near((0, 0), first_box)}, and it is taken first; its one site is at"
+                  f" D = {engine.near((0, 0), held[:2] * 2)}. But near of tile 1 is {engine.near((0, 0), second_box)},")
 
 
 def check(engine, document):
@@ -402,16 +408,66 @@ def errors_stand(lines):
     return len(errors)
 
 
-def wrong_program(document):
-    """The edit is the one of the repository and fits, and each error stands in the answer that it names."""
+def entries(lines):
+    """What the prover says, an entry with the lines that go on in one line."""
+    joined = []
+    for line in lines:
+        if line.startswith("  ") and joined:
+            joined[-1] += " " + line
+        else:
+            joined.append(line)
+    return [" ".join(entry.split()) for entry in joined]
+
+
+def said_by_prover(edited):
+    """The entries that the prover printed for the edited source; none if it was not asked, or for other sources."""
+    files = {path.relative_to(TRIED): path.read_text(encoding="utf-8")
+             for part in ("src", "specs", "proofs") for path in (TRIED / part).rglob("*") if path.is_file()}
+    crate = ROOT / "crates/serve"
+    due = {path.relative_to(crate): path.read_text(encoding="utf-8")
+           for part in ("src", "specs", "proofs") for path in (crate / part).rglob("*") if path.is_file()}
+    due.update(edited)
+    log = TRIED / ".log"
+    if files != due or not log.exists():
+        return None
+    text = re.sub(r"\S*/must-fail/serve/ends_at_k_sites/", "crates/serve/", log.read_text(encoding="utf-8"))
+    return entries(text.splitlines())
+
+
+def as_the_prover_says(document, shown, found):
+    """Every entry shown is one that the prover printed, in its order; `..` stands for what is cut."""
+    rest = iter(found)
+    for entry in entries(shown):
+        words = ".*".join(re.escape(part.strip()) for part in entry.split(".."))
+        whole = re.compile(words + ".*" if ": error: " in entry else words)
+        if not any(whole.fullmatch(said) for said in rest):
+            raise Wrong(f"exercise 6 shows what the prover does not say, or not in this order:\n  {entry}")
+    errors = [error.groups() for said in found if (error := re.match(r"\S+: error: `([^`]+)`: (.*)", said))]
+    own = [name for name, why in errors if "was not admitted" not in why]
+    document.says("Answer 6", f"{' and '.join(f'`{name}`' for name in own)} fail because of the edit.")
+    same("the functions that are not proved, exercise 6", [said for said in found if re.match("fn .*: not proved", said)],
+         [entry for entry in entries(shown) if re.match("fn .*: not proved", entry)])
+
+
+def wrong_program(document, gate):
+    """The edit is the one of the repository and fits, each error stands in the answer that it names, and the prover says
+    what is shown."""
     heading = "6. A wrong program, and what the prover says"
     lines = [line[4:] for line in document.lines(heading) if line.startswith("    ")]
-    edit = (ROOT / "crates/serve/must-fail/ends_at_k_sites.edit").read_text(encoding="utf-8").splitlines()
+    edit = EDIT.read_text(encoding="utf-8").splitlines()
     same("the edit of exercise 6", lines[:len(edit)], edit)
-    old = edit[2].removeprefix("old: ")
-    source = (ROOT / "crates/serve" / edit[1].removeprefix("file: ")).read_text(encoding="utf-8")
+    file, old, new = (line.partition(": ")[2] for line in edit[1:4])
+    source = (ROOT / "crates/serve" / file).read_text(encoding="utf-8")
     same("how often the `old` text occurs, exercise 6", 1, source.count(old))
     same("the number of errors shown, exercise 6", 4, errors_stand(lines))
+    shown = lines[[line.startswith("crates/") for line in lines].index(True):]
+    found = said_by_prover({Path(file): source.replace(old, new)})
+    if found is None and gate:
+        raise Wrong(f"{TRIED.relative_to(ROOT)} has not what the prover says to this edit: `rt must-fail serve`")
+    if found is None:
+        print("exercises: what the prover says to the edit of exercise 6 is not there: `rt must-fail serve`")
+    else:
+        as_the_prover_says(document, shown, found)
 
 
 def contributing(path):
@@ -428,6 +484,8 @@ def contributing(path):
 
 
 def main(words):
+    gate = "--gate" in words
+    words = [word for word in words if word != "--gate"]
     if len(words) > 1 or words[:1] in (["-h"], ["--help"]):
         print(__doc__.strip())
         return 0 if words[:1] in (["-h"], ["--help"]) else 2
@@ -437,7 +495,7 @@ def main(words):
         parts = (margins, one_stop, changes, mistakes, check)
         for part in parts:
             part(engine, document)
-        wrong_program(document)
+        wrong_program(document, gate)
         contributing(ROOT / "CONTRIBUTING.md")
     except NoLibrary:
         print(f"exercises: {LIBRARY} cannot be loaded; `make lib` makes it", file=sys.stderr)

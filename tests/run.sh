@@ -29,7 +29,7 @@ tests/tool.py
 tests/page.py
 tests/format.py
 tests/why.py
-tests/exercises.py
+tests/exercises.py --gate
 tests/documents.py
 cargo build --quiet --release --offline --manifest-path tests/independent/Cargo.toml
 tests/independent/target/release/independent target/bin/nearby
