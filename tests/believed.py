@@ -16,7 +16,7 @@ of those definitions. What it comes to has to stand where a reader looks for it:
   believe it. If a statement rests on it, this is a failure: it is named, with what needs it, and the exit status is 1.
 
 Printed are the number of definitions to believe and of their lines, without comments and imports, for each crate and
-in all. With --unbelieved also the definitions of specs/ that no statement rests on: these belong to specs/Inner/.
+in all. README.md has to say the numbers in all. With --unbelieved also the definitions of specs/ that no statement rests on: these belong to specs/Inner/.
 Names of the library (Prim, mathlib, lib, ..) are not followed. A variable that is called like a definition in scope
 counts as that definition: this can only name too much.
 
@@ -134,14 +134,14 @@ def spoken(name):
 
 
 class Tree:
-    """All sources, and docs/PROOF.md. `errors` are names that were not found."""
+    """All sources, docs/PROOF.md and README.md. `errors` are names that were not found."""
 
     def __init__(self, root):
         folders = ["specs/**/*.antt", "proofs/*.antt", "src/**/*.rt"]
         files = sorted(str(file.relative_to(root)) for folder in folders for file in root.glob("crates/*/" + folder))
         self.sources = {file: Source(file, (root / file).read_text()) for file in files}
         self.all = [definition for source in self.sources.values() for definition in source.definitions]
-        self.proof = (root / "docs/PROOF.md").read_text()
+        self.proof, self.readme = (root / "docs/PROOF.md").read_text(), (root / "README.md").read_text()
         self.errors = []
 
     def code(self, crate, steps):
@@ -232,6 +232,10 @@ def main(words):
     inner = [one for one in needed_by if one not in believed]
     failures = [f"not to be believed: {one}, which {needed_by[one]} rests on" for one in inner]
     failures += sorted(set(tree.errors))
+    due = (f"What has to be believed are {len(believed)} definitions, {sum(one.lines for one in believed):,} lines without "
+           f"comments, for {len(calls)} public calls and {len(theorems)} theorems.")
+    if due not in " ".join(tree.readme.split()):
+        failures.append(f"README.md has other counts; the line to write:\n{due}")
     print(f"{len(calls)} public calls and {len(theorems)} theorems rest on")
     for crate in [*sorted({one.source.crate for one in believed}), "all"]:
         here = [one.lines for one in believed if crate in (one.source.crate, "all")]

@@ -10,6 +10,8 @@ of the block, are what it prints, errors too; a last line `status N` says that i
 commands make go to target/class/, which is cleared before each document, so that no document rests on another or on an earlier
 run.
 
+An indented line that starts with a command is a failure, unless NOT_RUN has it, with the reason.
+
 It needs the program and the libraries: `make run` and `make lib`.
 """
 import difflib
@@ -31,19 +33,39 @@ FENCE = re.compile(r"^( *)(`{3,}|~{3,})\s*([^\s`]*)[^`]*$")
 LEFT_OUT = ("MAKEFLAGS", "MFLAGS", "MAKELEVEL", "MAKEOVERRIDES", "NEARBY_LIB", "LD_LIBRARY_PATH", "PKG_CONFIG_PATH")
 
 
+# Commands that stand indented in a document, up to a comment, and are not run from there.
+NOT_RUN = {
+    "make install PREFIX=/usr/local": "with other folders, by README itself and by tests/install.sh",
+    "make uninstall PREFIX=/usr/local": "with other folders, by README itself and by tests/install.sh",
+    "make test": "it is the whole of the tests",
+    "make bench": "it takes some minutes, and writes docs/BENCHMARK.md",
+    "rt dev serve": "what it prints is compared by tests/exercises.py with what `rt ci` left",
+    "rt dev NAME": "NAME stands for a crate",
+    "rt dev NAME --allow-holes": "NAME stands for a crate",
+    "rt check NAME": "NAME stands for a crate; `make run` does it for nearby",
+    "rt must-fail NAME": "NAME stands for a crate; `rt ci` does it for all",
+    "rt fmt": "it changes files; `rt fmt --check` is a part of tests/run.sh",
+    "docs/figures/draw.py": "it changes files; tests/run.sh does it with --check",
+    "tests/why.py --write": "it changes files; tests/run.sh does it without --write",
+}
+INDENTED = re.compile(r"^ {4,}((?:rt|make|gcc|cc|git|python3?|cargo|apt-get) .*|(?:tools|tests|docs|target|examples|\.ci)/\S+( .*)?)$")
+
+
 class Command:
     def __init__(self, line, text):
         self.line, self.text, self.shown = line, text, []
 
 
 def fenced_blocks(text):
-    """The fenced blocks: number of the first line, tag, and lines; the tag is None where the fence is not closed."""
+    """The fenced blocks: number of the first line, tag, and lines; the tag is None where the fence is not closed. A line outside
+    of them comes alone, with the tag `outside`."""
     lines = text.split("\n")
     at = 0
     while at < len(lines):
         start = FENCE.match(lines[at])
         at += 1
         if not start:
+            yield at, "outside", [lines[at - 1]]
             continue
         indent, fence, tag = len(start[1]), start[2], start[3]
         end = re.compile(rf"^ *{re.escape(fence[0])}{{{len(fence)},}} *$")
@@ -97,8 +119,8 @@ def printed(command):
     return lines + ([f"status {run.returncode}"] if run.returncode else [])
 
 
-def run_document(path):
-    """Runs the commands of a document. Gives their number and that of the faults."""
+def run_document(path, left_out):
+    """Runs the commands of a document. Gives their number and that of the faults, and adds to the commands that are left out."""
     name = path.relative_to(ROOT) if path.is_relative_to(ROOT) else path
     shutil.rmtree(MADE, ignore_errors=True)
     MADE.mkdir(parents=True)
@@ -110,7 +132,13 @@ def run_document(path):
         print(f"{name}:{line}: {what}")
 
     for first, tag, lines in fenced_blocks(path.read_text(encoding="utf-8")):
-        if tag is None:
+        if tag == "outside":
+            indented = INDENTED.match(lines[0])
+            if indented and (shown := indented[1].partition(" #")[0].strip()) not in NOT_RUN:
+                fault(first, f"a command that no test runs: put `{shown}` into a console block, or into NOT_RUN of this test")
+            elif indented:
+                left_out.add(shown)
+        elif tag is None:
             fault(first - 1, "a fenced block that is not closed")
         elif tag == "console":
             commands = commands_of(first, lines)
@@ -136,15 +164,20 @@ def main(names):
         sys.exit(f"documents: there is no {', '.join(missing)}: `make run` and `make lib` make them")
     paths = [pathlib.Path(name).resolve() for name in names]
     paths = paths or sorted(ROOT.glob("*.md")) + sorted(ROOT.glob("docs/**/*.md"))
-    documents, commands, faults = 0, 0, 0
+    documents, commands, faults, left_out = 0, 0, 0, set()
     for path in paths:
         if not path.is_file():
             sys.exit(f"documents: there is no {path}")
-        count, wrong = run_document(path)
+        count, wrong = run_document(path, left_out)
         documents, commands, faults = documents + (count > 0), commands + count, faults + wrong
+    for gone in sorted(set(NOT_RUN) - left_out) if not names else ():
+        faults += 1
+        print(f"tests/documents.py: NOT_RUN has `{gone}`, which no document shows")
     if faults:
         sys.exit(f"documents: {faults} faults, {commands} commands of {documents} documents run")
-    print(f"documents: {commands} commands of {documents} documents run")
+    print(f"documents: {commands} commands of {documents} documents run; {len(left_out)} are not run from there:")
+    for command in sorted(left_out):
+        print(f"    {command}: {NOT_RUN[command]}")
 
 
 main(sys.argv[1:])
