@@ -1,11 +1,14 @@
 #!/usr/bin/env python3
 """The page of `tools/town draw` in a real browser, headless Chromium: it loads without an error and without a network, answers
-clicks and keys, and every number that it shows is the engine's, asked again here.
+clicks and keys, and every number that it shows is the engine's, asked again here. The map is where the numbers say: boxes, sites,
+stops, O and circles. The three points of a margin are those of docs/WHY.md, and the marks can be told apart in grey, here as in the
+figure of the town.
 
 Installs Debian's packages where they are missing. Pictures of the page are left in target/tool/.
 """
 import os
 import random
+import re
 import shutil
 import subprocess
 import sys
@@ -66,6 +69,7 @@ class Page:
                        stdout=subprocess.DEVNULL)
         driver.get(self.path.as_uri())
         same(self.script("return performance.getEntriesByType('resource').length"), 0, f"{name}: nothing is loaded from elsewhere")
+        self.on_the_map()
         self.quiet()
 
     def script(self, text, *given):
@@ -99,7 +103,42 @@ class Page:
         while int(slider.get_attribute("value")) != k:
             slider.send_keys(Keys.ARROW_RIGHT if int(slider.get_attribute("value")) < k else Keys.ARROW_LEFT)
 
+    def points_of(self, choice):
+        """The points of a path of dots."""
+        path = self.at(choice).get_attribute("d")
+        points = [(int(x), -int(y)) for x, y in re.findall(r"M(-?\d+) (-?\d+)h0", path)]
+        same("".join(f"M{x} {-y}h0" for x, y in points), path, f"{self.name}: {choice} has dots only")
+        return points
+
+    def box_of(self, path):
+        """The box that an outline goes around."""
+        number = r"(-?[\d.]+(?:e-?\d+)?)"
+        x0, y0, x1, y1, back = map(float, re.fullmatch(f"M{number} {number}H{number}V{number}H{number}Z", path).groups())
+        same(back, x0, f"{self.name}: an outline is closed")
+        return x0, -y0, x1, -y1
+
     # ---- what is due ----
+    def on_the_map(self):
+        """Boxes, sites, stops and O are drawn where they are; a box without width or height is a bar around it."""
+        outlines = dict(self.script("return [...document.querySelectorAll('[data-tile]')].map((p) => [+p.dataset.tile, p.getAttribute('d')])"))
+        same(sorted(outlines), list(range(len(self.tiles))), f"{self.name}: a box for each tile")
+        for t, tile in enumerate(self.tiles):
+            drawn_box = self.box_of(outlines[t])
+            for axis in (0, 1):
+                low, high, due = drawn_box[axis], drawn_box[axis + 2], tile.box[axis::2]
+                if due[0] < due[1]:
+                    same((low, high), due, f"{self.name}: the outline of tile {t}")
+                else:
+                    same(low < due[0] < high and abs(low + high - 2 * due[0]) < 1e-6 * (high - low), True, f"{self.name}: the bar of tile {t}")
+        same(self.points_of("#layer-sites .sites") if any(tile.sites for tile in self.tiles) else [],
+             [site[:2] for tile in self.tiles for site in tile.sites], f"{self.name}: the sites on the map")
+        same(self.box_of(self.at("#layer-o .o").get_attribute("d")), self.o, f"{self.name}: O on the map")
+        spots = self.script("return [...document.querySelectorAll('[data-stop]')].map((g) => [+g.dataset.stop, g.getAttribute('transform')])")
+        for i, where in spots:
+            x, y = re.match(r"translate\((-?\d+) (-?\d+)\)", where).groups()
+            same((int(x), -int(y)), self.stops[i], f"{self.name}: stop {i} on the map")
+        same(len(spots), len(self.stops), f"{self.name}: the stops on the map")
+
     def run_numbers(self, k):
         """The counts and the boxes' marks."""
         joined = self.engine.join(self.content, self.stops, k)
@@ -126,13 +165,13 @@ class Page:
         waits = sorted((self.engine.near(stop, tile.box), t) for t, tile in enumerate(self.tiles)
                        if tile.sites and joined.marks[t] != 1)
         queue = self.rows("queue")
-        same([row[1:4] for row in queue], [[str(t), str(near), str(len(self.tiles[t].sites))] for near, t in waits][:len(queue)],
+        same([row[1:4] for row in queue], [[str(near), str(t), str(len(self.tiles[t].sites))] for near, t in waits][:len(queue)],
              f"{what}: the queue")
         turns = [row[0] for row in queue]
         same(turns, [str(j + 1) for j in range(alone.opened)] + [""] * (len(queue) - alone.opened), f"{what}: the turns")
         earlier = self.engine.join(self.content, self.stops[:i], k).marks if i else bytes(len(self.tiles))
         for row in queue[:alone.opened]:
-            same(row[4] == "opened", earlier[int(row[1])] != 2, f"{what}: whether tile {row[1]} is opened here")
+            same(row[4] == "opened", earlier[int(row[2])] != 2, f"{what}: whether tile {row[2]} is opened here")
         ended = self.text("ended")
         if len(waits) > alone.opened:
             near, t = waits[alone.opened]
@@ -141,9 +180,18 @@ class Page:
             same(f"D {joined.lists[i][-1][0]} is" in ended, True, f"{what}: the last place: {ended}")
         else:
             same(ended.startswith("It ended because no tile waits"), True, f"{what}: why it ended: {ended}")
+        rings = []
         if places:
-            radius = float(self.at("#layer-rings .ring").get_attribute("r"))
-            same(round(radius ** 2), joined.lists[i][-1][0], f"{what}: the circle of the last place")
+            rings.append(["ring", joined.lists[i][-1][0]])
+        if len(waits) > alone.opened:
+            rings.append(["next", waits[alone.opened][0]])
+        drawn_rings = self.script("return [...document.querySelectorAll('#layer-rings circle')].map((c) => [c.getAttribute('class'),"
+                                  " ...['r', 'cx', 'cy'].map((name) => +c.getAttribute(name))])")
+        same([[kind, round(radius ** 2)] for kind, radius, _, _ in drawn_rings], rings, f"{what}: the circles")
+        for kind, _, x, y in drawn_rings:
+            same((x, -y), stop, f"{what}: the middle of the circle {kind}")
+        chosen = self.points_of("#layer-chosen .chosen")
+        same(chosen, [self.tiles[site // 40].sites[site % 40][:2] for _, site, _ in joined.lists[i]], f"{what}: the sites in the list")
         for m in range(1, alone.opened + 1) if all_turns else ():
             self.script("document.querySelector(`#queue [data-step='${arguments[0]}']`).click()", m)
             opened = {t for _, t in waits[:m]}
@@ -160,6 +208,10 @@ class Page:
         same(self.engine.margin(*(point + point for point in points)), margin, f"{what}: the margin of the three points")
         for point, box in zip(points, (self.o, self.tiles[e].box, self.tiles[b].box)):
             same(box[0] <= point[0] <= box[2] and box[1] <= point[1] <= box[3], True, f"{what}: the points are in their boxes")
+        links = [self.at(f"#layer-pair .link.{name}").get_attribute("d") for name in "eb"]
+        o, *others = points
+        same(links, [f"M{o[0]} {-o[1]}L{x} {-y}" for x, y in others], f"{what}: the lines on the map")
+        same(self.points_of("#layer-pair .chosen"), points, f"{what}: the points on the map")
         said = self.text("margin")
         far, near = self.engine.far(points[0], self.tiles[e].box), self.engine.near(points[0], self.tiles[b].box)
         same(f"D(o,e) is {far}, D(o,b) is {near}." in said, True, f"{what}: the two distances: {said}")
@@ -229,7 +281,7 @@ def sample(driver, engine):
     page.click("#stop-on")
     page.stop_numbers(2, 3, False)
     page.click("#step-back")
-    same(page.text("step-title").startswith("turn "), True, "one opening back")
+    same(page.text("step-title").startswith("turn "), True, "one turn back")
     page.choose("stop", 3)
     page.stop_numbers(3, 3, True)
     # E and B, on the map and by their numbers.
@@ -259,6 +311,60 @@ def sample(driver, engine):
     phone(page)
 
 
+def crossing(driver, engine):
+    """The town of docs/WHY.md: the points of its table, with the low end where both ends are as good."""
+    page = Page(driver, engine, "crossing", (ROOT / "samples/crossing.town").read_bytes(), [(0, 0), (6, 2)], 2)
+    table = re.search(r"<!-- table: margins of some pairs -->\n\n((?:\|.*\n)*)", (ROOT / "docs/WHY.md").read_text())[1]
+    rows = [[cell.strip() for cell in row.strip("|").split("|")] for row in table.splitlines()[2:]]
+    same({"4, 5", "6, 2"} <= {row[0] for row in rows}, True, "the table of docs/WHY.md has the pairs with equal ends")
+    page.click("#tab-pair")
+    for pair, _, _, *points, difference, margin, nearer in rows:
+        e, b = map(int, pair.split(", "))
+        page.choose("e", e)
+        page.choose("b", b)
+        page.pair_numbers(e, b)
+        same([f"({row[1]},{row[2]})" for row in page.rows("points")], points, f"crossing: the points of {pair}")
+        same(page.text("margin-value"), margin, f"crossing: the margin of {pair}")
+        far, near = difference.split(" - ")
+        same(f"D(o,e) is {far}, D(o,b) is {near}." in page.text("margin"), True, f"crossing: the distances of {pair}")
+        same("not nearer" in page.text("margin"), nearer == "no", f"crossing: whether {pair} is nearer")
+    page.run_numbers(2)
+    in_grey(page)
+    driver.save_screenshot(str(WORK / "page-crossing.png"))
+    page.quiet()
+
+
+def light(colour):
+    """How light a colour is, from 0 to 1: what is left of it in grey."""
+    parts = [int(part) / 255 for part in re.findall(r"\d+", colour)[:3]]
+    linear = [part / 12.92 if part <= 0.04045 else ((part + 0.055) / 1.055) ** 2.4 for part in parts]
+    return 0.2126 * linear[0] + 0.7152 * linear[1] + 0.0722 * linear[2]
+
+
+def contrast(one, other):
+    lights = sorted((light(one), light(other)))
+    return (lights[1] + 0.05) / (lights[0] + 0.05)
+
+
+def in_grey(page):
+    """Opened is clearly darker than neither, struck is hatched; the same in docs/figures/crossing.svg. What stands on an opened
+    tile can be seen."""
+    look = "const s = getComputedStyle(document.querySelector(arguments[0])); return s[arguments[1]]"
+    opened, struck, neither = (page.script(look, f".legend .tile.{kind}", "fill") for kind in ("opened", "struck", "neither"))
+    same(contrast(opened, neither) >= 2, True, f"opened is darker than neither: {opened}, {neither}")
+    same([page.script(look, f"[data-tile].{kind}", "fill") for kind in ("opened", "neither:not(.empty)")], [opened, neither], "the legend")
+    same("url(" in struck and "url(" in page.script(look, "[data-tile].struck", "fill"), True, "struck is hatched")
+    for choice, name in ((".sites", "stroke"), (".chosen", "stroke"), (".ring", "stroke"), (".taken", "stroke"), (".o", "stroke")):
+        colour = page.script(look, choice, name)
+        same(contrast(opened, colour) >= 3, True, f"{choice} on an opened tile: {contrast(opened, colour):.2f}")
+    figure = (ROOT / "docs/figures/crossing.svg").read_text()
+    legend = re.findall(r'<rect [^>]*width="16" height="16" [^>]*fill="([^"]+)"/>', figure)
+    page.driver.execute_script("document.body.append(Object.assign(document.createElement('i'), {id: 'probe'}))")
+    as_shown = [page.script("const p = document.getElementById('probe'); p.style.color = arguments[0]; return getComputedStyle(p).color", fill)
+                for fill in (legend[0], legend[2])]
+    same((as_shown, legend[1]), ([opened, neither], "url(#hatch)"), "the figure of the town has the same code")
+
+
 def reach(page):
     """Every button, slider and choice has a name, and the tab key comes to the slider, the stops and the tabs."""
     unnamed = page.script("return [...document.querySelectorAll('button, select, input, [role=button], [role=tab]')]"
@@ -280,6 +386,10 @@ def phone(page):
                            {"width": 380, "height": 800, "deviceScaleFactor": 2, "mobile": True})
     driver.get(page.path.as_uri())
     same(page.script("return document.documentElement.scrollWidth"), 380, "the width on a phone")
+    same(page.at("#k-help").is_displayed(), False, "the line about k, O and D on a phone")
+    words = page.script("return document.querySelector('details').textContent.replace(/\\s+/g, ' ')")
+    for sentence in page.script("return document.getElementById('k-help').textContent.replace(/\\s+/g, ' ').trim()").split(". "):
+        same(sentence.rstrip(".") in words, True, f"the words say it instead: {sentence}")
     low = page.script("return [...document.querySelectorAll('button, select, input')]"
                       ".filter((e) => e.offsetParent && e.offsetHeight < 32).map((e) => e.id || e.textContent)")
     same(low, [], "targets that are too small for a finger")
@@ -398,6 +508,7 @@ def main():
     engine, driver = Engine(), browser()
     try:
         sample(driver, engine)
+        crossing(driver, engine)
         rng = random.Random(9)
         for number in range(6):
             drawn(driver, engine, rng, number)

@@ -435,6 +435,24 @@ def list_after(data, i, m, k):
     return [(held[at + 1], held[at]) for at in range(0, len(held), 2) if held[at] // 40 in opened][:k]
 
 
+def three_points(data, tiles, e, b):
+    """The points o, e, b of a margin as the page decodes them, by axis."""
+    letters = data["points"][e][6 * b:6 * b + 6]
+    for axis, (of_o, of_e, of_b) in enumerate((letters[:3], letters[3:])):
+        ends = [{"l": box[axis], "h": box[axis + 2]} for box in (data["o"], tiles[e].box, tiles[b].box)]
+        at = ends[0][of_o]
+        yield at, ends[1][of_e], at if of_b == "o" else ends[2][of_b]
+
+
+def points_due(o, e, b, axis):
+    """The points on one axis by the rule: the first of the ends in their order that has the most."""
+    def of(at):
+        farthest = max((e[axis], e[axis + 2]), key=lambda end: (at - end) ** 2)
+        closest = sorted((b[axis], at, b[axis + 2]))[1]
+        return at, farthest, closest
+    return max((of(o[axis]), of(o[axis + 2])), key=lambda p: (p[0] - p[1]) ** 2 - (p[0] - p[2]) ** 2)
+
+
 def pages(engine, rng):
     """The numbers of a page, beside a full search, the join made once more, and the margin by corners."""
     for _ in range(60):
@@ -468,6 +486,8 @@ def pages(engine, rng):
         for e in range(len(tiles)):
             for b in range(len(tiles)):
                 same(data["margins"][e][b], margin(o, tiles[e].box, tiles[b].box), "the margin of a page")
+                same(list(three_points(data, tiles, e, b)), [points_due(o, tiles[e].box, tiles[b].box, axis) for axis in (0, 1)],
+                     "the three points of a margin")
         for b, tile in enumerate(tiles):
             nearer = sum(len(e.sites) for e in tiles if margin(o, e.box, tile.box) < 0)
             same(data["nearer"][b], min(64, nearer), "the sites of nearer tiles")
@@ -489,7 +509,7 @@ def large_pages(engine, rng):
     made, _ = page.html(engine, "sparse", engine.write(sparse), sparse, stops, 2)
     holds("The slider ends at k = " in made, "the page says where the slider ends")
     made, _ = page.html(engine, "sparse", engine.write(sparse), sparse, stops, 64)
-    holds("The list after each opening is here for stops 0 to " in made, "the page says for which stops it has the steps")
+    holds("The list after each turn is here for stops 0 to " in made, "the page says for which stops it has the steps")
 
 
 def main():

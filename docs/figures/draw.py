@@ -8,6 +8,7 @@ Every number in a figure comes from a call of the proved library (`make lib`): m
 the library's writer made.
 """
 import pathlib
+import re
 import sys
 
 HERE = pathlib.Path(__file__).resolve().parent
@@ -25,10 +26,15 @@ engine = Engine(SHARED)
 WIDTH = 640
 
 # Colours that can be told apart in grey, too.
-INK, SOFT, O_COLOUR, E_COLOUR, B_COLOUR = "#1b1b1b", "#777777", "#4477aa", "#228833", "#cc6677"
-# A tile by its mark: opened, struck, neither.
+INK, SOFT, O_COLOUR, E_COLOUR, B_COLOUR = "#1b1b1b", "#777777", "#1f4e79", "#1b6e2a", "#cc6677"
+# A tile by its mark, as on the page of `tools/town draw`: opened dark, struck hatched, neither white.
 WORD = {2: "opened", 1: "struck", 0: "neither"}
-FILL = {2: "#ffffff", 1: "#bbbbbb", 0: "#eeeeee"}
+OPENED = re.search(r"--open: (#\w+);", (ROOT / "tools/towns/page.css").read_text())[1]
+FILL = {2: OPENED, 1: "url(#hatch)", 0: "#ffffff"}
+HATCH = (
+    '<pattern id="hatch" patternUnits="userSpaceOnUse" width="7" height="7"><rect width="7" height="7" fill="#eceeef"/>'
+    '<path d="M-1 8L8 -1M-1 1L1 -1M6 8L8 6" stroke="#7d878d" stroke-width="1.2"/></pattern>'
+)
 
 
 def margin(o, e, b):
@@ -39,9 +45,11 @@ def margin(o, e, b):
 # ---- drawing
 
 
-def text(x, y, words, colour=INK, size=14, anchor="middle"):
+def text(x, y, words, colour=INK, size=14, anchor="middle", over=False):
+    """Words; with a white edge where they stand over a line."""
     words = words.replace("&", "&amp;").replace("<", "&lt;")
-    return f'<text x="{x:g}" y="{y:g}" fill="{colour}" font-size="{size}" text-anchor="{anchor}">{words}</text>'
+    edge = ' stroke="#ffffff" stroke-width="3" paint-order="stroke"' if over else ""
+    return f'<text x="{x:g}" y="{y:g}" fill="{colour}" font-size="{size}" text-anchor="{anchor}"{edge}>{words}</text>'
 
 
 def line(x1, y1, x2, y2, colour=INK, width=1, dashes=""):
@@ -67,8 +75,9 @@ def square(x, y, colour):
     return f'<rect x="{x - 5:g}" y="{y - 5:g}" width="10" height="10" fill="{colour}"/>'
 
 
-def ring(x, y, radius, colour):
-    return f'<circle cx="{x:g}" cy="{y:g}" r="{radius:g}" stroke="{colour}" stroke-dasharray="5 4" fill="none"/>'
+def ring(x, y, radius, dashes):
+    dashed = f' stroke-dasharray="{dashes}"' if dashes else ""
+    return f'<circle cx="{x:g}" cy="{y:g}" r="{radius:g}" stroke="{INK}" stroke-width="1.5"{dashed} fill="none"/>'
 
 
 def svg(height, parts):
@@ -165,25 +174,29 @@ def stop_at_k():
     assert len(early) == len(final) == k and early != final and marks[:4] == bytes([2, 2, 2, 0])
     scale = 27
     at = lambda x, y: (330 + scale * x, 150 - scale * y)
-    circles = ((early, SOFT), (final, E_COLOUR))
-    parts = [ring(*at(*stop), scale * places[-1][0] ** 0.5, colour) for places, colour in circles]
+    parts = []
     for number in (0, 1, 3):
         (x0, y0, x1, y1), sites = tiles[number]
         left, top = at(x0, y1)
         colour = INK if marks[number] == 2 else SOFT
-        parts.append(rectangle(left, top, scale * (x1 - x0), scale * (y1 - y0), colour, "none"))
+        parts.append(rectangle(left, top, scale * (x1 - x0), scale * (y1 - y0), colour, FILL[marks[number]]))
+    for places, dashes in ((early, "6 4"), (final, "")):
+        parts.append(ring(*at(*stop), scale * places[-1][0] ** 0.5, dashes))
+    for number in (0, 1, 3):
+        (x0, y0, x1, y1), sites = tiles[number]
+        left, top = at(x0, y1)
         label = f"tile {number}: near {engine.near(stop, (x0, y0, x1, y1))}"
         spot = (left - 5, top + 12, "end") if number == 0 else (left, top + scale * (y1 - y0) + 15, "start")
-        parts.append(text(*spot[:2], label, INK, 12, spot[2]))
+        parts.append(text(*spot[:2], label, INK, 12, spot[2], True))
         for x, y, cue in sites:
             parts.append(site(*at(x, y), cue in [place[2] for place in final]))
-            parts.append(text(at(x, y)[0] + 7, at(x, y)[1] - 5, f"{x * x + y * y}", INK, 12, "start"))
+            parts.append(text(at(x, y)[0] + 7, at(x, y)[1] - 5, f"{x * x + y * y}", INK, 12, "start", True))
     parts.append(square(*at(*stop), O_COLOUR))
-    parts.append(text(at(*stop)[0] + 8, at(*stop)[1] + 18, "stop 0", O_COLOUR, 12))
+    parts.append(text(at(*stop)[0] - 9, at(*stop)[1] + 5, "stop 0", O_COLOUR, 12, "end", True))
     near_1, near_3 = [engine.near(stop, tiles[number][0]) for number in (1, 3)]
     said = [
-        f"k = 2. After tile 0 the second place is at {early[-1][0]} (grey circle), but near of tile 1 is {near_1}.",
-        f"After tile 1 it is at {final[-1][0]} (green circle), and near of tile 3 is {near_3}: the stop ends.",
+        f"k = 2. After tile 0 the second place is at {early[-1][0]} (dashed circle), but near of tile 1 is {near_1}.",
+        f"After tile 1 it is at {final[-1][0]} (full circle), and near of tile 3 is {near_3}: the stop ends.",
     ]
     return svg(345, parts + [text(WIDTH / 2, 311 + 20 * row, words, INK, 13) for row, words in enumerate(said)])
 
@@ -197,7 +210,7 @@ def crossing():
     box_of = lambda box, colour, fill: rectangle(
         *at(box[0], box[3]), scale * (box[2] - box[0]), scale * (box[3] - box[1]), colour, fill
     )
-    parts = []
+    parts = [HATCH]
     for number, (box, sites) in enumerate(tiles):
         parts.append(box_of(box, INK if marks[number] == 2 else SOFT, FILL[marks[number]]))
         left, top = at(box[0], box[3])
@@ -205,16 +218,18 @@ def crossing():
         for slot, (x, y, _) in enumerate(sites):
             parts.append(site(*at(x, y), 40 * number + slot in listed))
         if not sites:
-            parts.append(text(*at((box[0] + box[2]) / 2, box[1] + 0.3), "empty", INK, 11))
+            parts.append(text(*at((box[0] + box[2]) / 2, box[1] + 0.3), "empty", INK, 11, over=True))
     left, top = at(o[0], o[3])
     parts.append(
         f'<rect x="{left:g}" y="{top:g}" width="{scale * (o[2] - o[0])}" height="{scale * (o[3] - o[1])}"'
         f' stroke="{O_COLOUR}" stroke-width="2" stroke-dasharray="5 4" fill="none"/>'
     )
-    parts.append(text(left + 28, top + scale * 2 - 5, "O", O_COLOUR, 14))
+    parts.append(text(left + 76, top + scale * 2 - 6, "O", O_COLOUR, 14))
     for number, stop in enumerate(stops):
         parts.append(square(*at(*stop), O_COLOUR))
-        parts.append(text(at(*stop)[0], at(*stop)[1] + (18 if number == 0 else -9), f"stop {number}", O_COLOUR, 12))
+        beside, anchor = ((-9, 5), "end") if number == 0 else ((0, 18), "middle")
+        spot = [n + shift for n, shift in zip(at(*stop), beside)]
+        parts.append(text(*spot, f"stop {number}", O_COLOUR, 12, anchor, True))
     # an axis below, and what the kinds of boxes and sites mean
     for x in range(-20, 12, 4):
         parts.append(text(at(x, 0)[0], 236, f"{x}", SOFT, 11))

@@ -55,9 +55,10 @@ neither opened nor struck. K is 1 to 64; there are 1 to 256 stops. An opened til
 town draw FILE K X,Y .. PAGE
 
 Writes a page of HTML for a town and its stops, which opens in any browser and needs no network. It shows the boxes by mark
-(opened, struck, neither), the sites, the stops and O; for a stop its queue by key, the list after each opening, and why it
-ended; a slider for k, which begins at K; and for two tiles E and B the margin and its three points. All numbers are those of
-the engine, asked when the page is written. The file must pass the full check.
+(opened, struck, neither), the sites, the stops and O; for a stop its queue by key, the list after each turn, and why it
+ended; a slider for k, which begins at K; and for two tiles E and B the margin and its three points. The numbers are those of
+the engine, asked when the page is written; of O and the three points, docs/TOOL.md says more. The file must pass the full
+check.
 """,
 }
 

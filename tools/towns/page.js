@@ -1,6 +1,7 @@
 "use strict";
-// Shows the data below it; every number was given by the engine when the page was written. Nothing here computes one: lists are
-// cut, rows are counted and compared, that is all. Squares are rooted to draw circles.
+// Shows the data below it. The numbers were given by the engine when the page was written; O and the three points of a margin
+// are the tool's own, and the engine confirmed the margin of the points. Nothing here computes a number: lists are cut, rows are
+// counted and compared, that is all. Squares are rooted to draw circles.
 (function () {
   const data = JSON.parse(document.getElementById("data").textContent);
   const WORDS = ["neither", "struck", "opened"], SITES = 40;
@@ -41,7 +42,7 @@
     return rows;
   };
   const taken = (i, k) => data.walks[i][k - 1];
-  // The list of stop i after m openings: of all places that are ever in its lists, in their order, the first k of opened tiles.
+  // The list of stop i after m turns: of all places that are ever in its lists, in their order, the first k of opened tiles.
   function listOf(i, m) {
     const opened = new Set(queueOf(i).slice(0, m).map((row) => row.tile)), held = data.places[i], list = [];
     for (let at = 0; at < held.length && list.length < state.k; at += 2) {
@@ -145,14 +146,25 @@
     focusLayers();
   }
 
+  // The turn, written to a taken tile: below a bar, or into a corner of a box. The tile's number is in the fourth corner. Where a
+  // stop lies over each corner, or the box is too small, nothing is written.
+  function turnLabel(b, isFlat, text) {
+    if (isFlat) return [label([b[0], b[1]], text, "order", 11, [3, 14])];
+    const wide = 6.5 * text.length, room = (b[2] - b[0]) / unit - wide;
+    const corners = [[[b[0], b[1]], [5, -5], 8], [[b[2], b[3]], [-5 - wide, 13], 30], [[b[2], b[1]], [-5 - wide, -5], 8]];
+    const free = corners.find(([at, shift, need]) => room >= need && data.stops.every(([x, y]) => {
+      const across = (x - at[0]) / unit - shift[0], down = (at[1] - y) / unit - shift[1];
+      return across < -11 || across > wide + 11 || down < -21 || down > 11;
+    }));
+    return free ? [label(free[0], text, "order", 11, free[1])] : [];
+  }
   function focusLayers() {
     for (const name of ["taken", "rings", "chosen", "pair", "orders"]) layer[name].replaceChildren();
     const i = state.stop, at = data.stops[i], queue = queueOf(i), m = steps(), list = listOf(i, m);
     queue.slice(0, m).forEach((row, turn) => {
       const b = drawnBox(row.tile), w = (b[2] - b[0]) / unit, h = (b[3] - b[1]) / unit;
       layer.taken.append(draw("path", {class: "taken", d: outline(b)}));
-      const at = flat(row.tile) ? [3, 14] : [5, -5]; // below a bar, inside a box
-      if (w > 40 && (h > 30 || flat(row.tile))) layer.orders.append(label([b[0], b[1]], `turn ${turn + 1}`, "order", 11, at));
+      if (w > 40 && (h > 30 || flat(row.tile))) layer.orders.append(...turnLabel(b, flat(row.tile), `turn ${turn + 1}`));
     });
     layer.chosen.append(draw("path", {class: "chosen", d: dots(list.map((place) => [place.x, place.y]))}));
     if (list.length <= 12) list.forEach((place, j) => layer.chosen.append(label([place.x, place.y], j, "letter", 11, [6, -5])));
@@ -223,7 +235,7 @@
         if (at + 1 === m) turn.setAttribute("aria-pressed", "true");
       }
       rows.push({kind: waits ? (rows.length === end ? "later end" : "later") : at + 1 === m ? "now" : "",
-        cells: [turn, row.tile, row.near, count(row.tile), what]});
+        cells: [turn, row.near, row.tile, count(row.tile), what]});
     });
     fill($("queue"), rows);
     const struck = data.counts[k - 1][2], empty = tiles.filter((_, t) => count(t) === 0 && mark(t) !== 1).length;

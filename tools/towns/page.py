@@ -1,13 +1,16 @@
-"""The page of a town and its stops: everything that it shows is asked of the engine here, when it is written.
+"""The page of a town and its stops: what it shows is asked of the engine here, when it is written.
 
 What the page holds, and the calls that it comes from:
 - marks and counts of the run for each k: nearby_join of all the stops;
 - for each stop its queue: the tiles that are not empty, by key; near by nearby_margin;
 - for each stop and k how many tiles it takes: the tiles opened by nearby_join of this stop alone. They are the first of its
   queue: no list and no opening depends on other stops or on striking (theorem pruning-opens-alike of the crate `search`);
-- for each stop the list after each opening: nearby_join of a town that has only the tiles opened so far, all others emptied;
+- for each stop the list after each turn: nearby_join of a town that has only the tiles taken so far, all others emptied;
 - for pairs of tiles the margin, and of tiles near and far from the corners of O, by nearby_margin; the sites of the tiles nearer
   than a tile by nearby_prune.
+
+No call gives O, or the three points of a margin: these are found here, by their rules. nearby_margin of the points alone has to be
+the margin of the boxes.
 
 Where two calls must agree, they are compared, and a page is not written if they do not.
 """
@@ -18,7 +21,7 @@ from .ask import OPENED, STRUCK
 from .engine import MAX_K, MAX_SITES
 from .town import around
 
-STEPS = 2000  # lists after an opening, in a page
+STEPS = 2000  # lists after a turn, in a page
 PAIRS = 30_000  # margins, in a page
 
 
@@ -75,7 +78,7 @@ class Run:
                 break
             self.stepped += 1
         if self.stepped < len(self.stops):
-            self.notes.append(f"The list after each opening is here for stops 0 to {self.stepped - 1} only: with those of all "
+            self.notes.append(f"The list after each turn is here for stops 0 to {self.stepped - 1} only: with those of all "
                               f"stops this page would be too large.")
 
     def _openings_agree(self):
@@ -95,7 +98,7 @@ class Run:
         return queue[:last + 5]
 
     def places(self, i):
-        """Every place that is ever in the list of stop i, by rank, as (D, site): the list for k after m openings has the first
+        """Every place that is ever in the list of stop i, by rank, as (D, site): the list for k after m turns has the first
         k of them whose tile is among the first m of the queue."""
         order = [t for _, t in self.queues[i]]
         last = self.walks[i][-1]
@@ -110,7 +113,7 @@ class Run:
         step = {t: m for m, t in enumerate(order, 1)}
         for m, held in lists.items():
             so_far = [place for place in ever if step[place[1] // MAX_SITES] <= m]
-            _agree(so_far[:self.kmax], held, f"the list of stop {i} after opening {m}")
+            _agree(so_far[:self.kmax], held, f"the list of stop {i} after turn {m}")
         for k, joined in enumerate(self.joined, 1):
             so_far = [place for place in ever if step[place[1] // MAX_SITES] <= self.walks[i][k - 1]]
             _agree(so_far[:k], [place[:2] for place in joined.lists[i]], f"the list of stop {i}, k {k}")
