@@ -330,8 +330,8 @@ def sentences():
         f"the sites (2,1) of tile 1 and (10,3) of tile 2 are both at {both_at((6, 2), (2, 1), (10, 3))}",
         f"The least D that the site of tile 3 can have from stop 0 is {near_of((0, 0), 3)}, at (-3,-2), and there it ranks"
         f" behind {place(LISTS[0][1])}. From stop 1 its least D is {near_of((6, 2), 3)}.",
-        f"For the site of tile 4 the least D from the two stops are {near_of((0, 0), 4)} and {near_of((6, 2), 4)}, for that"
-        f" of tile 5 they are {near_of((0, 0), 5)} and {near_of((6, 2), 5)}.",
+        f"For the site of tile 4 it is {near_of((0, 0), 4)} from stop 0 and {near_of((6, 2), 4)} from stop 1, for that"
+        f" of tile 5 it is {near_of((0, 0), 5)} and {near_of((6, 2), 5)}.",
     ]  # fmt: skip
 
 
