@@ -95,7 +95,8 @@
   layer.o.append(draw("path", {class: "o", d: outline(data.o)}));
   const every = [];
   data.sites.forEach((held) => { for (let at = 0; at < held.length; at += 3) every.push([held[at], held[at + 1]]); });
-  layer.sites.append(draw("path", {class: "sites", d: dots(every)}));
+  const rim = draw("path", {class: "rim", d: dots(every)}), allSites = draw("path", {class: "sites", d: dots(every)});
+  layer.sites.append(rim, allSites);
   const stops = data.stops.map(([x, y], i) => {
     const group = draw("g", {class: "stop", role: "button", tabindex: -1, "data-stop": i,
       "aria-label": `Stop ${i} at (${x}, ${y})`});
@@ -136,8 +137,9 @@
       `translate(${data.stops[i][0]} ${-data.stops[i][1]}) scale(${unit * (N > 60 ? 0.7 : 1)})`));
     layer.numbers.replaceChildren();
     const small = every.length * 100 > width * width * view.h / view.w; // many sites: smaller dots
-    layer.sites.firstChild.style.strokeWidth = small ? "2px" : "4px";
-    layer.sites.firstChild.style.strokeOpacity = small ? 0.6 : 1;
+    allSites.style.strokeWidth = small ? "2px" : "4px";
+    allSites.style.strokeOpacity = small ? 0.6 : 1;
+    rim.style.display = small ? "none" : ""; // a white rim, so that a site on an edge can be seen
     tiles.forEach((path, t) => {
       const b = drawnBox(t), w = (b[2] - b[0]) / unit, h = (b[3] - b[1]) / unit;
       path.setAttribute("d", outline(b));
@@ -167,7 +169,9 @@
       if (w > 40 && (h > 30 || flat(row.tile))) layer.orders.append(...turnLabel(b, flat(row.tile), `turn ${turn + 1}`));
     });
     layer.chosen.append(draw("path", {class: "chosen", d: dots(list.map((place) => [place.x, place.y]))}));
-    if (list.length <= 12) list.forEach((place, j) => layer.chosen.append(label([place.x, place.y], j, "letter", 11, [6, -5])));
+    // The number of a place stands on the side away from the stop.
+    const aside = (place, j) => (place.x < at[0] ? [j > 9 ? -20 : -13, -5] : [6, -5]);
+    if (list.length <= 12) list.forEach((place, j) => layer.chosen.append(label([place.x, place.y], j, "letter", 11, aside(place, j))));
     const next = following(i);
     if (list.length) layer.rings.append(draw("circle", {class: "ring", cx: at[0], cy: -at[1],
       r: Math.sqrt(list[list.length - 1].dist)}));
