@@ -175,7 +175,8 @@ def main(names):
         print(f"tests/documents.py: NOT_RUN has `{gone}`, which no document shows")
     if faults:
         sys.exit(f"documents: {faults} faults, {commands} commands of {documents} documents run")
-    print(f"documents: {commands} commands of {documents} documents run; {len(left_out)} are not run from there:")
+    rest = f"; {len(left_out)} are shown and not run from there:" if left_out else ""
+    print(f"documents: {commands} commands of {documents} documents run{rest}")
     for command in sorted(left_out):
         print(f"    {command}: {NOT_RUN[command]}")
 
