@@ -3,6 +3,8 @@ use Prim.Native.Nat.{ℕ, zero, suc, _+_, _<_}
 use mathlib.Core.Bool.{Bool, true, false}
 use mathlib.Core.List.{List, [], _∷_}
 use mathlib.Core.Path.{_≡_, refl, ap}
+use native.Mathlib.Nat.{zero-add}
+use native.Mathlib.Numerals.{add-one}
 use native.Mathlib.Omega.{arith}
 use lib.Dec.{eqb}
 use lib.IntN.{ℤ, pos}
@@ -10,7 +12,7 @@ use lib.ListN.{getD, length}
 use lib.Signed.{ltZ, leZ}
 use borrow.Author.Tests.{eqb-true, eq-eqb}
 use Rattle.base.specs.Lists.{All}
-use Rattle.geometry.specs.Around.{equalColumns, row, rows, foremost, least, greatest, around}
+use Rattle.geometry.specs.Around.{equalColumns, row, rows, points, foremost, least, greatest, around}
 use Rattle.geometry.specs.Box.{lo, hi, withinLimits, validAxis, validBox, validPoint}
 use Rattle.base.proofs.Tests.{and-both, both-and, by-test, cond-ind}
 use Rattle.geometry.proofs.AllAxes.{In, none, more}
@@ -49,6 +51,38 @@ module _ (P : List ℤ → Type 0) (cols : List (List ℤ)) where
         rw e at (h 0 (omega arith)),
         all-rows (suc i) n (λ j l. let e : i + suc j ≡ suc i + j = omega arith in rw e at (h (suc j) (omega arith))),
       )
+
+-- ---- the points at the indices, one after the other
+module _ (cols : List (List ℤ)) where
+  pub points-rows : (n : ℕ) → points cols n ≡ rows cols 0 n
+  unfolding points
+  points-rows n = refl
+
+  pub rows-none : (i : ℕ) → rows cols i 0 ≡ []
+  unfolding rows
+  rows-none i = refl
+
+  pub rows-next : (i n : ℕ) → rows cols i (suc n) ≡ row cols i ∷ rows cols (i + 1) n
+  unfolding rows
+  rows-next i n = rw (add-one i)
+
+  rows-length : (i n : ℕ) → length (rows cols i n) ≡ n
+  unfolding rows
+  rows-length i zero = refl
+  rows-length i (suc n) = ap suc (rows-length (suc i) n)
+
+  pub points-length : (n : ℕ) → length (points cols n) ≡ n
+  points-length n = rw (points-rows n) (rows-length 0 n)
+
+-- a point has a coordinate from each column
+pub row-axes : (cols : List (List ℤ)) (i : ℕ) → length (row cols i) ≡ length cols
+unfolding row
+row-axes [] i = refl
+row-axes (c ∷ cols) i = ap suc (row-axes cols i)
+
+pub all-points : (P : List ℤ → Type 0) (cols : List (List ℤ)) (n : ℕ) → ((i : ℕ) → i < n → P (row cols i))
+    → All P (points cols n)
+all-points P cols n h = rw (points-rows cols n) (all-rows P cols 0 n (λ j l. rw (zero-add j) (h j l)))
 
 -- ---- the least and the greatest of a column
 

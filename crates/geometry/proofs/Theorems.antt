@@ -25,12 +25,14 @@ use Rattle.base.proofs.Every.{every-at, every-holds}
 use Rattle.base.proofs.Tests.{true-T, by-test, iff-eq}
 use Rattle.geometry.proofs.AllAxes.{in-box, in-test, in-valid, in-length, lowest-point, over, within, within-box}
 use Rattle.geometry.proofs.AllAxes.{closest-in, min-least, farthest-in, max-largest, distance-bound}
-use Rattle.geometry.proofs.Around.{rows-at, around-axes, around-valid, around-holds, around-least}
+use Rattle.geometry.proofs.Around.{all-rows, rows-at, around-axes, around-valid, around-holds, around-least}
 use Rattle.geometry.proofs.BestPoint.{Three, three, best-in, best-over-e, best-over-b, best-most, over-in}
 use Rattle.geometry.proofs.Corners.{corner-in, best-corner}
 use Rattle.geometry.proofs.Shift.{less-sub, at-most-sub, abs-difference}
--- points by columns: as many coordinates in each, and what holds of every point
-pub use Rattle.geometry.proofs.Around.{all-rows, columns-equal, equal-columns}
+-- points by columns: as many coordinates in each; the points one after the other, how many they are and how many axes
+-- they have; what holds of each holds of all
+pub use Rattle.geometry.proofs.Around.{columns-equal, equal-columns, points-rows, rows-none, rows-next}
+pub use Rattle.geometry.proofs.Around.{points-length, row-axes, all-points}
 pub use Rattle.geometry.proofs.Two.{two-columns}
 -- the distances and the margin as sums over the axes
 pub use Rattle.geometry.proofs.ByAxis.{dist-sum, min-dist-sum, max-dist-sum, margin-sum}

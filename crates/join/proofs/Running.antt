@@ -3,7 +3,6 @@ use Prim.Native.Nat.{ℕ, _*_, _<_, _≤_}
 use mathlib.Core.Bool.{Bool, true, false, not, _&&_}
 use mathlib.Core.List.{List, [], _∷_, map}
 use mathlib.Core.Path.{_≡_, refl, sym, ap, _∙_}
-use native.Mathlib.Nat.{zero-add}
 use native.Mathlib.Omega.{arith}
 use lib.Dec.{eqb, ltb}
 use lib.IntN.{ℤ}
@@ -13,7 +12,7 @@ use Rattle.base.specs.Over.{over}
 use Rattle.base.specs.Refusal.{Outcome, accepted, refused, andThen}
 use Rattle.blocks.specs.declared.header.Header.{Header}
 use Rattle.codec.specs.Number.{Bytes}
-use Rattle.geometry.specs.Around.{points, around, SmallestAround}
+use Rattle.geometry.specs.Around.{around, SmallestAround}
 use Rattle.geometry.specs.Box.{validPoint}
 use Rattle.list.specs.Lists.{Lists, Slices, lay, cleared}
 use Rattle.plan.specs.FilePlan.{entries, openingOf}
@@ -33,7 +32,7 @@ use Rattle.serve.specs.Inner.Serving.{lastLength, waiting, walksOf, StopsReady,
 use Rattle.stops.specs.Stops.{stopCount, stopsOf, validStop}
 use Rattle.base.proofs.Outcomes.{andThen-accepted, andThen-refused, accepted-injective}
 use Rattle.base.proofs.Over.{over-under, length-over}
-use Rattle.geometry.proofs.Theorems.{all-rows, around-smallest}
+use Rattle.geometry.proofs.Theorems.{all-points, around-smallest}
 use Rattle.list.proofs.Laying.{lay-under, lay-long}
 use Rattle.list.proofs.Padding.{clear-all}
 use Rattle.plan.proofs.Tables.{filled-at, filled-take, table-length, bit-small}
@@ -94,9 +93,9 @@ module _ {f : List ℕ} {h : Header} {cols : List (List ℤ)} {k : ℕ} {out : S
   few-enough = few-places (r .args .few) (r .args .few-k)
 
   pub smallest : SmallestAround (length cols) (stopsOf cols) O
-  unfolding points validStop
+  unfolding validStop
   smallest = around-smallest cols (stopCount cols) (r .args .some) (r .args .same)
-      (all-rows (λ p. validPoint p ≡ true) cols 0 (stopCount cols) (λ i l. rw (zero-add i) (r .args .valid i l)))
+      (all-points (λ p. validPoint p ≡ true) cols (stopCount cols) (r .args .valid))
 
   pub region : ValidRegion O
   region = record { valid = smallest .valid; axes = smallest .axes ∙ r .axes }

@@ -11,7 +11,7 @@ use Rattle.base.specs.Over.{over}
 use Rattle.base.specs.Refusal.{Outcome, accepted, refused, andThen}
 use Rattle.base.specs.Tabulate.{tabulate}
 use Rattle.blocks.specs.declared.header.Header.{Header}
-use Rattle.geometry.specs.Around.{rows, points}
+use Rattle.geometry.specs.Around.{rows}
 use Rattle.list.specs.Inner.Keeping.{places, Ready}
 use Rattle.list.specs.Lists.{Long, Lists, Slices, lay, cleared}
 use Rattle.plan.specs.FilePlan.{entries, openingOf}
@@ -20,6 +20,7 @@ use Rattle.search.specs.Run.{noPlace, noMark, inOrder, inRows}
 use Rattle.search.specs.declared.Place.{Place}
 use Rattle.stops.specs.Stops.{stopCount, stopAt}
 use Rattle.base.proofs.Outcomes.{andThen-accepted, andThen-refused, accepted-injective, accepted-refused}
+use Rattle.geometry.proofs.Theorems.{points-rows, rows-none, rows-next}
 use Rattle.list.proofs.Laying.{lay-nil, lay-under, lay-lengths}
 use Rattle.list.proofs.Padding.{Clear, clear-kept, stop-laid}
 use Rattle.search.proofs.Walk.{walks-none, walks-refused, walks-next}
@@ -60,8 +61,7 @@ module _ (f : List ℕ) (h : Header) (order : List ℕ) (cols : List (List ℤ))
     pub under : cleared 0 allPlaces (h .tiles) o ≡ cleared 0 allPlaces (h .tiles) o₀
 
   all-stops : rest 0 ≡ whole
-  unfolding points
-  all-stops = let e : stopCount cols - 0 ≡ stopCount cols = omega arith in rw e
+  all-stops = let e : stopCount cols - 0 ≡ stopCount cols = omega arith in rw (e, points-rows cols (stopCount cols))
 
   pub turn-starts : Clear (o₀ .lists) 0 allPlaces → OpenedOpen f h (o₀ .marks) → StopTurn o₀ 0 0 0
   turn-starts clear opens = record {
@@ -108,7 +108,7 @@ module _ {f : List ℕ} {h : Header} {order : List ℕ} {cols : List (List ℤ)}
 
   -- no stop is left
   pub turn-ends : stopCount cols ≤ i → StopsServed h W k N o₀ (accepted used) o
-  unfolding rows markAll inRows
+  unfolding markAll inRows
   turn-ends l = record {
     outcome = rw (end .out) (ap accepted (end .last));
     answered = λ ls q. rw (← (accepted-injective (sym (end .out) ∙ q)), ← (end .laid), lay-nil (o .lists) at, marks);
@@ -118,7 +118,7 @@ module _ {f : List ℕ} {h : Header} {order : List ℕ} {cols : List (List ℤ)}
       none : R i ≡ record { asked = []; out = accepted [] }
       none =
           let e : stopCount cols - i ≡ 0 = omega arith in
-          rw e (walks-none _)
+          rw (e, rows-none cols i) (walks-none _)
 
       end : Ends f h order cols k o₀ o at used []
       end = turn .fine [] (ap (λ w. w .out) none)
@@ -153,8 +153,9 @@ module _ {f : List ℕ} {h : Header} {order : List ℕ} {cols : List (List ℤ)}
       stop = walkOf f h order (stopAt cols i) k
 
       stops-are : rows cols i (stopCount cols - i) ≡ stopAt cols i ∷ rows cols (i + 1) (stopCount cols - (i + 1))
-      unfolding rows
-      stops-are = let e : stopCount cols - i ≡ suc (stopCount cols - (i + 1)) = omega arith in rw (e, add-one i)
+      stops-are =
+          let e : stopCount cols - i ≡ suc (stopCount cols - (i + 1)) = omega arith in
+          rw (e, rows-next cols i (stopCount cols - (i + 1)))
 
       -- it is refused
       pub turn-refused : (a b : ℕ) → r ≡ refused a b → StopsServed h W k N o₀ (refused a b) o′

@@ -2,14 +2,15 @@
 use Prim.Native.Nat.{ℕ, zero, suc, _+_, _<_, _≤_}
 use mathlib.Core.Bool.{Bool, cond}
 use mathlib.Core.List.{List, [], _∷_}
-use mathlib.Core.Path.{_≡_, refl, ap}
+use mathlib.Core.Path.{_≡_, refl}
 use native.Mathlib.Numerals.{add-one}
 use native.Mathlib.Omega.{arith}
 use lib.IntN.{ℤ, pos}
 use lib.ListN.{length, getD, drop}
 use lib.Seq.{drop-cons}
 use lib.Signed.{ltZ}
-use Rattle.geometry.specs.Around.{foremost, least, greatest, rows, points}
+use Rattle.geometry.specs.Around.{foremost, least, greatest}
+use Rattle.geometry.proofs.Theorems.{points-length}
 use Rattle.stops.specs.Stops.{stopCount, stopsOf}
 
 -- the rest of the list is looked at from the best so far
@@ -42,11 +43,5 @@ greatest-start (x ∷ xs) h = refl
 
 -- ---- the stops by columns
 
-rows-length : (cols : List (List ℤ)) (i n : ℕ) → length (rows cols i n) ≡ n
-unfolding rows
-rows-length cols i zero = refl
-rows-length cols i (suc n) = ap suc (rows-length cols (suc i) n)
-
 pub stops-length : (cols : List (List ℤ)) → length (stopsOf cols) ≡ stopCount cols
-unfolding points
-stops-length cols = rows-length cols 0 (stopCount cols)
+stops-length cols = points-length cols (stopCount cols)

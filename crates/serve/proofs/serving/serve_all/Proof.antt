@@ -7,10 +7,10 @@ use lib.IntN.{ℤ}
 use lib.ListN.{length, take, length-take}
 use borrow.Author.Needs.{needs}
 use Rattle.blocks.specs.Layout.{maxTiles}
-use Rattle.geometry.specs.Around.{row}
 use Rattle.list.specs.Lists.{lent}
 use Rattle.plan.specs.FilePlan.{entries}
 use Rattle.plan.specs.Inner.Seam.{ValidStop}
+use Rattle.geometry.proofs.Theorems.{row-axes}
 use Rattle.plan.proofs.Measures.{tiles-few}
 use Rattle.queue.specs.Inner.Keys.{waits}
 use Rattle.queue.proofs.Gathering.{gathered, waiting-tiles, waiting-rise}
@@ -21,8 +21,8 @@ use Rattle.serve.proofs.serving.serve_all.Statement.{statement}
 use Rattle.serve.proofs.serving.serve_all.Tie as tie
 
 stop-valid : (xs ys : List ℤ) (i : ℕ) → validStop (xs ∷ ys ∷ []) i ≡ true → ValidStop (stopAt (xs ∷ ys ∷ []) i)
-unfolding validStop row
-stop-valid xs ys i e = record { valid = e; axes = refl }
+unfolding validStop
+stop-valid xs ys i e = record { valid = e; axes = row-axes (xs ∷ ys ∷ []) i }
 
 abbrev Inv-loop : tie.InvT-loop
 Inv-loop f h xs ys k dist₀ site₀ cue₀ marks₀ order keys₀ m i₀ at₀ used₀ dist site cue marks keys i at used =
