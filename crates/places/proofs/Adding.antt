@@ -12,12 +12,11 @@ use Rattle.base.specs.Tabulate.{tabulate}
 use Rattle.list.specs.Inner.Keeping.{places, Adds, Ready}
 use Rattle.list.specs.Lists.{Lists, placeAt, lay}
 use Rattle.plan.specs.FilePlan.{plane}
-use Rattle.plan.specs.Inner.Seam.{sitePlace}
+use Rattle.plan.specs.Inner.Seam.{sitePlace, siteIn}
 use Rattle.search.specs.Inner.Cut.{inserts}
 use Rattle.search.specs.Plan.{ranks}
 use Rattle.search.specs.Run.{rank, listing}
 use Rattle.search.specs.declared.Place.{Place}
-use Rattle.tiles.specs.Tile.{siteIn}
 use Rattle.base.proofs.Tests.{by-test}
 use Rattle.list.proofs.Added.{added-list, added-ready, added-laid}
 use Rattle.list.proofs.Full.{put-none}

@@ -20,7 +20,7 @@ use Rattle.geometry.specs.Distance.{D, minDist}
 use Rattle.geometry.specs.Margin.{closer}
 use Rattle.search.specs.Plan.{Geometry, Directory}
 use Rattle.tiles.specs.Tile.{sitePoint, openTile, sitesAt}
-use Rattle.tiles.specs.declared.tile.Site.{Site}
+pub use Rattle.tiles.specs.declared.tile.Site.{Site}
 
 abbrev pub axisCount : ℕ
 axisCount = layout.axes

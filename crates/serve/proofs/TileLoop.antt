@@ -15,7 +15,7 @@ use Rattle.blocks.specs.declared.header.Header.{Header}
 use Rattle.list.specs.Inner.Keeping.{places, Adds, Ready}
 use Rattle.list.specs.Lists.{Slices, lay, cleared}
 use Rattle.places.specs.declared.tile.Target.{Target}
-use Rattle.plan.specs.FilePlan.{plane, entries, openingOf}
+use Rattle.plan.specs.FilePlan.{plane, entries, openingOf, Site}
 use Rattle.queue.specs.Inner.Keys.{none, leastKey}
 use Rattle.queue.specs.declared.keys.Least.{Least}
 use Rattle.search.specs.Inner.Cut.{lastAhead}
@@ -24,7 +24,6 @@ use Rattle.search.specs.Order.{sort}
 use Rattle.search.specs.Plan.{near}
 use Rattle.search.specs.Run.{noPlace, inOrder, tilePlaces, openedMark}
 use Rattle.search.specs.declared.Place.{Place}
-use Rattle.tiles.specs.declared.tile.Site.{Site}
 use Rattle.base.proofs.Outcomes.{accepted-injective, accepted-refused}
 use Rattle.base.proofs.Over.{over-set}
 use Rattle.base.proofs.Tests.{by-test}

@@ -4,7 +4,7 @@ use mathlib.Core.List.{List}
 use lib.IntN.{ℤ}
 use lib.ListN.{getD}
 use Rattle.plan.specs.FilePlan.{plane}
-use Rattle.tiles.specs.Tile.{siteIn}
+use Rattle.plan.specs.Inner.Seam.{siteIn}
 use Rattle.places.specs.declared.tile.Target.{Target}
 
 -- the sites of slots from to r - 1 are farther from p than a bound

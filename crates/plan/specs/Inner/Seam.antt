@@ -16,7 +16,8 @@ use Rattle.geometry.specs.Corners.{corner, corners}
 use Rattle.geometry.specs.Distance.{D, maxDist}
 use Rattle.search.specs.Plan.{slots}
 use Rattle.search.specs.declared.Place.{Place}
-use Rattle.tiles.specs.Tile.{sitePoint, siteIn, tilePosition}
+use Rattle.tiles.specs.Tile.{sitePoint, tilePosition}
+pub use Rattle.tiles.specs.Tile.{siteIn}
 use Rattle.tiles.specs.declared.tile.Site.{Site}
 use Rattle.plan.specs.FilePlan.{axisCount, openingOf, townOf}
 

@@ -19,7 +19,7 @@ use Rattle.blocks.specs.declared.header.Header.{Header}
 use Rattle.list.specs.Inner.Keeping.{places, Ready}
 use Rattle.list.specs.Lists.{Long, Lists, Slices, placeAt, lay, cleared}
 use Rattle.places.specs.declared.tile.Target.{Target}
-use Rattle.plan.specs.FilePlan.{plane, entries, openingOf}
+use Rattle.plan.specs.FilePlan.{plane, entries, openingOf, Site}
 use Rattle.plan.specs.Inner.Seam.{TileOf, ValidStop}
 use Rattle.queue.specs.Inner.Keys.{waits}
 use Rattle.search.specs.Inner.Cut.{inserts}
@@ -30,7 +30,6 @@ use Rattle.search.specs.Order.{Strict}
 use Rattle.search.specs.Run.{noPlace, rank, tilePlaces, inOrder, inRows, openedMark}
 use Rattle.search.specs.declared.Place.{Place}
 use Rattle.stops.specs.Stops.{stopCount, stopsOf, validStop}
-use Rattle.tiles.specs.declared.tile.Site.{Site}
 use Rattle.serve.specs.Inner.Marks.{markAll, OpenedOpen}
 use Rattle.serve.specs.declared.serving.Serving.{Serving}
 use Rattle.serve.specs.declared.serving.Serving.the-variants.{Served, Refused}

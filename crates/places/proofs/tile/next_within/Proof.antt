@@ -3,8 +3,8 @@ use mathlib.Core.Path.{_≡_, ap}
 use native.Mathlib.Omega.{arith}
 use borrow.Author.Needs.{needs}
 use Rattle.plan.specs.FilePlan.{plane}
+use Rattle.plan.specs.Inner.Seam.{siteIn}
 use Rattle.search.specs.declared.Place.{Place}
-use Rattle.tiles.specs.Tile.{siteIn}
 use Rattle.search.proofs.Lists.{up-to-next}
 use Rattle.places.specs.Inner.Adding.{Farther}
 use Rattle.places.proofs.tile.next_within.Statement.{statement}
