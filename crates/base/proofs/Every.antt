@@ -1,4 +1,8 @@
 -- Laws of a test of many numbers. Assumes nothing.
+--
+--   every-at, every-holds, every-fails   from all to one, from each to all, one that fails
+--   every-first                          the first number taken out
+--   every-same                           tests that agree
 use Prim.Native.Nat.{ℕ, zero, suc, _<_}
 use mathlib.Core.Bool.{Bool, true, false, _&&_, and-true, and-assoc}
 use mathlib.Core.Logic.{⊎-elim}

@@ -1,4 +1,8 @@
 -- Laws of tests in turn. Assumes nothing.
+--
+--   turn-refused, turn-accepted, turn-end   a loop of tests: its turn, and its end
+--   turns-each, turns-all                   all accepted and each accepted
+--   turns-same                              tests that agree
 use Prim.Native.Nat.{ℕ, zero, suc, _+_, _-_, _<_, _≤_}
 use mathlib.Core.Path.{_≡_, refl, sym, ap, _∙_}
 use native.Mathlib.Nat.{add-zero, not-suc-le-zero}

@@ -1,4 +1,10 @@
 -- Laws of lists that are given part by part. Assumes nothing.
+--
+--   length-joined, length-joined-next   how long, with parts of one width; with one part more
+--   getD-joined                         an element by its part
+--   joined-all, joined-same             what holds of all elements; the same parts
+--   joined-parts                        a list cut into parts
+--   joined-turn, joined-end             a loop that writes part after part
 use Prim.Native.Nat.{ℕ, zero, suc, _+_, _*_, _-_, _<_, _≤_}
 use mathlib.Core.List.{List, [], _∷_, _++_}
 use mathlib.Core.Path.{_≡_, refl, sym, ap, _∙_}

@@ -1,5 +1,11 @@
--- Laws of outcomes: what an accepted outcome shows of its parts, proof by an outcome, answers by number. Assumes
--- nothing.
+-- Laws of outcomes. Assumes nothing.
+--
+--   by-outcome                             proof by an outcome
+--   accepted-refused, accepted-injective   no outcome is both; what was accepted is one value
+--   require-accepted, andThen-accepted     what an accepted outcome shows of its parts
+--   andThen-same, andThen-refused          when what comes next does not matter
+--   told                                   an answer that was taken apart
+--   number-accepted, number-refused        answers by number
 use Prim.Native.Nat.{ℕ, zero, suc}
 use mathlib.Core.Bool.{Bool, true, false}
 use mathlib.Core.Path.{_≡_, refl, sym, ap, _∙_}

@@ -1,4 +1,12 @@
 -- Laws of a list with a run of elements replaced. Assumes nothing.
+--
+--   over-eq, length-over                what it is, and how long
+--   over-nil, over-cons                 no run; a run by its first element
+--   getD-before, getD-run, getD-after   its elements before, in and past the run
+--   over-next, also                     a run right after another: of lists, of calls that write
+--   fill-turn, fill-end                 a loop that writes one value
+--   over-set, over-under                what was written under a run does not show
+--   set-over, over-last                 an element past the run, and right behind it
 use Prim.Native.Nat.{ℕ, zero, suc, _+_, _-_, _<_, _≤_}
 use mathlib.Core.List.{List, [], _∷_, _++_}
 use mathlib.Core.Path.{_≡_, refl, sym, ap, _∙_}

@@ -1,4 +1,10 @@
 -- Laws of lists that are given element by element. Assumes nothing.
+--
+--   length-tabulate, getD-tabulate   how long such a list is, and its elements
+--   tabulate-last, tabulate-take     its last element, its first ones
+--   tabulate-same, tabulate-const    functions that agree; one that gives the same everywhere
+--   tabulate-all                     what holds of all that the function gives
+--   tabulate-part                    a part of a list is such a list
 use Prim.Native.Nat.{ℕ, zero, suc, _+_, _<_, _≤_}
 use mathlib.Core.List.{List, [], _∷_, _++_}
 use mathlib.Core.Path.{_≡_, refl, sym, ap, _∙_}

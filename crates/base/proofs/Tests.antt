@@ -1,5 +1,13 @@
--- Laws of tests: what a true conjunction shows, proof by the value of a test, what a branch of the code shows. Assumes
--- nothing.
+-- Laws of tests. Assumes nothing.
+--
+--   true-T               a true test, as the library has it
+--   clash                no test is both true and false
+--   and-both, both-and   a true conjunction and its parts
+--   by-test, cond-ind    proof by the value of a test, for any claim and for one of a choice
+--   iff-eq               two tests that show each other
+--   cond-ap              a function of a choice
+--   passed, failed       what a branch of the code shows: an answer behind `if !r`
+--   equal, unequal       the same: two numbers compared
 use Prim.Native.Nat.{ℕ}
 use mathlib.Core.Bool.{Bool, true, false, cond, not, _&&_}
 use mathlib.Core.Path.{_≡_, refl, sym, _∙_}

@@ -1,4 +1,10 @@
 -- Document 01, "Numbers given to bad input": the table's numbers under its words, and what a call comes to.
+--
+--   #length .. #supply           the numbers 1 to 15, in the table's order
+--   Outcome, accepted, refused   what a call comes to
+--   require                      one row of the table
+--   andThen                      one call after another
+--   inTurn                       one test of several numbers
 use Prim.Native.Nat.{ℕ, zero, suc, _+_}
 use mathlib.Core.Bool.{Bool, true, false}
 
