@@ -1,5 +1,8 @@
--- The theorems of box arithmetic, over any number of axes: near and far, corners, the box around points, the margin
--- and closer. docs/PROOF.md lists each beside its sentence. Assumes nothing.
+-- The theorems of box arithmetic, over any number of axes. Calls `distance::min_dist` and `distance::max_dist`,
+-- definitions `minDist` and `maxDist` (specs/Distance): `min-dist-exact`, `max-dist-exact`. Call `margin::margin`,
+-- definitions `reached` and `closer` (specs/Margin): `margin-exact`, `closer-exact`. Of the stops, definition `around`
+-- (specs/Around): `around-smallest`. The claims are in specs/Claims; docs/PROOF.md lists each theorem beside its
+-- sentence. Assumes nothing.
 use Prim.Native.Nat.{ℕ, _+_, _*_, _<_, _≤_}
 use mathlib.Core.Bool.{Bool, true, false}
 use mathlib.Core.List.{List}

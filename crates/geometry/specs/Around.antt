@@ -1,10 +1,11 @@
 -- Points by columns, one list of coordinates for each axis, and the smallest box around them (document 01, "The join":
 -- "O is the smallest box around the stops").
---   equalColumns    every column has n coordinates
---   row cols i      the point at an index
---   points cols n   the points at the indices below n
---   around cols     the box from the least to the greatest coordinate on each axis
---   SmallestAround  what the theorem says of it
+--
+--   equalColumns                every column has n coordinates
+--   row, rows, points           the point at an index, n from an index on, the first n
+--   foremost, least, greatest   of a list of coordinates
+--   around                      the box from the least to the greatest coordinate on each axis
+--   SmallestAround              what the theorem says of it
 use Prim.Native.Nat.{ℕ, zero, suc}
 use mathlib.Core.Bool.{Bool, true, cond, _&&_}
 use mathlib.Core.List.{List, [], _∷_}

@@ -1,6 +1,12 @@
 -- Coordinates, boxes and points (document 01, head of the paper). Every number is a whole number of centimetres. A box
 -- is the list of its axes, each the list of its low and its high end; a point is the list of its coordinates.
 -- Everything holds for any number of axes.
+--
+--   lowest, highest            the limits of coordinates
+--   lo, hi                     the ends of an axis
+--   withinLimits, validPoint   a coordinate, a point to be accepted
+--   validAxis, validBox        an axis, a box to be accepted
+--   onAxis, inside             a coordinate on an axis, a point in a box
 use mathlib.Core.Bool.{Bool, true, false, _&&_}
 use mathlib.Core.List.{List, [], _∷_}
 use lib.IntN.{ℤ, pos, negsuc}

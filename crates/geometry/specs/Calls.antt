@@ -1,5 +1,10 @@
 -- What each public call comes to, for all inputs, and how each answer is read as that outcome (document 01: "Box
 -- arithmetic tests boxes (9), then the point (13)", at block 0).
+--
+--   distanceOutcome, marginOutcome   an answer as an outcome
+--   pointOf, reachedOf               the points in it as lists
+--   minDistCall, maxDistCall         near and far
+--   marginCall                       the margin with its points
 use Prim.Native.Nat.{ℕ}
 use mathlib.Core.Bool.{_&&_}
 use mathlib.Core.List.{List, [], _∷_}

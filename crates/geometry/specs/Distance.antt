@@ -1,4 +1,10 @@
 -- Squared distance, and the least and the largest of it to a box (document 01, "Three boxes").
+--
+--   gap, square               of two coordinates
+--   D                         of two points
+--   closest, closestPoint     where an axis, a box is closest
+--   farthest, farthestPoint   where it is farthest
+--   minDist, maxDist          near and far
 use Prim.Native.Nat.{ℕ, _+_, _*_}
 use mathlib.Core.Bool.{cond}
 use mathlib.Core.List.{List, [], _∷_}

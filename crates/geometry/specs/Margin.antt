@@ -1,5 +1,11 @@
 -- The margin of three boxes, its three points, and closer (document 01, "Three boxes"; E is "nearer" than B from O
 -- there).
+--
+--   gain                            the difference of squares on one axis
+--   bestEnd, bestPoint              where in O it is largest: on one axis, on all
+--   difference                      of the distances of three points
+--   Reached, reachedFrom, reached   margin and points: the record, from a point of O, from the best one
+--   margin, closer                  the margin alone, and the test of it
 use mathlib.Core.Bool.{Bool, cond}
 use mathlib.Core.List.{List, [], _∷_}
 use lib.IntN.{ℤ, pos, _-ℤ_}

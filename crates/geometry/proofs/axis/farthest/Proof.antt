@@ -24,21 +24,21 @@ at : (s : tie.Start) → Limited (s .args .x)
 at s = limited (s .args .x) (s .pre .1)
 
 sub-if1 : tie.Need-sub-if1
-sub-if1 c = let s = c .before .before in subtract-fits (at s) (on-axis s .low)
+sub-if1 c = let s : tie.Start = search in subtract-fits (at s) (on-axis s .low)
 
 sub-if1-2 : tie.Need-sub-if1-2
-sub-if1-2 c = let s = c .before .before in subtract-fits (on-axis s .high) (at s)
+sub-if1-2 c = let s : tie.Start = search in subtract-fits (on-axis s .high) (at s)
 
 returns : tie.Need-returns
 returns c =
-    let s = c .before .before .before in
+    let s : tie.Start = search in
     let t : ltZ (s .args .x -ℤ lo (s .args .t1)) (hi (s .args .t1) -ℤ s .args .x)
     ≡ true = simp (subtract-is (at s) (on-axis s .low), subtract-is (on-axis s .high) (at s)) at (c .if1 .taken) in
     toZ-ofZ (limited-fits (on-axis s .high)) ∙ sym (farthest-test (s .args .t1) (s .args .x) (on-axis s) (at s) ∙ rw t)
 
 returns-2 : tie.Need-returns-2
 returns-2 c =
-    let s = c .before .before .before in
+    let s : tie.Start = search in
     let t : ltZ (s .args .x -ℤ lo (s .args .t1)) (hi (s .args .t1) -ℤ s .args .x)
     ≡ false = simp (subtract-is (at s) (on-axis s .low), subtract-is (on-axis s .high) (at s)) at (c .if1 .left) in
     toZ-ofZ (limited-fits (on-axis s .low)) ∙ sym (farthest-test (s .args .t1) (s .args .x) (on-axis s) (at s) ∙ rw t)

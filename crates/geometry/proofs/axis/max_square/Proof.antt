@@ -21,13 +21,13 @@ at : (s : tie.Start) → Limited (s .args .x)
 at s = limited (s .args .x) (s .pre .1)
 
 sub-a : tie.Need-sub-a
-sub-a c = let s = c .before in subtract-fits (at s) (on-axis s .low)
+sub-a c = let s : tie.Start = search in subtract-fits (at s) (on-axis s .low)
 
 array-copy-out-b : tie.Need-array-copy-out-b
 array-copy-out-b c = search needs
 
 sub-b : tie.Need-sub-b
-sub-b c = let s = c .before .before in subtract-fits (on-axis s .high) (at s)
+sub-b c = let s : tie.Start = search in subtract-fits (on-axis s .high) (at s)
 
 squared-requires : tie.Need-squared-requires
 squared-requires c κs = search needs
@@ -38,7 +38,7 @@ squared-requires-2 c κs = search needs
 returns : tie.Need-returns
 unfolding square gap
 returns c =
-    let s = c .before .before .before .before in
+    let s : tie.Start = search in
     let t : ltZ (s .args .x -ℤ lo (s .args .t1)) (hi (s .args .t1) -ℤ s .args .x)
     ≡ true = simp (
       subtract-is (at s) (on-axis s .low),
@@ -54,7 +54,7 @@ returns c =
 returns-2 : tie.Need-returns-2
 unfolding square gap
 returns-2 c =
-    let s = c .before .before .before .before in
+    let s : tie.Start = search in
     let t : ltZ (s .args .x -ℤ lo (s .args .t1)) (hi (s .args .t1) -ℤ s .args .x)
     ≡ false = simp (
       subtract-is (at s) (on-axis s .low),

@@ -1,8 +1,8 @@
 use mathlib.Core.Bool.{true}
-use mathlib.Core.Path.{_≡_, ap, sym, _∙_}
+use mathlib.Core.Path.{_≡_, ap}
 use borrow.Author.Needs.{needs}
-use borrow.Author.Tests.{not-true, not-false}
 use Rattle.base.specs.Refusal.{accepted}
+use Rattle.base.proofs.Tests.{passed, failed}
 use Rattle.geometry.specs.Box.{validBox, validPoint}
 use Rattle.geometry.specs.Calls.{maxDistCall}
 use Rattle.geometry.proofs.distance.max_dist.Statement.{statement}
@@ -15,18 +15,17 @@ refused-requires : tie.Need-refused-requires
 refused-requires c κs = search needs
 
 -- what the tests left
-box-valid : (c : tie.Else1) → validBox (c .before .before .args .b) ≡ true
-box-valid c = sym (c .before .valid-box .ensures) ∙ not-false (c .before .valid-box .result) (c .if1 .left)
+box-valid : (c : tie.Else1) → let s : tie.Start = search in validBox (s .args .b) ≡ true
+box-valid c = passed (c .before .valid-box .ensures) (c .if1 .left)
 
-point-valid : (c : tie.Else2) → validPoint (c .before .before .before .before .args .p) ≡ true
-point-valid c = sym (c .before .valid-point .ensures) ∙ not-false (c .before .valid-point .result) (c .if2 .left)
+point-valid : (c : tie.Else2) → let s : tie.Start = search in validPoint (s .args .p) ≡ true
+point-valid c = passed (c .before .valid-point .ensures) (c .if2 .left)
 
 returns : tie.Need-returns
 unfolding maxDistCall
 returns c =
-    let t = sym (c .before .before .valid-box .ensures)
-    ∙ not-true (c .before .before .valid-box .result) (c .before .if1 .taken) in
-    rw t (c .refused .ensures)
+    let t : tie.Then1 = search in
+    rw (failed (t .before .valid-box .ensures) (t .if1 .taken)) (c .refused .ensures)
 
 valid-point-requires : tie.Need-valid-point-requires
 valid-point-requires c κs = search needs
@@ -37,17 +36,15 @@ refused-requires-2 c κs = search needs
 returns-2 : tie.Need-returns-2
 unfolding maxDistCall
 returns-2 c =
-    let t = sym (c .before .before .valid-point .ensures)
-    ∙ not-true (c .before .before .valid-point .result) (c .before .if2 .taken) in
-    rw (box-valid (c .before .before .before), t) (c .refused2 .ensures)
+    let t : tie.Then2 = search in
+    rw (box-valid search, failed (t .before .valid-point .ensures) (t .if2 .taken)) (c .refused2 .ensures)
 
 max-dist-within-requires : tie.Need-max-dist-within-requires
-max-dist-within-requires c κs = (box-valid (c .before .before), point-valid c)
+max-dist-within-requires c κs = (box-valid search, point-valid c)
 
 returns-3 : tie.Need-returns-3
 unfolding maxDistCall
-returns-3 c =
-    rw (box-valid (c .before .before .before), point-valid (c .before)) (ap accepted (c .max-dist-within .ensures))
+returns-3 c = rw (box-valid search, point-valid search) (ap accepted (c .max-dist-within .ensures))
 
 pub max-dist-spec : {M : Type 1} → statement M
 max-dist-spec = tie.close (tie.spec valid-box-requires refused-requires returns valid-point-requires refused-requires-2

@@ -18,7 +18,7 @@ both-requires c κs = search needs
 returns : tie.Need-returns
 unfolding onAxis
 returns c =
-    let s = c .before .before .before in
+    let s : tie.Start = search in
     let l : SFits w32 (lo (s .args .t1)) = sfits-of (c .before .before .l .given) in
     let h : SFits w32 (hi (s .args .t1)) = sfits-of (c .before .h .given) in
     simp (c .both .ensures, toZ-ofZ (s .fits .x), toZ-ofZ l, toZ-ofZ h)

@@ -22,8 +22,9 @@ both-requires-2 c κs = search needs
 
 returns : tie.Need-returns
 returns c =
-    let s = c .before .before .before .before .args .t1 in
-    let l : SFits w32 (lo s) = sfits-of (c .before .before .before .l .given) in
+    let p : tie.After-l = search in
+    let s = p .before .args .t1 in
+    let l : SFits w32 (lo s) = sfits-of (p .l .given) in
     let h : SFits w32 (hi s) = sfits-of (c .before .before .h .given) in
     simp (c .both2 .ensures, c .before .both .ensures, toZ-ofZ l, toZ-ofZ h) (sym (valid-axis-test s))
 
