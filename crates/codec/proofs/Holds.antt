@@ -1,4 +1,14 @@
 -- A list holds another one from an index on: what was written there, and what is read there. Assumes nothing.
+--
+--   Holds                                   that s has vs from index i on
+--   holds-over, holds-self                  what was written; a list holds itself
+--   holds-all, holds-front, over-all        a list that holds one of its own length, or starts with it
+--   holds-part, part-holds                  from a list to a part of it, and back
+--   holds-at, holds-run                     the same index, the same elements
+--   holds-cons, holds-head, holds-tail      one element and the rest
+--   holds-append, holds-left, holds-right   one run after another
+--   holds-joined, holds-each                n parts of one width
+--   zeros-held, held-zeros                  zeros
 use Prim.Native.Nat.{ℕ, zero, suc, _+_, _*_, _-_, _<_, _≤_}
 use mathlib.Core.Bool.{true}
 use mathlib.Core.List.{List, _∷_, _++_}

@@ -1,4 +1,7 @@
 -- The bytes of a number, "little-endian" (document 01, "Blocks").
+--
+--   bytes, bytes16, bytes32   of an unsigned number: k bytes, 2, 4
+--   bits, bytesSigned         of a signed one, by its 32 bits
 use Prim.Native.Nat.{ℕ, zero, suc, _-_, _/_, _%_}
 use mathlib.Core.List.{List, [], _∷_}
 use lib.IntN.{ℤ, pos, negsuc}

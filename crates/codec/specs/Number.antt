@@ -1,4 +1,9 @@
 -- Numbers at a position of a list of bytes, "little-endian" (document 01, "Blocks").
+--
+--   Bytes                           a list of bytes
+--   limit16, limit32, limitSigned   what numbers of these widths are below
+--   u16At, u32At, i32At             the number at an index
+--   signed                          bits read as a signed number
 use Prim.Native.Nat.{ℕ, _+_, _*_, _-_, _<_}
 use mathlib.Core.Bool.{cond}
 use mathlib.Core.List.{List}

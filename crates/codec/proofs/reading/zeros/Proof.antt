@@ -22,7 +22,7 @@ shared-slice-read-if1 c = search needs
 
 returns : tie.Need-returns Inv-loop μ-loop
 returns c =
-    let l = c .before .before .before in
+    let l : tie.At-loop Inv-loop μ-loop = search in
     let a = l .before .args in
     sym (zeros-fail (a .s .now) (a .from) (a .to) (l .loop .i) (search needs) (search needs) (c .if1 .taken))
 
@@ -33,7 +33,9 @@ loop-less : tie.Need-loop-less Inv-loop μ-loop
 loop-less c = search needs
 
 loop-again : tie.Need-loop-again Inv-loop μ-loop
-loop-again c = (search needs, below-more _ _ (c .before .before .before .loop .inv .1) (λ h. c .if1 .left))
+loop-again c =
+    let l : tie.At-loop Inv-loop μ-loop = search in
+    (search needs, below-more _ _ (l .loop .inv .1) (λ h. c .if1 .left))
 
 returns-2 : tie.Need-returns-2 Inv-loop μ-loop
 returns-2 c =

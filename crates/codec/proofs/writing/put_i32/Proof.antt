@@ -18,11 +18,10 @@ same-length c = search needs
 returns : tie.Need-returns
 unfolding bytesSigned
 returns c =
-    let c₁ = c .before .before .before .before .before .before in
-    let a = c₁ .args in
-    let e = c .before .before .before .bits .ensures in
-    c .before .before .put-u32 .ensures ∙ ap (λ n. over (a .d .now) (a .at) (bytes32 n)) (e
-    ∙ ap bits (toZ-ofZ (c₁ .fits .x)))
+    let s : tie.Start = search in
+    let b : tie.After-bits = search in
+    c .before .before .put-u32 .ensures
+    ∙ ap (λ n. over (s .args .d .now) (s .args .at) (bytes32 n)) (b .bits .ensures ∙ ap bits (toZ-ofZ (s .fits .x)))
 
 pub put-i32-spec : {M : Type 1} → statement M
 put-i32-spec = tie.close (tie.spec bits-requires put-u32-requires same-length returns)

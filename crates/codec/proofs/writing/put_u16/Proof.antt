@@ -28,9 +28,10 @@ same-length c = search needs
 returns : tie.Need-returns
 unfolding bytes bytes16
 returns c =
-    let c₁ = c .before .before .before .before .before .before in
-    let a = c₁ .before .before .before .args in
-    also (a .d .now) (a .at) (a .at + 1) (a .n % 256 ∷ []) (a .n / 256 % 256 ∷ []) (c₁ .put-u8 .ensures)
+    let s : tie.Start = search in
+    let w : tie.After-put-u8 = search in
+    let a = s .args in
+    also (a .d .now) (a .at) (a .at + 1) (a .n % 256 ∷ []) (a .n / 256 % 256 ∷ []) (w .put-u8 .ensures)
     (c .before .before .put-u82 .ensures) refl
 
 pub put-u16-spec : {M : Type 1} → statement M

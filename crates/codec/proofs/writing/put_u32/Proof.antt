@@ -46,17 +46,18 @@ same-length c = search needs
 returns : tie.Need-returns
 unfolding bytes bytes32
 returns c =
-    let c₁ = c .before .before .before .before .before .before in
-    let c₂ = c₁ .before .before .before .before in
-    let c₃ = c₂ .before .before .before .before in
-    let a = c₃ .before .before .before .args in
+    let s : tie.Start = search in
+    let c₁ : tie.After-put-u8 = search in
+    let c₂ : tie.After-put-u82 = search in
+    let c₃ : tie.After-put-u83 = search in
+    let a = s .args in
     let n = a .n in
     let x = n % 256 ∷ [] in
     let y = n / 256 % 256 ∷ [] in
     let z = n / 256 / 256 % 256 ∷ [] in
     let w = n / 256 / 256 / 256 % 256 ∷ [] in
-    let e = also (a .d .now) (a .at) (a .at + 1) x y (c₃ .put-u8 .ensures) (c₂ .put-u82 .ensures) refl in
-    let g = also (a .d .now) (a .at) (a .at + 2) (x ++ y) z e (c₁ .put-u83 .ensures) refl in
+    let e = also (a .d .now) (a .at) (a .at + 1) x y (c₁ .put-u8 .ensures) (c₂ .put-u82 .ensures) refl in
+    let g = also (a .d .now) (a .at) (a .at + 2) (x ++ y) z e (c₃ .put-u83 .ensures) refl in
     also (a .d .now) (a .at) (a .at + 3) (x ++ y ++ z) w g (c .before .before .put-u84 .ensures) refl
 
 pub put-u32-spec : {M : Type 1} → statement M
