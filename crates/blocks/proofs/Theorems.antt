@@ -1,4 +1,8 @@
--- The theorems of this crate for the reader. Assumes nothing.
+-- The theorems of this crate for the reader. The call is `directory::read_directory`, its definition `directory`
+-- (specs/Directory). What it accepts: `directory-exactly` (`GoodDirectory`, specs/Accepted), `entry-of-accepted`. What
+-- it depends on: `directory-depends`, `entry-depends`, `same-directory` (`SameDirectory`, specs/Same). Of the check
+-- `checksum::agrees`, definition `checkAgrees` (specs/Checksum): `stored-255`. f and g are files, h a header, t a tile.
+-- Assumes nothing.
 use Prim.Native.Nat.{ℕ, min, _+_, _-_, _*_, _/_, _<_, _≤_}
 use mathlib.Core.Bool.{true}
 use mathlib.Core.List.{List}

@@ -1,5 +1,9 @@
 -- What acceptance of a directory block and of a directory shows of the bytes. The theorems say that it shows exactly
 -- this.
+--
+--   GoodHead, GoodDirectoryBlock   of a block: its head, and all of it
+--   GoodTiles, GoodLength          of T, of a file's length
+--   GoodDirectory                  of a file
 use Prim.Native.Nat.{ℕ, _+_, _/_, _%_, _<_, _≤_}
 use mathlib.Core.Bool.{true}
 use mathlib.Core.List.{List}

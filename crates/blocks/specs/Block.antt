@@ -1,4 +1,8 @@
 -- The blocks of a file, and the tests that both kinds of block have in common (document 01, "Blocks").
+--
+--   blockAt                           a block of a file
+--   positionIn, entriesIn, headerIn   the fields of its head
+--   kindDue, blockHead                test 4; tests 2 to 5 in order
 use Prim.Native.Nat.{ℕ, _*_}
 use mathlib.Core.Bool.{Bool}
 use mathlib.Core.List.{List}

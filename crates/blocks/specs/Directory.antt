@@ -1,4 +1,14 @@
 -- The directory (document 01, "Blocks" and "Numbers given to bad input").
+--
+--   directoryBlocks, entriesDue        d, and the entries of each directory block
+--   entryOffset, entryNumber           where an entry starts, and a number of its box
+--   entryBox, entryCount, entryZero    an entry: box, count, and whether its last bytes are zero
+--   tilesDue, directoryPadding         tests 6 and 8
+--   validEntry, entryValid             test 9 of one entry: of box and count, of its bytes
+--   directoryBlock, directoryBlockAt   all tests of a directory block: of its bytes, of a file
+--   lengthDue                          test 1
+--   directoryRest, directory           what reading comes to: after block 0, from the start
+--   boxAt, countAt                     box and count of a tile
 use Prim.Native.Nat.{ℕ, min, _+_, _*_, _-_, _/_, _%_}
 use mathlib.Core.Bool.{Bool, _&&_}
 use mathlib.Core.List.{List, [], _∷_}

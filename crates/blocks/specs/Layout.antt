@@ -1,4 +1,14 @@
 -- The numbers of the house layout (document 01, "Blocks"), each under one name.
+--
+--   blockSize, maxLength                bytes of a block, and of the longest file
+--   syncByte, directoryKind, tileKind   what bytes 0 and 1 hold
+--   kindAt .. checkAt                   where each field of a block starts
+--   payloadSize                         room for entries or sites
+--   axes                                of a town
+--   entrySize, numberOffset, countOffset, zeroOffset   an entry, and where its fields start
+--   siteSize, cueOffset                 a site, and where its cue starts
+--   entriesPerBlock, maxSites           how many of them a block holds
+--   maxTiles                            the largest T
 use Prim.Native.Nat.{ℕ, _+_, _*_, _/_}
 
 -- "512 bytes"

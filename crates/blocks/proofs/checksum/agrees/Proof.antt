@@ -26,12 +26,10 @@ both-requires c κs = search needs
 
 returns : tie.Need-returns
 unfolding checkAgrees
-returns c = simp (
-  c .both .ensures,
-  c .before .wide2 .ensures .0,
-  c .before .before .before .wide .ensures .0,
-  c .before .before .before .before .before .sums-of .ensures,
-)
+returns c =
+    let t : tie.After-sums-of = search in
+    let w : tie.After-wide = search in
+    simp (c .both .ensures, c .before .wide2 .ensures .0, w .wide .ensures .0, t .sums-of .ensures)
 
 pub agrees-spec : {M : Type 1} → statement M
 agrees-spec = tie.close (tie.spec sums-of-requires shared-slice-read-wide wide-requires add-wide

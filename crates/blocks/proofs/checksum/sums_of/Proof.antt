@@ -39,7 +39,7 @@ loop-less c = search needs
 
 loop-again : tie.Need-loop-again Inv-loop μ-loop
 loop-again c =
-    let at = c .before .before .before in (
+    let at : tie.At-loop Inv-loop μ-loop = search in (
       search needs,
       search needs,
       search needs,

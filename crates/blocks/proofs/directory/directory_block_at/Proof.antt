@@ -12,7 +12,7 @@ directory-block-requires c κs = search needs
 
 returns : tie.Need-returns
 unfolding directoryBlockAt
-returns c = c .directory-block .ensures ∙ rw (c .before .block-at .ensures .0, c .before .before .before .pre .2)
+returns c = let s : tie.Start = search in c .directory-block .ensures ∙ rw (c .before .block-at .ensures .0, s .pre .2)
 
 pub directory-block-at-spec : {M : Type 1} → statement M
 directory-block-at-spec = tie.close (tie.spec block-at-requires directory-block-requires returns)

@@ -23,14 +23,16 @@ both-requires-2 c κs = search needs
 
 returns : tie.Need-returns
 unfolding directoryPadding
-returns c = simp (
-  c .both2 .ensures,
-  c .before .zeros2 .ensures,
-  c .before .before .both .ensures,
-  c .before .before .before .entries-zero .ensures,
-  c .before .before .before .before .zeros .ensures,
-  c .before .before .before .before .before .entry-offset .ensures .0,
-)
+returns c =
+    let z : tie.After-entries-zero = search in
+    simp (
+      c .both2 .ensures,
+      c .before .zeros2 .ensures,
+      c .before .before .both .ensures,
+      z .entries-zero .ensures,
+      z .before .zeros .ensures,
+      z .before .before .entry-offset .ensures .0,
+    )
 
 pub directory-padding-spec : {M : Type 1} → statement M
 directory-padding-spec = tie.close (tie.spec entry-offset-requires zeros-requires entries-zero-requires both-requires

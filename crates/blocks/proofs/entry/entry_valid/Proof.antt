@@ -17,12 +17,10 @@ both-requires c κs = search needs
 
 returns : tie.Need-returns
 unfolding entryValid
-returns c = simp (
-  c .both .ensures,
-  c .before .entry-count .ensures,
-  c .before .before .valid-box .ensures,
-  c .before .before .before .entry-box .ensures,
-)
+returns c =
+    let b : tie.After-entry-box = search in
+    let v : tie.After-valid-box = search in
+    simp (c .both .ensures, c .before .entry-count .ensures, v .valid-box .ensures, b .entry-box .ensures)
 
 pub entry-valid-spec : {M : Type 1} → statement M
 entry-valid-spec =
