@@ -1,4 +1,8 @@
--- The theorems of this crate for the reader. Assumes nothing.
+-- The theorems of this crate for the reader. The call is `validate::validate`, its definition `validate`
+-- (specs/Validate), its theorem `validate-exactly` (`GoodFile`, specs/Accepted). The call inside it is
+-- `tile::open_tile`, its definition `openTile` (specs/Tile). What it accepts and gives: `opening-exactly` (`GoodTile`,
+-- specs/Accepted), `opened-count`, `opened-inside`, `opening-refused`; what it depends on: `opening-depends`. f and g
+-- are files, h a header, t a tile. Assumes nothing.
 use Prim.Native.Nat.{ℕ, _<_}
 use mathlib.Core.Bool.{true}
 use mathlib.Core.List.{List}

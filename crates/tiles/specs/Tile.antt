@@ -1,4 +1,10 @@
 -- The opening of a tile, and its sites (document 01, "Blocks" and "Numbers given to bad input").
+--
+--   siteOffset, siteIn, sitePoint   a slot of a block: where it starts, its site, that site's point
+--   tilePadding, siteInside         tests 8 and 10
+--   tileBlock, openTile             all tests of a tile block: of its bytes, of a file
+--   tilePosition                    the position of a tile's block
+--   siteAt, sitesAt                 the sites of a tile: by slot, all
 use Prim.Native.Nat.{ℕ, _+_, _*_}
 use mathlib.Core.Bool.{Bool, _&&_}
 use mathlib.Core.List.{List, [], _∷_}

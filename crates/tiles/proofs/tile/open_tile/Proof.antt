@@ -19,20 +19,21 @@ block-at-requires c κs = search needs
 
 tile-block-requires : tie.Need-tile-block-requires
 tile-block-requires c κs =
-    let s = c .before .before .before .before .before in (
+    let s : tie.Start = search in
+    let p : tie.After-tile-position = search in (
       c .block-at .ensures .1,
-      c .before .before .before .tile-position .ensures .1,
+      p .tile-position .ensures .1,
       rw (c .before .count-at .ensures) (count-small (directory-good _ (s .pre .0)) (s .args .t) (s .pre .1)),
     )
 
 returns : tie.Need-returns
 unfolding openTile
-returns c = c .tile-block .ensures ∙ rw (
-  c .before .block-at .ensures .0,
-  c .before .before .count-at .ensures,
-  c .before .before .before .box-at .ensures,
-  c .before .before .before .before .tile-position .ensures .0,
-)
+returns c =
+    let p : tie.After-tile-position = search in
+    let b : tie.After-box-at = search in
+    let n : tie.After-count-at = search in
+    let s = c .before .block-at .ensures .0 in
+    c .tile-block .ensures ∙ rw (s, n .count-at .ensures, b .box-at .ensures, p .tile-position .ensures .0)
 
 pub open-tile-spec : {M : Type 1} → statement M
 open-tile-spec = tie.close (tie.spec tile-position-requires box-at-requires count-at-requires block-at-requires

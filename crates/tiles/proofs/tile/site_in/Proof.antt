@@ -25,17 +25,11 @@ u32-at-requires c κs = search needs
 returns : tie.Need-returns
 unfolding siteIn
 returns c =
+    let o : tie.After-site-offset = search in
     let y = c .before .i32-at2 in
     let x = c .before .before .i32-at in
-    simp (
-      local-i32 (x .result) (x .ok),
-      local-i32 (y .result) (y .ok),
-    ) (simp (
-      x .ensures,
-      y .ensures,
-      c .u32-at .ensures,
-      c .before .before .before .site-offset .ensures .0,
-    ))
+    simp (local-i32 (x .result) (x .ok), local-i32 (y .result) (y .ok))
+    (simp (x .ensures, y .ensures, c .u32-at .ensures, o .site-offset .ensures .0))
 
 pub site-in-spec : {M : Type 1} → statement M
 site-in-spec = tie.close (tie.spec site-offset-requires i32-at-requires add-i32-at i32-at-requires-2 add-u32-at

@@ -13,13 +13,11 @@ inside-requires c κs = search needs
 returns : tie.Need-returns
 unfolding siteInside
 returns c =
-    let r = c .before .before .before .site-in in
+    let i : tie.After-site-in = search in
+    let r = i .site-in in
     let told = c .before .before .struct-told .given in
-    simp (
-      c .inside .ensures,
-      local-i32 (r .result .x) (told .0 .1),
-      local-i32 (r .result .y) (told .1 .0 .1),
-    ) (simp (r .ensures))
+    simp (c .inside .ensures, local-i32 (r .result .x) (told .0 .1), local-i32 (r .result .y) (told .1 .0 .1))
+    (simp (r .ensures))
 
 pub site-inside-spec : {M : Type 1} → statement M
 site-inside-spec = tie.close (tie.spec site-in-requires inside-requires returns)

@@ -24,7 +24,7 @@ site-inside-requires c κs = search needs
 
 returns : tie.Need-returns Inv-loop μ-loop
 returns c =
-    let l = c .before .before .before in
+    let l : tie.At-loop Inv-loop μ-loop = search in
     let a = l .before .before .args in
     sym (every-fails (siteInside (a .bounds) (a .s .now)) (a .n) (l .loop .i) (search needs)
     (failed (c .before .site-inside .ensures) (c .if1 .taken)))
@@ -37,7 +37,8 @@ loop-less c = search needs
 
 loop-again : tie.Need-loop-again Inv-loop μ-loop
 loop-again c =
-    below-more _ _ (c .before .before .before .loop .inv) (passed (c .before .site-inside .ensures) (c .if1 .left))
+    let l : tie.At-loop Inv-loop μ-loop = search in
+    below-more _ _ (l .loop .inv) (passed (c .before .site-inside .ensures) (c .if1 .left))
 
 returns-2 : tie.Need-returns-2 Inv-loop μ-loop
 returns-2 c =

@@ -13,17 +13,15 @@ use Rattle.tiles.proofs.tile.tile_block.Tie as tie
 
 -- what each test that passed has shown
 passed-head : (c : tie.Else1) →
-    let a = c .before .before .before .args in blockHead tileKind (a .s .now) (a .p) ≡ accepted tt
+    let s : tie.Start = search in blockHead tileKind (s .args .s .now) (s .args .p) ≡ accepted tt
 passed-head c = number-accepted _ _ (c .before .head-number .ensures) (c .if1 .left)
 
 passed-entries : (c : tie.Else2) →
-    let a = c .before .before .before .before .before .args in
-    eqb (entriesIn (a .s .now)) (a .count) ≡ true
+    let s : tie.Start = search in eqb (entriesIn (s .args .s .now)) (s .args .count) ≡ true
 passed-entries c = equal (c .before .u16-at .ensures .0) refl (c .if2 .left)
 
 passed-padding : (c : tie.Else3) →
-    let a = c .before .before .before .before .before .before .before .args in
-    tilePadding (a .s .now) (a .count) ≡ true
+    let s : tie.Start = search in tilePadding (s .args .s .now) (s .args .count) ≡ true
 passed-padding c = passed (c .before .tile-padding .ensures) (c .if3 .left)
 
 head-number-requires : tie.Need-head-number-requires
@@ -34,8 +32,9 @@ refused-requires c κs = search needs
 
 returns : tie.Need-returns
 unfolding tileBlock
-returns c = c .refused .ensures ∙ sym
-    (rw (number-refused _ _ (c .before .before .head-number .ensures) (c .before .if1 .taken)))
+returns c =
+    let t : tie.Then1 = search in
+    c .refused .ensures ∙ sym (rw (number-refused _ _ (t .before .head-number .ensures) (t .if1 .taken)))
 
 u16-at-requires : tie.Need-u16-at-requires
 u16-at-requires c κs = search needs
@@ -46,11 +45,8 @@ refused-requires-2 c κs = search needs
 returns-2 : tie.Need-returns-2
 unfolding tileBlock
 returns-2 c =
-    let t1 = c .before .before .before in
-    c .refused2 .ensures ∙ sym (rw (
-      passed-head t1,
-      unequal (c .before .before .u16-at .ensures .0) refl (c .before .if2 .taken),
-    ))
+    let t : tie.Then2 = search in
+    c .refused2 .ensures ∙ sym (rw (passed-head search, unequal (t .before .u16-at .ensures .0) refl (t .if2 .taken)))
 
 tile-padding-requires : tie.Need-tile-padding-requires
 tile-padding-requires c κs = search needs
@@ -61,13 +57,9 @@ refused-requires-3 c κs = search needs
 returns-3 : tie.Need-returns-3
 unfolding tileBlock
 returns-3 c =
-    let t2 = c .before .before .before in
-    let t1 = t2 .before .before in
-    c .refused3 .ensures ∙ sym (rw (
-      passed-head t1,
-      passed-entries t2,
-      failed (c .before .before .tile-padding .ensures) (c .before .if3 .taken),
-    ))
+    let t : tie.Then3 = search in
+    let f = failed (t .before .tile-padding .ensures) (t .if3 .taken) in
+    c .refused3 .ensures ∙ sym (rw (passed-head search, passed-entries search, f))
 
 sites-inside-requires : tie.Need-sites-inside-requires
 sites-inside-requires c κs = search needs
@@ -78,28 +70,15 @@ refused-requires-4 c κs = search needs
 returns-4 : tie.Need-returns-4
 unfolding tileBlock
 returns-4 c =
-    let t3 = c .before .before .before in
-    let t2 = t3 .before .before in
-    let t1 = t2 .before .before in
-    c .refused4 .ensures ∙ sym (rw (
-      passed-head t1,
-      passed-entries t2,
-      passed-padding t3,
-      failed (c .before .before .sites-inside .ensures) (c .before .if4 .taken),
-    ))
+    let t : tie.Then4 = search in
+    let f = failed (t .before .sites-inside .ensures) (t .if4 .taken) in
+    c .refused4 .ensures ∙ sym (rw (passed-head search, passed-entries search, passed-padding search, f))
 
 returns-5 : tie.Need-returns-5
 unfolding tileBlock
 returns-5 c =
-    let t3 = c .before .before in
-    let t2 = t3 .before .before in
-    let t1 = t2 .before .before in
-    sym (rw (
-      passed-head t1,
-      passed-entries t2,
-      passed-padding t3,
-      passed (c .before .sites-inside .ensures) (c .if4 .left),
-    ))
+    let p = passed (c .before .sites-inside .ensures) (c .if4 .left) in
+    sym (rw (passed-head search, passed-entries search, passed-padding search, p))
 
 pub tile-block-spec : {M : Type 1} → statement M
 tile-block-spec = tie.close (tie.spec head-number-requires refused-requires returns u16-at-requires refused-requires-2

@@ -17,12 +17,10 @@ both-requires c κs = search needs
 
 returns : tie.Need-returns
 unfolding tilePadding
-returns c = simp (
-  c .both .ensures,
-  c .before .zeros2 .ensures,
-  c .before .before .zeros .ensures,
-  c .before .before .before .site-offset .ensures .0,
-)
+returns c =
+    let o : tie.After-site-offset = search in
+    let z : tie.After-zeros = search in
+    simp (c .both .ensures, c .before .zeros2 .ensures, z .zeros .ensures, o .site-offset .ensures .0)
 
 pub tile-padding-spec : {M : Type 1} → statement M
 tile-padding-spec =
