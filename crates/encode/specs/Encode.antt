@@ -1,4 +1,11 @@
 -- The bytes of a file (document 01, "Blocks").
+--
+--   headBytes, bodyBytes, checkBytes   of a block: bytes 0 to 7, 0 to 509, the last two
+--   blockBytes                         a block
+--   boxBytes, entryBytes, siteBytes    a box, an entry, a site
+--   directoryBytes                     a directory block
+--   tileBytes, tileBytesOf             a tile block: of a run of sites, of a tile
+--   fileBytes, fileLength              the file, and its length
 use Prim.Native.Nat.{ℕ, _+_, _*_, _-_}
 use mathlib.Core.List.{List, [], _∷_, _++_}
 use lib.IntN.{ℤ, pos}

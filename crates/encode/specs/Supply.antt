@@ -1,5 +1,11 @@
 -- The writer's lists (document 01, "Writer, full check, host, program"): "boxes, counts, and x, y, cue lists in tile
 -- order"; the spots are columns, a list of coordinates for each axis.
+--
+--   Supply, supply                    the lists as one value
+--   headerOf, tilesOf                 T, as a header and as a number
+--   numbersPerBox, boxNumber, boxOf   the boxes: how many numbers each, one of them, a box
+--   countOf, offset, siteTotal        the sites: of a tile, of all tiles before it, of all
+--   suppliedSite, siteOf              a site by its index, by tile and slot
 use Prim.Native.Nat.{ℕ, zero, suc, _+_, _*_}
 use mathlib.Core.List.{List, [], _∷_}
 use lib.IntN.{ℤ, pos}

@@ -71,21 +71,19 @@ same-length c = search needs
 
 returns : tie.Need-returns
 returns c =
-    let c₁ = c .before .before .before .before .before .before .before in
-    let c₂ = c₁ .before in
-    let c₃ = c₂ .before .before .before .before in
-    let c₄ = c₃ .before in
-    let c₅ = c₄ .before .before .before .before in
-    let c₆ = c₅ .before in
-    let a = c₆ .before .before .before .args in
+    let s : tie.Start = search in
+    let c₁ : tie.After-put-i32 = search in
+    let c₂ : tie.After-put-i322 = search in
+    let c₃ : tie.After-put-i323 = search in
+    let c₄ : tie.After-put-i324 = search in
+    let a = s .args in
     let z : ℕ → ℤ = λ i. getD (a .boxes .now) i (pos 0) in
     let b = numbersPerBox * a .t in
     box-row (a .d .now) (a .at) (a .boxes .now) (a .t)
-    (rw (add-zero b) (simp (local-i32 (z b) (c₆ .put-i32-arg2 .given)) at (c₅ .put-i32 .ensures)))
-    (simp (local-i32 (z (b + 1)) (c₄ .put-i32-arg4 .given)) at (c₃ .put-i322 .ensures))
-    (simp (local-i32 (z (b + 2)) (c₂ .put-i32-arg6 .given)) at (c₁ .put-i323 .ensures))
-    (simp (local-i32 (z (b + 3)) (c .before .before .before .put-i32-arg8 .given))
-    at (c .before .before .put-i324 .ensures))
+    (rw (add-zero b) (simp (local-i32 (z b) (c₁ .before .put-i32-arg2 .given)) at (c₁ .put-i32 .ensures)))
+    (simp (local-i32 (z (b + 1)) (c₂ .before .put-i32-arg4 .given)) at (c₂ .put-i322 .ensures))
+    (simp (local-i32 (z (b + 2)) (c₃ .before .put-i32-arg6 .given)) at (c₃ .put-i323 .ensures))
+    (simp (local-i32 (z (b + 3)) (c₄ .before .put-i32-arg8 .given)) at (c₄ .put-i324 .ensures))
 
 pub put-box-spec : {M : Type 1} → statement M
 put-box-spec = tie.close (tie.spec mul-b mul-put-i32 shared-slice-copy-out-put-i32 put-i32-requires add-put-i32

@@ -42,8 +42,9 @@ loop-less c = search needs
 
 loop-again : tie.Need-loop-again Inv-loop μ-loop
 loop-again c =
-    let l = c .before .before .before .before .before in
-    let a = l .before .before .before .args in
+    let l : tie.At-loop Inv-loop μ-loop = search in
+    let s : tie.Start Inv-loop μ-loop = search in
+    let a = s .args in
     let p = c .before .before .put-entry in
     let k : length (p .last .0) ≡ length (l .loop .d) = p .kept .0 in (
       omega (arith, k, l .loop .inv),
@@ -51,10 +52,9 @@ loop-again c =
       search needs,
       search needs,
       joined-turn (entryBytes (a .boxes .now) (a .counts .now)) (l .loop .d) (l .loop .at)
-          (l .loop .at + entrySize axes)
-          (l .loop .t) (l .loop .left)
-          (search needs) (p .ensures) (ap (λ w. l .loop .at + w)
-          (sym (length-entry (a .boxes .now) (a .counts .now) (l .loop .t)))) ∙ l .loop .inv .4,
+          (l .loop .at + entrySize axes) (l .loop .t) (l .loop .left) (search needs) (p .ensures)
+          (ap (λ w. l .loop .at + w) (sym (length-entry (a .boxes .now) (a .counts .now) (l .loop .t))))
+          ∙ l .loop .inv .4,
     )
 
 same-length : tie.Need-same-length Inv-loop μ-loop
@@ -63,7 +63,8 @@ same-length c = search needs
 returns : tie.Need-returns Inv-loop μ-loop
 returns c =
     let l = c .before in
-    let a = l .before .before .before .args in
+    let s : tie.Start Inv-loop μ-loop = search in
+    let a = s .args in
     joined-end (entryBytes (a .boxes .now) (a .counts .now)) (l .loop .d) (l .loop .at) (l .loop .t) (l .loop .left)
     (search needs) ∙ l .loop .inv .4
 

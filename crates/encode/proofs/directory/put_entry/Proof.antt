@@ -40,13 +40,13 @@ same-length c = search needs
 
 returns : tie.Need-returns
 returns c =
-    let c₁ = c .before .before .before .before .before .before in
-    let c₂ = c₁ .before in
-    let c₃ = c₂ .before .before .before .before .before in
-    let a = c₃ .before .before .before .before .args in
-    entry-row (a .d .now) (a .at) (a .boxes .now) (a .counts .now) (a .t) (c₃ .put-box .ensures)
-    (c₁ .put-u16 .ensures ∙ ap (λ n. over (c₃ .put-box .last .0) (a .at + countOffset axes) (bytes16 n))
-    (c₂ .wide .ensures .0))
+    let s : tie.Start = search in
+    let b : tie.After-put-box = search in
+    let n : tie.After-put-u16 = search in
+    let a = s .args in
+    entry-row (a .d .now) (a .at) (a .boxes .now) (a .counts .now) (a .t) (b .put-box .ensures)
+    (n .put-u16 .ensures ∙ ap (λ n. over (b .put-box .last .0) (a .at + countOffset axes) (bytes16 n))
+    (n .before .wide .ensures .0))
     (c .before .before .put-zeros .ensures)
 
 pub put-entry-spec : {M : Type 1} → statement M

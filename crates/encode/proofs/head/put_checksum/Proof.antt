@@ -27,9 +27,7 @@ add-put-u8 : tie.Need-add-put-u8
 add-put-u8 c = search needs
 
 low-requires : tie.Need-low-requires
-low-requires c κs =
-    let s = c .before .sums-of in
-    rw (s .ensures) (sums-byte _ .0)
+low-requires c κs = rw (c .before .sums-of .ensures) (sums-byte _ .0)
 
 put-u8-requires : tie.Need-put-u8-requires
 put-u8-requires c κs = search needs
@@ -41,9 +39,7 @@ add-put-u8-3 : tie.Need-add-put-u8-3
 add-put-u8-3 c = search needs
 
 low-requires-2 : tie.Need-low-requires-2
-low-requires-2 c κs =
-    let s = c .before .before .before .before .before .before .sums-of in
-    rw (s .ensures) (sums-byte _ .1)
+low-requires-2 c κs = let t : tie.After-sums-of = search in rw (t .sums-of .ensures) (sums-byte _ .1)
 
 put-u8-requires-2 : tie.Need-put-u8-requires-2
 put-u8-requires-2 c κs = search needs
@@ -53,16 +49,15 @@ same-length c = search needs
 
 returns : tie.Need-returns
 returns c =
-    let c₁ = c .before .before .before .before .before .before .before in
-    let c₂ = c₁ .before in
-    let c₃ = c₂ .before .before in
-    let a = c₃ .before .before .before .before .args in
-    let s = c₃ .sums-of in
-    let e = lent (a .d .now) (a .at) (s .result) (s .ensures) in
+    let s : tie.Start = search in
+    let t : tie.After-sums-of = search in
+    let x : tie.After-put-u8 = search in
+    let y : tie.After-put-u82 = search in
+    let a = s .args in
+    let e = lent (a .d .now) (a .at) (t .sums-of .result) (t .sums-of .ensures) in
     check-row (a .d .now) (a .at + checkAt) (take blockSize (drop (a .at) (a .d .now)))
-    (c₂ .low .ensures ∙ ap (λ (x : Sums). x .a) e) (c .before .before .before .low2 .ensures
-    ∙ ap (λ (x : Sums). x .c) e)
-    (c₁ .put-u8 .ensures) (c .before .before .put-u82 .ensures)
+    (x .before .low .ensures ∙ ap (λ (q : Sums). q .a) e) (y .before .low2 .ensures ∙ ap (λ (q : Sums). q .c) e)
+    (x .put-u8 .ensures) (y .put-u82 .ensures)
 
 pub put-checksum-spec : {M : Type 1} → statement M
 put-checksum-spec = tie.close (tie.spec add-end sub-sums-of part-sums-of-start part-sums-of-end sums-of-requires

@@ -35,13 +35,14 @@ same-length c = search needs
 
 returns : tie.Need-returns
 returns c =
-    let c₁ = c .before .before .before .before .before .before in
-    let c₂ = c₁ .before .before .before .before in
-    let c₃ = c₂ .before .before .before .before in
-    let c₄ = c₃ .before .before .before .before in
-    let a = c₄ .before .before .before .args in
-    head-row (a .d .now) (a .at) (a .kind) (a .p) (a .n) (a .t) (c₄ .put-u8 .ensures) (c₃ .put-u82 .ensures)
-    (c₂ .put-u16 .ensures) (c₁ .put-u162 .ensures) (c .before .before .put-u163 .ensures)
+    let s : tie.Start = search in
+    let c₁ : tie.After-put-u8 = search in
+    let c₂ : tie.After-put-u82 = search in
+    let c₃ : tie.After-put-u16 = search in
+    let c₄ : tie.After-put-u162 = search in
+    let a = s .args in
+    head-row (a .d .now) (a .at) (a .kind) (a .p) (a .n) (a .t) (c₁ .put-u8 .ensures) (c₂ .put-u82 .ensures)
+    (c₃ .put-u16 .ensures) (c₄ .put-u162 .ensures) (c .before .before .put-u163 .ensures)
 
 pub put-head-spec : {M : Type 1} → statement M
 put-head-spec = tie.close (tie.spec put-u8-requires add-put-u8 put-u8-requires-2 add-put-u16 put-u16-requires

@@ -44,14 +44,13 @@ same-length c = search needs
 
 returns : tie.Need-returns
 returns c =
-    let c₁ = c .before .before .before .before .before .before .before in
-    let c₂ = c₁ .before in
-    let c₃ = c₂ .before .before .before .before in
-    let c₄ = c₃ .before in
-    let a = c₄ .before .before .before .before .args in
+    let s : tie.Start = search in
+    let x : tie.After-put-i32 = search in
+    let y : tie.After-put-i322 = search in
+    let a = s .args in
     site-row (a .d .now) (a .at) (a .xs .now) (a .ys .now) (a .cues .now) (a .i)
-    (simp (local-i32 (getD (a .xs .now) (a .i) (pos 0)) (c₄ .put-i32-arg2 .given)) at (c₃ .put-i32 .ensures))
-    (simp (local-i32 (getD (a .ys .now) (a .i) (pos 0)) (c₂ .put-i32-arg4 .given)) at (c₁ .put-i322 .ensures))
+    (simp (local-i32 (getD (a .xs .now) (a .i) (pos 0)) (x .before .put-i32-arg2 .given)) at (x .put-i32 .ensures))
+    (simp (local-i32 (getD (a .ys .now) (a .i) (pos 0)) (y .before .put-i32-arg4 .given)) at (y .put-i322 .ensures))
     (c .before .before .put-u32 .ensures)
 
 pub put-site-spec : {M : Type 1} → statement M

@@ -43,8 +43,9 @@ loop-less c = search needs
 
 loop-again : tie.Need-loop-again Inv-loop μ-loop
 loop-again c =
-    let l = c .before .before .before .before .before in
-    let a = l .before .before .before .args in
+    let l : tie.At-loop Inv-loop μ-loop = search in
+    let s : tie.Start Inv-loop μ-loop = search in
+    let a = s .args in
     let p = c .before .before .put-site in
     let k : length (p .last .0) ≡ length (l .loop .d) = p .kept .0 in (
       omega (arith, k, l .loop .inv),
@@ -64,7 +65,8 @@ same-length c = search needs
 returns : tie.Need-returns Inv-loop μ-loop
 returns c =
     let l = c .before in
-    let a = l .before .before .before .args in
+    let s : tie.Start Inv-loop μ-loop = search in
+    let a = s .args in
     joined-end (siteBytes (a .xs .now ∷ a .ys .now ∷ []) (a .cues .now)) (l .loop .d) (l .loop .at) (l .loop .i)
     (l .loop .left) (search needs) ∙ l .loop .inv .5
 

@@ -51,20 +51,20 @@ same-length c = search needs
 returns : tie.Need-returns
 unfolding tileBytes
 returns c =
-    let c₁ = c .before .before .before .before .before .before in
-    let c₂ = c₁ .before .before .before .before in
-    let c₃ = c₂ .before .before .before .before in
-    let c₄ = c₃ .before .before .before .before in
-    let c₅ = c₄ .before .before in
-    let c₆ = c₅ .before .before .before in
-    let a = c₆ .args in
-    let u = c₅ .site-offset .ensures in
+    let x : tie.After-put-zeros2 = search in
+    let y : tie.After-put-sites = search in
+    let z : tie.After-put-zeros = search in
+    let hd : tie.After-put-head = search in
+    let o : tie.After-site-offset = search in
+    let s : tie.Start = search in
+    let a = s .args in
+    let u = o .site-offset .ensures in
     let g = siteBytes (a .xs .now ∷ a .ys .now ∷ []) (a .cues .now) in
     let q = length-sites (a .xs .now ∷ a .ys .now ∷ []) (a .cues .now) (a .first) (a .n) in
     block-row (a .d .now) (blockSize * a .p) (headBytes tileKind (a .p) (a .n) 0) (joined g (a .first) (a .n))
-    (c₅ .site-offset .result)
-    (length-head tileKind (a .p) (a .n) 0) (omega (arith, q, u .1)) (omega (arith, c₆ .pre, u .1)) (c₆ .pre .0)
-    (c₄ .put-head .ensures) (c₃ .put-zeros .ensures) (c₂ .put-sites .ensures) (c₁ .put-zeros2 .ensures)
+    (o .site-offset .result)
+    (length-head tileKind (a .p) (a .n) 0) (omega (arith, q, u .1)) (omega (arith, s .pre, u .1)) (s .pre .0)
+    (hd .put-head .ensures) (z .put-zeros .ensures) (y .put-sites .ensures) (x .put-zeros2 .ensures)
     (c .before .before .put-checksum .ensures)
 
 pub put-tile-spec : {M : Type 1} → statement M
