@@ -1,4 +1,7 @@
--- The theorems of this crate for the reader. Assumes nothing.
+-- The theorems of this crate for the reader. The call is `write::write`, its definitions `writeCall` and `writeExit`
+-- (specs/Write). What it accepts: `write-exactly` (`GoodSupply`, specs/Accepted); what it leaves: `written-file`,
+-- `written-passes`. Demand 2: `passes-exactly` (`Made`, specs/Made), with `read-back`, `only-town`, `different-towns`.
+-- s is the lists, f the file, h its header. Assumes nothing.
 use Prim.Native.Nat.{ℕ, _<_, _≤_}
 use mathlib.Core.List.{List, _++_}
 use mathlib.Core.Path.{_≡_, refl, sym, ap, _∙_}

@@ -1,5 +1,9 @@
 -- A file and the lists from which the writer makes it (demand 2: "A file passes the full check exactly when our writer
 -- makes it from some town").
+--
+--   Unsigned, Signed, Typed        lists that slices can hold; the lists of a call
+--   Made                           the writer makes this file from these lists
+--   boxNumbers, column, supplyOf   lists from a file: of a box, of one field, all
 use Prim.Native.Nat.{ℕ, _<_}
 use mathlib.Core.List.{List, _++_, map}
 use mathlib.Core.Path.{_≡_}

@@ -1,4 +1,10 @@
 -- The writer's call (document 01, "Writer, full check, host, program").
+--
+--   tilesFit, entryFits, listsFit   tests 6, 9 of a tile, and 15 of the site lists
+--   sitesFit, tileFits              test 10: of a run of sites, of a tile
+--   writeTests                      all tests in order
+--   writeOutcome, writeCall         what the answer comes to, and what it must
+--   leaves, writeExit               the output slice afterwards: by outcome, of the call
 use Prim.Native.Nat.{ℕ, _+_, _*_}
 use mathlib.Core.Bool.{Bool, _&&_}
 use mathlib.Core.List.{List}

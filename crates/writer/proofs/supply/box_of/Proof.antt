@@ -49,12 +49,12 @@ returns : tie.Need-returns
 unfolding boxOf tabulate
 returns c =
     let s : tie.Start = search in
-    let a = s .args in
-    let z : ℕ → ℤ = λ i. getD (a .boxes .now) i (pos 0) in
-    let b = numbersPerBox * a .t in
+    let l : tie.After-low-x = search in
+    let z : ℕ → ℤ = λ i. getD (s .args .boxes .now) i (pos 0) in
+    let b = numbersPerBox * s .args .t in
     simp (
       add-zero b,
-      local-i32 (z b) (c .before .before .before .low-x .given),
+      local-i32 (z b) (l .low-x .given),
       local-i32 (z (b + 1)) (c .before .before .low-y .given),
       local-i32 (z (b + 2)) (c .before .high-x .given),
       local-i32 (z (b + 3)) (c .high-y .given),

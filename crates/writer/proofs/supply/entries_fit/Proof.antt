@@ -25,7 +25,7 @@ entry-fits-requires c κs = search needs
 
 returns : tie.Need-returns Inv-loop μ-loop
 returns c =
-    let l = c .before .before .before in
+    let l : tie.At-loop Inv-loop μ-loop = search in
     let a = l .before .before .args in
     sym (every-fails (entryFits (a .boxes .now) (a .counts .now)) (length (a .counts .now)) (l .loop .t) (search needs)
     (failed (c .before .entry-fits .ensures) (c .if1 .taken)))
@@ -38,7 +38,8 @@ loop-less c = search needs
 
 loop-again : tie.Need-loop-again Inv-loop μ-loop
 loop-again c =
-    below-more _ _ (c .before .before .before .loop .inv) (passed (c .before .entry-fits .ensures) (c .if1 .left))
+    let l : tie.At-loop Inv-loop μ-loop = search in
+    below-more _ _ (l .loop .inv) (passed (c .before .entry-fits .ensures) (c .if1 .left))
 
 returns-2 : tie.Need-returns-2 Inv-loop μ-loop
 returns-2 c =

@@ -23,12 +23,10 @@ both-requires c κs = search needs
 
 returns : tie.Need-returns
 unfolding entryFits
-returns c = simp (
-  c .both .ensures,
-  c .before .wide .ensures .0,
-  c .before .before .before .valid-box .ensures,
-  c .before .before .before .before .box-of .ensures,
-)
+returns c =
+    let b : tie.After-box-of = search in
+    let v : tie.After-valid-box = search in
+    simp (c .both .ensures, c .before .wide .ensures .0, v .valid-box .ensures, b .box-of .ensures)
 
 pub entry-fits-spec : {M : Type 1} → statement M
 entry-fits-spec = tie.close (tie.spec box-of-requires valid-box-requires mul-wide shared-slice-read-wide wide-requires

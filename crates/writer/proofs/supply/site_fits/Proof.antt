@@ -24,12 +24,10 @@ inside-requires c κs = search needs
 returns : tie.Need-returns
 unfolding row
 returns c =
-    let a = c .before .before .before .args in
-    simp (
-      c .inside .ensures,
-      local-i32 (getD (a .xs .now) (a .i) (pos 0)) (c .before .before .x .given),
-      local-i32 (getD (a .ys .now) (a .i) (pos 0)) (c .before .y .given),
-    )
+    let s : tie.Start = search in
+    let x = local-i32 (getD (s .args .xs .now) (s .args .i) (pos 0)) (c .before .before .x .given) in
+    let y = local-i32 (getD (s .args .ys .now) (s .args .i) (pos 0)) (c .before .y .given) in
+    simp (c .inside .ensures, x, y)
 
 pub site-fits-spec : {M : Type 1} → statement M
 site-fits-spec =

@@ -31,12 +31,10 @@ site-fits-requires c κs = search needs
 returns : tie.Need-returns Inv-loop μ-loop
 unfolding sitesFit
 returns c =
-    let l = c .before .before .before in
+    let l : tie.At-loop Inv-loop μ-loop = search in
     let a = l .before .args in
     sym (every-fails (λ slot. inside (a .bounds) (row (a .xs .now ∷ a .ys .now ∷ []) (a .first + slot))) (a .n)
-    (l .loop .i)
-    (search needs)
-    (failed (c .before .site-fits .ensures) (c .if1 .taken)))
+    (l .loop .i) (search needs) (failed (c .before .site-fits .ensures) (c .if1 .taken)))
 
 add-i : tie.Need-add-i Inv-loop μ-loop
 add-i c = search needs
@@ -46,7 +44,8 @@ loop-less c = search needs
 
 loop-again : tie.Need-loop-again Inv-loop μ-loop
 loop-again c =
-    below-more _ _ (c .before .before .before .loop .inv) (passed (c .before .site-fits .ensures) (c .if1 .left))
+    let l : tie.At-loop Inv-loop μ-loop = search in
+    below-more _ _ (l .loop .inv) (passed (c .before .site-fits .ensures) (c .if1 .left))
 
 returns-2 : tie.Need-returns-2 Inv-loop μ-loop
 unfolding sitesFit

@@ -29,15 +29,11 @@ wide-requires c κs = search needs
 
 add-sum : tie.Need-add-sum Inv-loop μ-loop
 add-sum c =
-    let l = c .before .before .before in
-    let a = l .before .before .args in
-    let few = l .before .before .pre .1 in
-    omega (
-      arith,
-      offset-small (a .counts .now) (l .loop .t) (λ i h. few i (omega arith)),
-      few (l .loop .t) (search needs),
-      l .loop .inv,
-    )
+    let l : tie.At-loop Inv-loop μ-loop = search in
+    let s : tie.Start Inv-loop μ-loop = search in
+    let few = s .pre .1 in
+    let small = offset-small (s .args .counts .now) (l .loop .t) (λ i h. few i (omega arith)) in
+    omega (arith, small, few (l .loop .t) (search needs), l .loop .inv)
 
 add-t : tie.Need-add-t Inv-loop μ-loop
 add-t c = search needs
@@ -47,9 +43,9 @@ loop-less c = search needs
 
 loop-again : tie.Need-loop-again Inv-loop μ-loop
 loop-again c =
-    let l = c .before .before .before in
-    let a = l .before .before .args in
-    (omega (arith, offset-next (a .counts .now) (l .loop .t), l .loop .inv, c .wide .ensures), search needs)
+    let l : tie.At-loop Inv-loop μ-loop = search in
+    let s : tie.Start Inv-loop μ-loop = search in
+    (omega (arith, offset-next (s .args .counts .now) (l .loop .t), l .loop .inv, c .wide .ensures), search needs)
 
 returns : tie.Need-returns Inv-loop μ-loop
 returns c =

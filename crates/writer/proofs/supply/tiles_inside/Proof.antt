@@ -1,4 +1,4 @@
-use Prim.Native.Nat.{ℕ, _-_, _<_, _≤_}
+use Prim.Native.Nat.{ℕ, _+_, _-_, _<_, _≤_}
 use mathlib.Core.Bool.{true}
 use mathlib.Core.List.{[], _∷_}
 use mathlib.Core.Path.{_≡_, refl, sym, _∙_}
@@ -6,7 +6,7 @@ use native.Mathlib.Omega.{arith}
 use lib.ListN.{length}
 use borrow.Author.Count.{below-more}
 use borrow.Author.Needs.{needs}
-use Rattle.encode.specs.Supply.{offset}
+use Rattle.encode.specs.Supply.{offset, siteTotal}
 use Rattle.base.proofs.Every.{every-fails, every-holds}
 use Rattle.base.proofs.Tests.{passed, failed}
 use Rattle.encode.proofs.SupplyLaws.{offset-next, offset-within}
@@ -38,41 +38,40 @@ wide-requires c κs = search needs
 box-of-requires : tie.Need-box-of-requires Inv-loop μ-loop
 box-of-requires c κs = search needs
 
+-- the sites of the tile lie in the lists
+sites-within : (c : tie.After-wide Inv-loop μ-loop) →
+    let l : tie.At-loop Inv-loop μ-loop = search in
+    let s : tie.Start Inv-loop μ-loop = search in
+    l .loop .first + c .wide .result ≤ siteTotal (s .args .counts .now)
+sites-within c =
+    let l : tie.At-loop Inv-loop μ-loop = search in
+    let s : tie.Start Inv-loop μ-loop = search in
+    let counts = s .args .counts .now in
+    omega (arith, l .loop .inv .0, c .wide .ensures, offset-within counts (l .loop .t) (length counts) (search needs))
+
 sites-fit-requires : tie.Need-sites-fit-requires Inv-loop μ-loop
-sites-fit-requires c κs =
-    let l = c .before .before .before .before in
-    let a = l .before .before .args in
-    omega (
-      arith,
-      l .loop .inv .0,
-      l .before .before .pre,
-      c .before .wide .ensures,
-      offset-within (a .counts .now) (l .loop .t)
-          (length (a .counts .now)) (search needs),
-    )
+sites-fit-requires c κs = let s : tie.Start Inv-loop μ-loop = search in omega (arith, sites-within search, s .pre)
+
+-- what the call answers is the test of the tile
+tile-tested : (c : tie.After-sites-fit Inv-loop μ-loop) →
+    let l : tie.At-loop Inv-loop μ-loop = search in
+    let s : tie.Start Inv-loop μ-loop = search in
+    let a = s .args in
+    c .sites-fit .result ≡ tileFits (a .boxes .now) (a .counts .now) (a .xs .now ∷ a .ys .now ∷ []) (l .loop .t)
+tile-tested c =
+    let l : tie.At-loop Inv-loop μ-loop = search in
+    let w : tie.After-wide Inv-loop μ-loop = search in
+    c .sites-fit .ensures ∙ tile-test _ _ _ _ (c .before .box-of .ensures) (l .loop .inv .0) (w .wide .ensures .0)
 
 returns : tie.Need-returns Inv-loop μ-loop
 returns c =
-    let l = c .before .before .before .before .before .before in
+    let l : tie.At-loop Inv-loop μ-loop = search in
     let a = l .before .before .args in
     sym (every-fails (tileFits (a .boxes .now) (a .counts .now) (a .xs .now ∷ a .ys .now ∷ []))
-    (length (a .counts .now)) (l .loop .t) (search needs)
-    (failed (c .before .sites-fit .ensures ∙ tile-test _ _ _ _ (c .before .before .box-of .ensures) (l .loop .inv .0)
-    (c .before .before .before .wide .ensures .0))
-    (c .if1 .taken)))
+    (length (a .counts .now)) (l .loop .t) (search needs) (failed (tile-tested search) (c .if1 .taken)))
 
 add-first : tie.Need-add-first Inv-loop μ-loop
-add-first c =
-    let l = c .before .before .before .before .before .before in
-    let a = l .before .before .args in
-    omega (
-      arith,
-      l .loop .inv .0,
-      l .before .before .pre,
-      c .before .before .before .wide .ensures,
-      offset-within
-          (a .counts .now) (l .loop .t) (length (a .counts .now)) (search needs),
-    )
+add-first c = let s : tie.Start Inv-loop μ-loop = search in omega (arith, sites-within search, s .pre)
 
 add-t : tie.Need-add-t Inv-loop μ-loop
 add-t c = search needs
@@ -82,18 +81,12 @@ loop-less c = search needs
 
 loop-again : tie.Need-loop-again Inv-loop μ-loop
 loop-again c =
-    let l = c .before .before .before .before .before .before in
-    let a = l .before .before .args in (
-      omega (
-        arith,
-        offset-next (a .counts .now) (l .loop .t),
-        l .loop .inv .0,
-        c .before .before .before .wide .ensures,
-      ),
+    let l : tie.At-loop Inv-loop μ-loop = search in
+    let w : tie.After-wide Inv-loop μ-loop = search in
+    let next = offset-next (l .before .before .args .counts .now) (l .loop .t) in (
+      omega (arith, next, l .loop .inv .0, w .wide .ensures),
       search needs,
-      below-more _ _ (l .loop .inv .2)
-          (passed (c .before .sites-fit .ensures ∙ tile-test _ _ _ _ (c .before .before .box-of .ensures)
-          (l .loop .inv .0) (c .before .before .before .wide .ensures .0)) (c .if1 .left)),
+      below-more _ _ (l .loop .inv .2) (passed (tile-tested search) (c .if1 .left)),
     )
 
 returns-2 : tie.Need-returns-2 Inv-loop μ-loop
