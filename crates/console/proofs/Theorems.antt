@@ -1,4 +1,6 @@
--- The theorems of this crate for the reader. Assumes nothing.
+-- The theorem of this crate for the reader. The call is `answer::respond`, its definition `output` (specs/Output), as
+-- its contract says for every input. The numbers in it are `decimal` (specs/Text), and `decimal-exact` says that these
+-- are "in decimal" (`InDecimal`, specs/Claims). The twelve cases are computed in proofs/Cases. Assumes nothing.
 use Prim.Native.Nat.{ℕ, zero, suc, _+_, _*_, _-_, _/_, _%_, _^_, _<_}
 use mathlib.Core.List.{List, [], _∷_, _++_}
 use mathlib.Core.Path.{_≡_, refl, _∙_}

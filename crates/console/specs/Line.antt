@@ -1,5 +1,10 @@
 -- The lines that the program prints (document 01, "Writer, full check, host, program"). "Every printed line ends with a
 -- line feed."
+--
+--   refusedLine, countsLine   of a refusal; the first of an answer
+--   separator, placeText      a place, and what stands before it
+--   textAt, placesText        places of a stop, from the slices: one, all
+--   stopLine                  of a stop
 use Prim.Native.Nat.{ℕ, zero, suc, _+_, _*_}
 use mathlib.Core.List.{List, _++_}
 use lib.ListN.{getD}

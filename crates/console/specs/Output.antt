@@ -1,4 +1,8 @@
 -- What the program prints for all that it can read (document 01).
+--
+--   emptySlices, endOf    what the program lends to the join, and the join's end
+--   answerText, endText   an outcome as text, and such an end
+--   output                all that is printed
 use Prim.Native.Nat.{ℕ}
 use mathlib.Core.Bool.{cond}
 use mathlib.Core.List.{List, [], _∷_, _++_}

@@ -1,5 +1,10 @@
 -- What the program reads (document 01): "k, n (unsigned, 4 bytes), n stops (x, y, signed, 4 bytes each), all
 -- little-endian, then a file".
+--
+--   kOf, stopsAsked           k and n
+--   coordinates, xsOf, ysOf   the stops by columns
+--   headLength, fileOf        the bytes before the file, and the file
+--   wellFormed                whether it can be asked
 use Prim.Native.Nat.{ℕ, _+_, _*_}
 use mathlib.Core.Bool.{Bool, _&&_}
 use mathlib.Core.List.{List}

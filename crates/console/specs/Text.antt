@@ -1,4 +1,10 @@
 -- Words and numbers as bytes, and what a call that writes text leaves.
+--
+--   textBytes                           a text
+--   widthUpTo, width, digits, decimal   a number: how many digits, the last ones, all
+--   valueFrom                           a number read from its digits
+--   labelled                            a word and a number
+--   Wrote                               a call that wrote a text
 use Prim.Native.Char.{code}
 use Prim.Native.Nat.{ℕ, zero, suc, _+_, _*_, _-_, _/_, _%_}
 use Prim.Native.String.{String, [] as nil, _∷_ as _∙∷_}

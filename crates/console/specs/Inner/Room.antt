@@ -1,4 +1,7 @@
 -- Room for the output: what the code that prints an answer needs of it.
+--
+--   countsRoom, stopRoom, outputRoom   bytes for the first line, for a stop's, for all
+--   Fitting, Printable                 an answer, an outcome that fits
 use Prim.Native.Nat.{ℕ, _+_, _*_, _≤_}
 use Rattle.base.specs.Refusal.{Outcome, accepted, refused}
 use Rattle.join.specs.Join.{Result}

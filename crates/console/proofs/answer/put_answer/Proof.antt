@@ -54,8 +54,9 @@ same-length-2 c = search needs
 returns-2 : tie.Need-returns-2
 unfolding answerText
 returns-2 c =
+    let a : tie.After-answer2 = search in
     let end = c .before .before .put-refused .ensures in
-    rw (c .before .before .before .before .before .answer2 .given .1) (end .0, omega (arith, end .1))
+    rw (a .answer2 .given .1) (end .0, omega (arith, end .1))
 
 pub put-answer-spec : {M : Type 1} → statement M
 put-answer-spec = tie.close (tie.spec enum-known-answer put-counts-requires cast-put-stops put-stops-requires

@@ -1,7 +1,7 @@
 use Prim.Native.Nat.{_+_, _*_, _-_, _≤_}
 use mathlib.Core.Path.{_≡_, refl, _∙_}
 use native.Mathlib.Omega.{arith}
-use lib.ListN.{length, getD}
+use lib.ListN.{length}
 use borrow.Author.Needs.{needs}
 use Rattle.console.specs.Line.{placesText, textAt}
 use Rattle.console.proofs.LineLaws.{place-short}
@@ -49,9 +49,9 @@ shared-slice-read-put-place-3 c = search needs
 
 put-place-requires : tie.Need-put-place-requires Inv-loop μ-loop
 put-place-requires c κs =
-    let s = c .before .before .before .before .before .before .before .before .before .before in
-    let l = c .before .before .before .before .before .loop in
-    omega (arith, s .pre .0, l .inv .1, l .inv .2)
+    let l : tie.At-loop Inv-loop μ-loop = search in
+    let s : tie.Start Inv-loop μ-loop = search in
+    omega (arith, s .pre .0, l .loop .inv .1, l .loop .inv .2)
 
 add-j : tie.Need-add-j Inv-loop μ-loop
 add-j c = search needs
@@ -59,35 +59,33 @@ add-j c = search needs
 loop-less : tie.Need-loop-less Inv-loop μ-loop
 loop-less c = search needs
 
+-- the text of a place is short
+short : (l : tie.At-loop Inv-loop μ-loop) →
+    let s : tie.Start Inv-loop μ-loop = search in
+    length (textAt (s .args .dist .now) (s .args .site .now) (s .args .cue .now) (s .args .from) (l .loop .j)) ≤ 44
+unfolding textAt
+short l =
+    let s : tie.Start Inv-loop μ-loop = search in
+    let cues : tie.After-shared-slice-known3 Inv-loop μ-loop = search in
+    let sites = cues .before in
+    let dists = sites .before in
+    let i = s .args .from + l .loop .j in
+    place-short (l .loop .j) _ _ _ (omega (arith, dists .shared-slice-known .given i))
+    (omega (arith, sites .shared-slice-known2 .given i)) (omega (arith, cues .shared-slice-known3 .given i))
+
 loop-again : tie.Need-loop-again Inv-loop μ-loop
 unfolding textAt
 loop-again c =
-    let s = c .before .before .before .before .before .before .before .before .before .before .before .before .before in
-    let l = c .before .before .before .before .before .before .before .before .loop in
-    let w = c .before .before .put-place .ensures in
-    let short = place-short (l .j) (getD (s .args .dist .now) (s .args .from + l .j) 0)
-    (getD (s .args .site .now) (s .args .from + l .j) 0) (getD (s .args .cue .now) (s .args .from + l .j) 0)
-    (omega (
-      arith,
-      c .before .before .before .before .before .before .before .before .before .before .before
-          .shared-slice-known .given (s .args .from + l .j),
-    ))
-    (omega (
-      arith,
-      c .before .before .before .before .before .before .before .before .before .before
-          .shared-slice-known2 .given (s .args .from + l .j),
-    ))
-    (omega (
-      arith,
-      c .before .before .before .before .before .before .before .before .before .shared-slice-known3
-          .given (s .args .from + l .j),
-    )) in (
-      omega arith,
-      omega (arith, short, w .end, l .inv .1),
-      same-room w
-          ∙ l .inv .2,
-      parts-turn (textAt (s .args .dist .now) (s .args .site .now) (s .args .cue .now) (s .args .from))
-          (s .args .used) (s .args .out .now) (s .args .at) (l .j) (omega arith) (l .inv .3) w,
+    let h : tie.At-loop Inv-loop μ-loop = search in
+    let s : tie.Start Inv-loop μ-loop = search in
+    let a = s .args in
+    let l = h .loop in
+    let w = c .before .before .put-place .ensures in (
+      search needs,
+      omega (arith, short h, w .end, l .inv .1),
+      same-room w ∙ l .inv .2,
+      parts-turn (textAt (a .dist .now) (a .site .now) (a .cue .now) (a .from)) (a .used) (a .out .now) (a .at) (l .j)
+          (search needs) (l .inv .3) w,
     )
 
 same-length : tie.Need-same-length Inv-loop μ-loop
@@ -96,7 +94,7 @@ same-length c = c .before .loop .inv .2
 returns : tie.Need-returns Inv-loop μ-loop
 unfolding placesText
 returns c =
-    let s = c .before .before .before .before .before .before in
+    let s : tie.Start Inv-loop μ-loop = search in
     let l = c .before .loop in
     parts-end (textAt (s .args .dist .now) (s .args .site .now) (s .args .cue .now) (s .args .from)) (s .args .used)
     (s .args .out .now) (s .args .at) (l .j) (omega arith) (l .inv .3)

@@ -46,7 +46,7 @@ loop-less c = search needs
 
 loop-again : tie.Need-loop-again Inv-loop μ-loop
 loop-again c =
-    let s = c .before .before .before .before in
+    let s : tie.Start Inv-loop μ-loop = search in
     let l = c .before .before .loop in
     let fits : SFits w32 (c .i32-at .result) = sfits-of (c .i32-at .ok) in (
       omega arith,
@@ -60,8 +60,9 @@ same-length c = c .before .loop .inv .1
 
 returns : tie.Need-returns Inv-loop μ-loop
 returns c =
+    let s : tie.Start Inv-loop μ-loop = search in
     let l = c .before .loop in
-    let all : l .i ≡ c .before .before .before .args .n = omega arith in
+    let all : l .i ≡ s .args .n = omega arith in
     rw all at (l .inv .2)
 
 pub read-coordinates-spec : {M : Type 1} → statement M

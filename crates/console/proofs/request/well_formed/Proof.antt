@@ -17,11 +17,10 @@ stop-count-requires c κs = search needs
 
 returns-3 : tie.Need-returns-3
 unfolding wellFormed
-returns-3 c = rw (
-  le-leb _ _ (c .before .before .before .if1 .left),
-  le-leb _ _ (c .before .before .if2 .left),
-  lt-leb _ _ (rw (c .before .stop-count .ensures) at (c .if3 .taken)),
-)
+returns-3 c =
+    let e : tie.Else1 = search in
+    let many = lt-leb _ _ (rw (c .before .stop-count .ensures) at (c .if3 .taken)) in
+    rw (le-leb _ _ (e .if1 .left), le-leb _ _ (c .before .before .if2 .left), many)
 
 head-length-requires : tie.Need-head-length-requires
 head-length-requires c κs = search needs
@@ -29,14 +28,10 @@ head-length-requires c κs = search needs
 returns-4 : tie.Need-returns-4
 unfolding wellFormed
 returns-4 c =
+    let e : tie.Else2 = search in
     let n = c .before .before .stop-count .ensures in
-    rw (
-      le-leb _ _ (c .before .before .before .before .if1 .left),
-      le-leb _ _ (c .before .before .before .if2 .left),
-      le-leb _ _ (rw n at (c .before .if3 .left)),
-      c .head-length .ensures,
-      n,
-    )
+    let few = le-leb _ _ (rw n at (c .before .if3 .left)) in
+    rw (le-leb _ _ (e .before .if1 .left), le-leb _ _ (e .if2 .left), few, c .head-length .ensures, n)
 
 pub well-formed-spec : {M : Type 1} → statement M
 well-formed-spec =

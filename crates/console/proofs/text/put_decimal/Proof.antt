@@ -1,6 +1,7 @@
 use Prim.Native.Nat.{_+_}
-use mathlib.Core.Path.{ap, sym, _∙_}
+use mathlib.Core.Path.{_≡_, ap, sym, _∙_}
 use native.Mathlib.Omega.{arith}
+use lib.ListN.{length}
 use borrow.Author.Needs.{needs}
 use Rattle.console.specs.Text.{decimal}
 use Rattle.console.proofs.TextLaws.{decimal-width}
@@ -10,16 +11,15 @@ use Rattle.console.proofs.text.put_decimal.Tie as tie
 width-requires : tie.Need-width-requires
 width-requires c κs = search needs
 
+-- as many digits as are written
+long : (c : tie.After-width) → let s : tie.Start = search in c .width .result ≡ length (decimal (s .args .n))
+long c = let s : tie.Start = search in c .width .ensures ∙ sym (decimal-width (s .args .n))
+
 put-digits-requires : tie.Need-put-digits-requires
-put-digits-requires c κs =
-    let s = c .before .before .before in
-    omega (arith, s .pre, c .before .width .ensures, decimal-width (s .args .n))
+put-digits-requires c κs = let s : tie.Start = search in omega (arith, s .pre, long search)
 
 add-result : tie.Need-add-result
-add-result c =
-    let s = c .before .before .before .before .before .before in
-    let w = c .before .before .before .before .width .ensures ∙ sym (decimal-width (s .args .n)) in
-    rw w (search (s .pre, needs))
+add-result c = let s : tie.Start = search in rw (long search) (search (s .pre, needs))
 
 same-length : tie.Need-same-length
 same-length c = search needs
@@ -27,11 +27,11 @@ same-length c = search needs
 returns : tie.Need-returns
 unfolding decimal
 returns c =
-    let a = c .before .before .before .before .before .before .args in
-    let w = c .before .before .before .before .width .ensures in
+    let s : tie.Start = search in
+    let w : tie.After-width = search in
     record {
-      content = rw w at (c .before .before .put-digits .ensures);
-      end = ap (λ n. a .at + n) (w ∙ sym (decimal-width (a .n)));
+      content = rw (w .width .ensures) at (c .before .before .put-digits .ensures);
+      end = ap (λ n. s .args .at + n) (long w);
     }
 
 pub put-decimal-spec : {M : Type 1} → statement M

@@ -15,8 +15,8 @@ same-length c = search needs
 
 returns : tie.Need-returns
 unfolding labelled
-returns c = then (c .before .before .before .before .before .before .put-text .ensures)
-    (c .before .before .put-decimal .ensures)
+returns c =
+    let t : tie.After-put-text = search in then (t .put-text .ensures) (c .before .before .put-decimal .ensures)
 
 pub put-labelled-spec : {M : Type 1} → statement M
 put-labelled-spec = tie.close (tie.spec put-text-requires put-decimal-requires same-length returns)

@@ -36,10 +36,10 @@ loop-less c = search needs
 loop-again : tie.Need-loop-again Inv-loop μ-loop
 loop-again c =
     let l = c .before .before .loop in
-    let a = c .before .before .before .args in (
+    let s : tie.Start Inv-loop μ-loop = search in (
       omega arith,
       simp length-set (l .inv .1),
-      copy-turn (l .out) (a .text .now) (a .at) (l .i) (omega arith) ∙ l .inv .2,
+      copy-turn (l .out) (s .args .text .now) (s .args .at) (l .i) (omega arith) ∙ l .inv .2,
     )
 
 add-result : tie.Need-add-result Inv-loop μ-loop
