@@ -1,4 +1,8 @@
 -- Document 01, "Writer, full check, host, program": the two calls of the cab's sound host.
+--
+--   blockTests, numberOf, blockCheck   the check: its tests, an outcome's number, what it gives
+--   boxFrom, badBox                    a box of four numbers, and what stands for a bad one
+--   marginOrBad, marginNumber          the margin: by outcome, of three boxes
 use Prim.Native.Nat.{ℕ}
 use mathlib.Core.List.{List, [], _∷_}
 use lib.Dec.{eqb}

@@ -21,19 +21,17 @@ agrees-requires c κs = search needs
 
 returns-3 : tie.Need-returns-3
 unfolding blockCheck blockTests
-returns-3 c = rw (
-  eq-eqb _ _ (c .before .before .before .before .if1 .left),
-  eq-eqb _ _ (c .before .before .if2 .left),
-  failed (c .before .agrees .ensures) (c .if3 .taken),
-)
+returns-3 c =
+    let a : tie.Else1 = search in
+    let b : tie.Else2 = search in
+    rw (eq-eqb _ _ (a .if1 .left), eq-eqb _ _ (b .if2 .left), failed (c .before .agrees .ensures) (c .if3 .taken))
 
 returns-4 : tie.Need-returns-4
 unfolding blockCheck blockTests
-returns-4 c = rw (
-  eq-eqb _ _ (c .before .before .before .before .if1 .left),
-  eq-eqb _ _ (c .before .before .if2 .left),
-  passed (c .before .agrees .ensures) (c .if3 .left),
-)
+returns-4 c =
+    let a : tie.Else1 = search in
+    let b : tie.Else2 = search in
+    rw (eq-eqb _ _ (a .if1 .left), eq-eqb _ _ (b .if2 .left), passed (c .before .agrees .ensures) (c .if3 .left))
 
 pub nearby-block-check-spec : {M : Type 1} → statement M
 nearby-block-check-spec =

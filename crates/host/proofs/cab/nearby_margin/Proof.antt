@@ -20,25 +20,14 @@ margin-or-bad-requires c κs = search needs
 
 returns : tie.Need-returns
 returns c =
-    let a = c .before .before .before .before .fits in
-    let o = simp (
-      toZ-ofZ (a .ox0),
-      toZ-ofZ (a .ox1),
-      toZ-ofZ (a .oy0),
-      toZ-ofZ (a .oy1),
-    ) at (c .before .before .before .box-of .ensures) in
-    let e = simp (
-      toZ-ofZ (a .ex0),
-      toZ-ofZ (a .ex1),
-      toZ-ofZ (a .ey0),
-      toZ-ofZ (a .ey1),
-    ) at (c .before .before .box-of2 .ensures) in
-    let b = simp (
-      toZ-ofZ (a .bx0),
-      toZ-ofZ (a .bx1),
-      toZ-ofZ (a .by0),
-      toZ-ofZ (a .by1),
-    ) at (c .before .box-of3 .ensures) in
+    let x : tie.After-box-of = search in
+    let y : tie.After-box-of2 = search in
+    let z : tie.After-box-of3 = search in
+    let s : tie.Start = search in
+    let a = s .fits in
+    let o = simp (toZ-ofZ (a .ox0), toZ-ofZ (a .ox1), toZ-ofZ (a .oy0), toZ-ofZ (a .oy1)) at (x .box-of .ensures) in
+    let e = simp (toZ-ofZ (a .ex0), toZ-ofZ (a .ex1), toZ-ofZ (a .ey0), toZ-ofZ (a .ey1)) at (y .box-of2 .ensures) in
+    let b = simp (toZ-ofZ (a .bx0), toZ-ofZ (a .bx1), toZ-ofZ (a .by0), toZ-ofZ (a .by1)) at (z .box-of3 .ensures) in
     let fits : SFits w64 (c .margin-or-bad .result) = sfits-of (c .margin-or-bad .ok) in
     toZ-ofZ fits ∙ c .margin-or-bad .ensures ∙ rw (o, e, b)
 
