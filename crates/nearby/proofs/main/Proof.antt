@@ -32,11 +32,13 @@ returns : tie.Need-returns
 returns c = search needs
 
 array-share-prefix-input : tie.Need-array-share-prefix-input
-array-share-prefix-input c = rw (c .before .read .given .1) at (c .before .before .before .before .read-all .ensures)
+array-share-prefix-input c =
+    let r : tie.After-read-all = search in rw (c .before .read .given .1) at (r .read-all .ensures)
 
 slice-aggregate-respond : tie.Need-slice-aggregate-respond
-slice-aggregate-respond c = prefix-length _ _ (rw (c .before .before .read .given .1)
-    at (c .before .before .before .before .before .read-all .ensures))
+slice-aggregate-respond c =
+    let r : tie.After-read-all = search in
+    prefix-length _ _ (rw (c .before .before .read .given .1) at (r .read-all .ensures))
 
 respond-requires : tie.Need-respond-requires
 respond-requires c κs = search needs

@@ -47,25 +47,18 @@ returns-2 : tie.Need-returns-2 Inv-loop μ-loop
 returns-2 c = search needs
 
 -- what was read fits the rest of the buffer
-got-fits : (c : tie.Else1 Inv-loop μ-loop) → c .before .before .before .before .before .before .before .before .before
-    .loop .done + c .before .before .more .given .0 .0 ≤ length
-    (c .before .before .before .before .before .before .before .before .before .loop .buf)
+got-fits : (c : tie.Else1 Inv-loop μ-loop) →
+    let l : tie.At-loop Inv-loop μ-loop = search in
+    l .loop .done + c .before .before .more .given .0 .0 ≤ length (l .loop .buf)
 got-fits c =
-    let got : c .before .before .more .given .0 .0 ≤ length
-    (c .before .before .before .before .before .before .read-some .last .1 .0) =
-    rw (c .before .before .more .given .1) at (c .before .before .before .before .before .before .read-some
-    .ensures) in
-    let l = c .before .before .before .before .before .before .before .before .before .loop in
-    let kept : length (c .before .before .before .before .before .before .read-some .last .1 .0)
-    ≡ length (midOf (l .done) (length (l .buf) - l .done) (l .buf)) = c .before .before .before .before .before
-    .before .read-some .kept .1 .0 in
-    omega (
-      arith,
-      got,
-      kept,
-      length-take (length (l .buf) - l .done) (drop (l .done) (l .buf)),
-      length-drop (l .done) (l .buf),
-    )
+    let l : tie.At-loop Inv-loop μ-loop = search in
+    let r : tie.After-read-some Inv-loop μ-loop = search in
+    let b = l .loop .buf in
+    let d = l .loop .done in
+    let more = c .before .before .more .given in
+    let got : more .0 .0 ≤ length (r .read-some .last .1 .0) = rw (more .1) at (r .read-some .ensures) in
+    let kept : length (r .read-some .last .1 .0) ≡ length (midOf d (length b - d) b) = r .read-some .kept .1 .0 in
+    omega (arith, got, kept, length-take (length b - d) (drop d b), length-drop d b)
 
 add-done : tie.Need-add-done Inv-loop μ-loop
 add-done c = search (got-fits c, needs)
@@ -75,11 +68,12 @@ loop-less c = search needs
 
 loop-again : tie.Need-loop-again Inv-loop μ-loop
 loop-again c =
-    let l = c .before .before .before .before .before .before .before .before .before .loop in
-    let same = same-len-mid (l .done) (length (l .buf) - l .done) (l .buf)
-    (c .before .before .before .before .before .before .read-some .last .1 .0)
-    (c .before .before .before .before .before .before .read-some .kept .1 .0) in
-    (rw same (got-fits c), same ∙ l .inv .1)
+    let l : tie.At-loop Inv-loop μ-loop = search in
+    let r : tie.After-read-some Inv-loop μ-loop = search in
+    let b = l .loop .buf in
+    let d = l .loop .done in
+    let same = same-len-mid d (length b - d) b (r .read-some .last .1 .0) (r .read-some .kept .1 .0) in
+    (rw same (got-fits c), same ∙ l .loop .inv .1)
 
 same-length-3 : tie.Need-same-length-3 Inv-loop μ-loop
 same-length-3 c = search needs
