@@ -1,7 +1,7 @@
 -- Laws of outcomes. Assumes nothing.
 --
 --   by-outcome                             proof by an outcome
---   accepted-refused, accepted-injective   no outcome is both; what was accepted is one value
+--   accepted-refused, accepted-injective   no outcome is both; an accepted one has one value
 --   require-accepted, andThen-accepted     what an accepted outcome shows of its parts
 --   andThen-same, andThen-refused          when what comes next does not matter
 --   told                                   an answer that was taken apart

@@ -4,7 +4,7 @@
 --   Outcome, accepted, refused   what a call comes to
 --   require                      one row of the table
 --   andThen                      one call after another
---   inTurn                       one test of several numbers
+--   inTurn                       one test of several numbers in turn
 use Prim.Native.Nat.{ℕ, zero, suc, _+_}
 use mathlib.Core.Bool.{Bool, true, false}
 
