@@ -3,7 +3,7 @@
 --   numberAt, numbers               k bytes as a number, and how many numbers they have
 --   number-read, number-held, number-16, number-32   the laws below, for any width; the two widths
 --   read-16, read-32, read-signed   what was written is read back
---   u16-small, u32-small            what is read is small
+--   u16-small, u32-small            what is read is below its limit
 --   held-16, held-32, held-signed   and it is what its bytes write
 use Prim.Native.Nat.{ℕ, zero, suc, _+_, _*_, _/_, _%_, _<_}
 use mathlib.Core.List.{List}

@@ -3,7 +3,7 @@
 --   below, below-fits          -1 less a number, as the code has it
 --   local-i32                  a number that passed through a local
 --   bits-up, bits-down         the bits of a number from 0 on, and below 0, as the code has them
---   bits-small, signed-small   how large they are
+--   bits-small, signed-small   both are below their limits
 --   signed-bits, bits-signed   bits and the number with these bits
 use Prim.Native.Nat.{ℕ, zero, suc, _-_, _<_}
 use mathlib.Core.Bool.{true, false}
