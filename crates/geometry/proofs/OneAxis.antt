@@ -1,4 +1,11 @@
 -- One axis: the closest point is closest, the farther end farthest. Assumes nothing.
+--
+--   Axis, axis, valid-axis-test                  a valid axis
+--   On, on, on-test, low-on, high-on             a point of it
+--   valid-on, limited-on                         which is within the limits
+--   closest-on, closest-least, closest-bound     the closest point
+--   farthest-on, farthest-most, farthest-bound   the farther end
+--   farthest-test                                which end that is
 use Prim.Native.Nat.{_+_, _<_, _≤_}
 use mathlib.Core.Bool.{true, false, cond, _&&_}
 use mathlib.Core.List.{List}

@@ -1,4 +1,13 @@
 -- From the signed numbers to the line from 0, where `omega` reads: shift keeps order and distance. Assumes nothing.
+--
+--   dist, shift, Small                         on that line: a distance, a 32-bit number
+--   less-shift, at-most-shift, same-shift      shift and order
+--   at-most-refl, at-most-trans, less-at-most, not-less   orders of signed numbers
+--   sub-shift, gap-shift, square-shift         shift and differences
+--   less-sub, at-most-sub, add-sub, add-none   differences compared and added
+--   abs-difference, mag-difference, mag-abs    how large they are
+--   Limited, limited, limited-between          a coordinate within the limits
+--   gap-comm, gap-fits, square-bound           two of them
 use Prim.Native.Nat.{ℕ, zero, suc, _+_, _-_, _*_, _<_, _≤_, _^_}
 use mathlib.Core.Bool.{true, false}
 use mathlib.Core.Path.{_≡_, refl, sym, ap, _∙_}

@@ -1,6 +1,6 @@
 -- Squared distance, and the least and the largest of it to a box (document 01, "Three boxes").
 --
---   gap, square               of two coordinates
+--   gap, square               two coordinates apart, and its square
 --   D                         of two points
 --   closest, closestPoint     where an axis, a box is closest
 --   farthest, farthestPoint   where it is farthest

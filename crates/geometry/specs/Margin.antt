@@ -3,7 +3,7 @@
 --
 --   gain                            the difference of squares on one axis
 --   bestEnd, bestPoint              where in O it is largest: on one axis, on all
---   difference                      of the distances of three points
+--   difference                      of the distances from a point of O
 --   Reached, reachedFrom, reached   margin and points: the record, from a point of O, from the best one
 --   margin, closer                  the margin alone, and the test of it
 use mathlib.Core.Bool.{Bool, cond}
