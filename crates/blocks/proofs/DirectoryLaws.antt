@@ -1,4 +1,12 @@
 -- What an accepted directory shows, and that this is enough. Assumes nothing.
+--
+--   tiles-good, length-good, block-at-good, directory-good   what tests 6 and 1, a block and the directory show
+--   directory-enough                     that it is enough
+--   entry-ends                           the box of an entry by its numbers
+--   some-block, entry-block, entry-due   which entry is a tile's
+--   first-block                          what the code goes by behind block 0
+--   block-fits                           where blocks lie in a file with a good directory
+--   box-valid, count-small               its entries
 use Prim.Native.Nat.{ℕ, zero, suc, _+_, _-_, _*_, _/_, _%_, _<_, _≤_}
 use mathlib.Core.Bool.{true}
 use mathlib.Core.List.{List, [], _∷_}

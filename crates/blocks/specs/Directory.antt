@@ -1,6 +1,6 @@
 -- The directory (document 01, "Blocks" and "Numbers given to bad input").
 --
---   directoryBlocks, entriesDue        d, and the entries of each directory block
+--   directoryBlocks, entriesDue        d, and how many entries a directory block has
 --   entryOffset, entryNumber           where an entry starts, and a number of its box
 --   entryBox, entryCount, entryZero    an entry: box, count, and whether its last bytes are zero
 --   tilesDue, directoryPadding         tests 6 and 8

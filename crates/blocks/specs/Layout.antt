@@ -4,7 +4,7 @@
 --   syncByte, directoryKind, tileKind   what bytes 0 and 1 hold
 --   kindAt .. checkAt                   where each field of a block starts
 --   payloadSize                         room for entries or sites
---   axes                                of a town
+--   axes                                how many a town has
 --   entrySize, numberOffset, countOffset, zeroOffset   an entry, and where its fields start
 --   siteSize, cueOffset                 a site, and where its cue starts
 --   entriesPerBlock, maxSites           how many of them a block holds
