@@ -1,4 +1,13 @@
 -- The bytes of blocks: their lengths, and that rows of writing calls leave them. Assumes nothing.
+--
+--   length-head, length-entry, length-site      the length of each part
+--   length-entries, length-sites                of several
+--   length-body, length-block                   of a block
+--   length-directory-block, length-tile-block   of a block of each kind
+--   due-few, due-within, blocks-few             how many entries and blocks there are
+--   tile-of                                     a tile's block, by what the code goes by
+--   sums-byte, sums-body, lent                  the check: its sums, of a body, of the part that is lent
+--   head-row, box-row, entry-row, site-row, check-row, block-row   what each row of calls leaves
 use Prim.Native.Nat.{ℕ, _+_, _*_, _-_, _<_, _≤_}
 use mathlib.Core.List.{List, [], _∷_, _++_}
 use mathlib.Core.Path.{_≡_, refl, sym, ap, _∙_}
