@@ -3,7 +3,7 @@
 --   tilesFit, entryFits, listsFit   tests 6, 9 of a tile, and 15 of the site lists
 --   sitesFit, tileFits              test 10: of a run of sites, of a tile
 --   writeTests                      all tests in order
---   writeOutcome, writeCall         what the answer comes to, and what it must
+--   writeOutcome, writeCall         what the answer and what the call comes to
 --   leaves, writeExit               the output slice afterwards: by outcome, of the call
 use Prim.Native.Nat.{ℕ, _+_, _*_}
 use mathlib.Core.Bool.{Bool, _&&_}
