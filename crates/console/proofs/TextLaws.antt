@@ -1,4 +1,12 @@
 -- Laws of words and numbers as bytes. Assumes nothing.
+--
+--   length-digits, digits-turn, digits-end      digits, and the loop that writes them
+--   then, same-room, in-room, room-after        one text after the other, and the room that is left
+--   Parts, parts-start, parts-turn, parts-end   a loop that writes n parts
+--   decimal-width, width-one, width-more, width-none, width-within, below-power   the number of digits
+--   copy-start, copy-turn, copy-end             a loop that copies a text
+--   digits-32, digits-64, labelled-32, labelled-64   how long a number and a labelled one are at most
+--   joined-short                                how long n parts are at most
 use Prim.Native.Nat.{ℕ, zero, suc, _+_, _*_, _-_, _/_, _%_, _^_, _<_, _≤_}
 use mathlib.Core.Bool.{true, false}
 use mathlib.Core.List.{List, _++_}

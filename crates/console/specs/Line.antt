@@ -2,7 +2,7 @@
 -- line feed."
 --
 --   refusedLine, countsLine   of a refusal; the first of an answer
---   separator, placeText      a place, and what stands before it
+--   separator, placeText      what stands before a place, and a place
 --   textAt, placesText        places of a stop, from the slices: one, all
 --   stopLine                  of a stop
 use Prim.Native.Nat.{ℕ, zero, suc, _+_, _*_}

@@ -4,7 +4,7 @@
 --   kOf, stopsAsked           k and n
 --   coordinates, xsOf, ysOf   the stops by columns
 --   headLength, fileOf        the bytes before the file, and the file
---   wellFormed                whether it can be asked
+--   wellFormed                whether the join is asked
 use Prim.Native.Nat.{ℕ, _+_, _*_}
 use mathlib.Core.Bool.{Bool, _&&_}
 use mathlib.Core.List.{List}
