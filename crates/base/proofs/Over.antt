@@ -21,20 +21,20 @@ use Rattle.base.proofs.Tests.{by-test}
 use Rattle.base.specs.Over.{over}
 
 -- what it is, where the run fits
-pub over-eq : (l : List ℕ) (i : ℕ) (vs : List ℕ) → i + length vs ≤ length l
+pub over-eq : {A : Type 0} (l : List A) (i : ℕ) (vs : List A) → i + length vs ≤ length l
     → over l i vs ≡ take i l ++ vs ++ drop (i + length vs) l
 unfolding over
 over-eq l i vs h = sets-eq vs l i h
 
-pub length-over : (l : List ℕ) (i : ℕ) (vs : List ℕ) → length (over l i vs) ≡ length l
+pub length-over : {A : Type 0} (l : List A) (i : ℕ) (vs : List A) → length (over l i vs) ≡ length l
 unfolding over
 length-over l i vs = length-sets l i vs
 
-pub over-nil : (l : List ℕ) (i : ℕ) → over l i [] ≡ l
+pub over-nil : {A : Type 0} (l : List A) (i : ℕ) → over l i [] ≡ l
 unfolding over
 over-nil l i = refl
 
-pub over-cons : (l : List ℕ) (i v : ℕ) (vs : List ℕ) → over l i (v ∷ vs) ≡ over (set l i v) (suc i) vs
+pub over-cons : {A : Type 0} (l : List A) (i : ℕ) (v : A) (vs : List A) → over l i (v ∷ vs) ≡ over (set l i v) (suc i) vs
 unfolding over
 over-cons l i v vs = refl
 

@@ -4,5 +4,5 @@ use mathlib.Core.List.{List}
 use lib.Seq.{sets}
 
 -- l with vs from index i on
-unfoldable pub over : List ℕ → ℕ → List ℕ → List ℕ
+unfoldable pub over : {A : Type 0} → List A → ℕ → List A → List A
 over l i vs = sets l i vs

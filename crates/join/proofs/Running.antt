@@ -16,7 +16,7 @@ use Rattle.geometry.specs.Around.{around, SmallestAround}
 use Rattle.geometry.specs.Box.{validPoint}
 use Rattle.list.specs.Lists.{Lists, Slices, lay, cleared}
 use Rattle.plan.specs.FilePlan.{entries, openingOf}
-use Rattle.plan.specs.Inner.Seam.{ValidRegion}
+use Rattle.plan.specs.Inner.Seam.{ValidStop, ValidRegion}
 use Rattle.prune.specs.Prune.{pruneMarks}
 use Rattle.queue.specs.Inner.Keys.{waits}
 use Rattle.search.specs.Lists.{range, bit, count, member}
@@ -28,11 +28,11 @@ use Rattle.search.specs.Run.{noPlace, candidate, candidates, queue, join, inRow
 use Rattle.search.specs.Run.{prunedMark}
 use Rattle.search.specs.declared.Place.{Place}
 use Rattle.serve.specs.Inner.Marks.{markAll}
-use Rattle.serve.specs.Inner.Serving.{lastLength, waiting, walksOf, StopsReady, afterStops}
+use Rattle.serve.specs.Inner.Serving.{lastLength, waiting, walksOf, StopsReady, afterStops, Serves}
 use Rattle.stops.specs.Stops.{stopCount, stopsOf, validStop}
 use Rattle.base.proofs.Outcomes.{andThen-accepted, andThen-refused, accepted-injective}
 use Rattle.base.proofs.Over.{over-under, length-over}
-use Rattle.geometry.proofs.Theorems.{all-points, around-smallest}
+use Rattle.geometry.proofs.Theorems.{all-points, row-axes, around-smallest}
 use Rattle.list.proofs.Laying.{lay-under, lay-long}
 use Rattle.list.proofs.Padding.{clear-all}
 use Rattle.plan.proofs.Tables.{filled-at, filled-take, table-length, bit-small}
@@ -121,19 +121,23 @@ module _ {f : List ℕ} {h : Header} {cols : List (List ℤ)} {k : ℕ} {out : S
       → m ≡ over (out .marks) 0 (pruneMarks f h o k) → record { lists = l; marks = m } ≡ started
   begun a b c = rw (a, c, b)
 
-  ready : StopsReady f h cols k started
-  unfolding pruneMarks
+  -- as many points as stops
+  count-is : length (stopsOf cols) * k ≡ n
+  count-is = ap (λ (m : ℕ). m * k) (stops-length cols)
+
+  ready : StopsReady f h (stopsOf cols) k started
+  unfolding pruneMarks validStop
   ready =
       let a = r .args in
       let lm = length-over (out .marks) 0 (map (λ t. bit (pruned (entries f h) O k t)) (range 0 (h .tiles))) in
       record {
         dir = r .dir;
-        same = a .same;
-        valid = a .valid;
+        valid = all-points ValidStop cols (stopCount cols)
+            (λ i l. record { valid = a .valid i l; axes = row-axes cols i ∙ r .axes });
         some = a .some-k;
-        few = few-enough;
-        long = lay-long (out .lists) 0 (replicate n noPlace) n (a .dist, (a .site, a .cue));
-        clear = clear-all (out .lists) n (a .dist, (a .site, a .cue));
+        few = rw count-is few-enough;
+        long = rw count-is (lay-long (out .lists) 0 (replicate n noPlace) n (a .dist, (a .site, a .cue)));
+        clear = rw count-is (clear-all (out .lists) n (a .dist, (a .site, a .cue)));
         marks = rw lm (a .marks);
         opens = λ t l e.
             let b = bit-small (pruned (entries f h) O k t) in
@@ -141,7 +145,7 @@ module _ {f : List ℕ} {h : Header} {cols : List (List ℤ)} {k : ℕ} {out : S
             absurd (omega (arith, e));
       }
 
-  pub stops-ready : {o : Slices} → o ≡ started → StopsReady f h cols k o
+  pub stops-ready : {o : Slices} → o ≡ started → StopsReady f h (stopsOf cols) k o
   stops-ready e = rw e ready
 
   -- ---- after it
@@ -169,22 +173,21 @@ module _ {f : List ℕ} {h : Header} {cols : List (List ℤ)} {k : ℕ} {out : S
 
   pub attempted : {from out′ : Slices} {o : Outcome ℕ} {p : ℕ} → from ≡ started → p ≡ prunedCount (entries f h) O k
       → p ≤ h .tiles
-      → (let w = walksOf f h (waiting f h (from .marks)) cols k in
-      (o ≡ andThen (w .out) (λ ls. accepted (lastLength 0 ls))) × (out′ ≡ afterStops h w k n from))
-      → Attempted f h cols k out o p out′
+      → Serves f h (stopsOf cols) k from o out′ → Attempted f h cols k out o p out′
   unfolding queue
   attempted {from} {out′} {o} {p} begins counted few served =
-      let w : walksOf f h (waiting f h (started .marks)) cols k ≡ walksFor f h cols k =
-      ap (λ z. walksOf f h z cols k) (waiting-is f h O k (out .marks) (r .args .marks)) in
-      let v : (o ≡ andThen (walksFor f h cols k .out) (λ ls. accepted (lastLength 0 ls)))
-      × (out′ ≡ afterStops h (walksFor f h cols k) k n started) =
-      rw w at (rw begins at served) in
+      let w : walksOf f h (waiting f h (started .marks)) (stopsOf cols) k ≡ walksFor f h cols k =
+      ap (λ z. walksOf f h z (stopsOf cols) k) (waiting-is f h O k (out .marks) (r .args .marks)) in
+      let s = rw begins at served in
+      let outcome : o ≡ andThen (walksFor f h cols k .out) (λ ls. accepted (lastLength 0 ls)) =
+      rw w at (s .outcome) in
+      let left : out′ ≡ afterStops h (walksFor f h cols k) k n started = rw (w, count-is) at (s .left) in
       record {
         counted = counted;
         few = few;
-        outcome = v .0;
-        answered = λ ls e. rw e at (v .1) ∙ rw (lists-cover ls e);
-        refused = λ x y e. rw e at (v .1) ∙ covered;
+        outcome = outcome;
+        answered = λ ls e. rw e at left ∙ rw (lists-cover ls e);
+        refused = λ x y e. rw e at left ∙ covered;
       }
 
   -- ---- its end

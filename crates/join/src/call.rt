@@ -1,11 +1,15 @@
 // The call of document 01, "The join".
 ghost use mathlib.Core.List.{[], _∷_};
 ghost use mathlib.Core.Path.{_≡_};
+ghost use Prim.Native.Nat.{_≤_};
+ghost use lib.ListN.{length};
 ghost use Rattle.base.specs.Refusal as outcome;
 ghost use Rattle.base.specs.Refusal.{accepted};
 ghost use Rattle.blocks.specs.Directory.{directory};
 ghost use Rattle.list.specs.Lists.{lent};
-ghost use Rattle.serve.specs.Inner.Serving.{servingOutcome};
+ghost use Rattle.search.specs.Limits.{maxStops};
+ghost use Rattle.serve.specs.Inner.Serving.{servingOutcome, StopsReady, Serves};
+ghost use Rattle.stops.specs.Stops.{stopsOf};
 ghost use Rattle.join.specs.Join.{joinOutcome, joinEnd, runEnd};
 ghost use Rattle.join.specs.Inner.Running.{RunReady, Attempted};
 use base::Refusal;
@@ -13,13 +17,16 @@ use blocks::directory::DirectoryAnswer;
 use blocks::directory::read_directory;
 use blocks::header::Header;
 use list::clear::clear_places;
+use plan::region::ORIGIN;
 use prune::marking::mark_pruned;
+use search::MAX_STOPS;
 use serve::marks::count_opened;
 use serve::serving::Serving;
 use serve::serving::serve;
 use stops::arguments::Lengths;
 use stops::arguments::failed_argument;
 use stops::around::around;
+use stops::stop::gather_stops;
 
 pub enum JoinAnswer {
     Joined {
@@ -35,6 +42,30 @@ fn refused(number: u32) -> JoinAnswer
     ensures { λ r. ⌜ joinOutcome r ≡ outcome.refused number 0 ⌝ }
 {
     JoinAnswer::Refused(Refusal { number, block: 0 })
+}
+
+// Serves the stops of the columns, gathered as points: from here on a stop is one value.
+fn serve_columns(
+    f: &[u8],
+    h: Header,
+    xs: &[i32],
+    ys: &[i32],
+    k: usize,
+    dist: &mut [u64],
+    site: &mut [u32],
+    cue: &mut [u32],
+    marks: &mut [u8],
+) -> Serving
+    requires { ⌜ (length (now ys) ≡ length (now xs)) × (length (now xs) ≤ maxStops) ⌝ }
+    requires { ⌜ StopsReady (now f) h (stopsOf (now xs ∷ now ys ∷ [])) k
+        (lent (now dist) (now site) (now cue) (now marks)) ⌝ }
+    ensures { λ r. ⌜ Serves (now (f .entry)) h (stopsOf (now (xs .entry) ∷ now (ys .entry) ∷ [])) k
+        (lent (now (dist .entry)) (now (site .entry)) (now (cue .entry)) (now (marks .entry))) (servingOutcome r)
+        (lent (now (dist .exit)) (now (site .exit)) (now (cue .exit)) (now (marks .exit))) ⌝ }
+{
+    let mut stops = [ORIGIN; MAX_STOPS];
+    gather_stops(xs, ys, &mut stops);
+    serve(f, h, &stops[..xs.len()], k, dist, site, cue, marks)
 }
 
 // How serving ended, and the number of tiles pruned before.
@@ -63,7 +94,7 @@ fn try_run(
 {
     clear_places(dist, site, cue, xs.len() * k);
     let pruned = mark_pruned(f, h, around(xs, ys), k, marks);
-    let answer = serve(f, h, xs, ys, k, dist, site, cue, marks);
+    let answer = serve_columns(f, h, xs, ys, k, dist, site, cue, marks);
     Attempt { answer, pruned }
 }
 

@@ -5,6 +5,9 @@ use geometry::corner;
 
 pub type Stop = [i32; 2];
 
+// A stop to fill an array with.
+pub const ORIGIN: Stop = [0; 2];
+
 pub type Region = [[i32; 2]; 2];
 
 // How many corners a region has.

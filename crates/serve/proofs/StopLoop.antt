@@ -6,21 +6,19 @@ use native.Mathlib.Nat.{suc-mul, mul-le-mul-right}
 use native.Mathlib.Numerals.{add-one}
 use native.Mathlib.Omega.{arith}
 use lib.IntN.{ℤ}
-use lib.ListN.{length, replicate, length-replicate}
+use lib.ListN.{length, getD, drop, replicate, length-replicate, drop-of-length-le}
+use lib.Seq.{drop-cons}
 use Rattle.base.specs.Over.{over}
 use Rattle.base.specs.Refusal.{Outcome, accepted, refused, andThen}
 use Rattle.base.specs.Tabulate.{tabulate}
 use Rattle.blocks.specs.declared.header.Header.{Header}
-use Rattle.geometry.specs.Around.{rows}
 use Rattle.list.specs.Inner.Keeping.{places, Ready}
 use Rattle.list.specs.Lists.{Long, Lists, Slices, lay, cleared}
 use Rattle.plan.specs.FilePlan.{entries, openingOf}
 use Rattle.search.specs.Inner.Walk.{Trace, cutWalks}
 use Rattle.search.specs.Run.{noPlace, noMark, inOrder, inRows}
 use Rattle.search.specs.declared.Place.{Place}
-use Rattle.stops.specs.Stops.{stopCount, stopAt}
 use Rattle.base.proofs.Outcomes.{andThen-accepted, andThen-refused, accepted-injective, accepted-refused}
-use Rattle.geometry.proofs.Theorems.{points-rows, rows-none, rows-next}
 use Rattle.list.proofs.Laying.{lay-nil, lay-under, lay-lengths}
 use Rattle.list.proofs.Padding.{Clear, clear-kept, stop-laid}
 use Rattle.search.proofs.Walk.{walks-none, walks-refused, walks-next}
@@ -28,16 +26,16 @@ use Rattle.serve.specs.Inner.Marks.{markAll, OpenedOpen}
 use Rattle.serve.specs.Inner.Serving.{walkOf, walksOf, lastLength, StopServed, StopsServed, afterStops}
 use Rattle.serve.proofs.Marking.{length-mark-all, mark-all-append}
 
-module _ (f : List ℕ) (h : Header) (order : List ℕ) (cols : List (List ℤ)) (k : ℕ) (o₀ : Slices) where
+module _ (f : List ℕ) (h : Header) (order : List ℕ) (ps : List (List ℤ)) (k : ℕ) (o₀ : Slices) where
   abbrev pub whole : Trace (List (List Place))
-  whole = walksOf f h order cols k
+  whole = walksOf f h order ps k
 
   -- the stops from i on
   abbrev pub rest : ℕ → Trace (List (List Place))
-  rest i = cutWalks (entries f h) k (openingOf f h) (inOrder (entries f h) order) (rows cols i (stopCount cols - i))
+  rest i = cutWalks (entries f h) k (openingOf f h) (inOrder (entries f h) order) (drop i ps)
 
   abbrev pub allPlaces : ℕ
-  allPlaces = stopCount cols * k
+  allPlaces = length ps * k
 
   -- what the lists of the stops still to come make of the whole
   pub record Ends (o : Slices) (at used : ℕ) (ls : List (List Place)) : Type 0 where
@@ -47,7 +45,7 @@ module _ (f : List ℕ) (h : Header) (order : List ℕ) (cols : List (List ℤ))
     pub last : lastLength used ls ≡ lastLength 0 all
 
   pub record StopTurn (o : Slices) (i at used : ℕ) : Type 0 where
-    pub bound : i ≤ stopCount cols
+    pub bound : i ≤ length ps
     pub place : at ≡ i * k
     pub d : length (o .lists .dist) ≡ length (o₀ .lists .dist)
     pub s : length (o .lists .site) ≡ length (o₀ .lists .site)
@@ -60,9 +58,6 @@ module _ (f : List ℕ) (h : Header) (order : List ℕ) (cols : List (List ℤ))
     pub asked : markAll (o₀ .marks) (whole .asked) ≡ markAll (o .marks) (rest i .asked)
     pub under : cleared 0 allPlaces (h .tiles) o ≡ cleared 0 allPlaces (h .tiles) o₀
 
-  all-stops : rest 0 ≡ whole
-  all-stops = let e : stopCount cols - 0 ≡ stopCount cols = omega arith in rw (e, points-rows cols (stopCount cols))
-
   pub turn-starts : Clear (o₀ .lists) 0 allPlaces → OpenedOpen f h (o₀ .marks) → StopTurn o₀ 0 0 0
   turn-starts clear opens = record {
     bound = omega arith;
@@ -73,9 +68,9 @@ module _ (f : List ℕ) (h : Header) (order : List ℕ) (cols : List (List ℤ))
     m = refl;
     clear = clear;
     opens = opens;
-    fine = λ ls e. record { all = ls; out = ap (λ w. w .out) (sym all-stops) ∙ e; laid = refl; last = refl };
-    bad = λ a b e. ap (λ w. w .out) (sym all-stops) ∙ e;
-    asked = ap (λ w. markAll (o₀ .marks) (w .asked)) (sym all-stops);
+    fine = λ ls e. record { all = ls; out = e; laid = refl; last = refl };
+    bad = λ a b e. e;
+    asked = refl;
     under = refl;
   }
 
@@ -95,19 +90,19 @@ module _ (f : List ℕ) (h : Header) (order : List ℕ) (cols : List (List ℤ))
       rw (lists, ap (λ (z : Slices). z .marks) e)
 
 -- one turn
-module _ {f : List ℕ} {h : Header} {order : List ℕ} {cols : List (List ℤ)} {k : ℕ} {o₀ o : Slices} {i at used : ℕ}
-    (turn : StopTurn f h order cols k o₀ o i at used) where
+module _ {f : List ℕ} {h : Header} {order : List ℕ} {ps : List (List ℤ)} {k : ℕ} {o₀ o : Slices} {i at used : ℕ}
+    (turn : StopTurn f h order ps k o₀ o i at used) where
   abbrev W : Trace (List (List Place))
-  W = whole f h order cols k o₀
+  W = whole f h order ps k o₀
 
   abbrev R : ℕ → Trace (List (List Place))
-  R j = rest f h order cols k o₀ j
+  R j = rest f h order ps k o₀ j
 
   abbrev N : ℕ
-  N = allPlaces f h order cols k o₀
+  N = allPlaces f h order ps k o₀
 
   -- no stop is left
-  pub turn-ends : stopCount cols ≤ i → StopsServed h W k N o₀ (accepted used) o
+  pub turn-ends : length ps ≤ i → StopsServed h W k N o₀ (accepted used) o
   unfolding markAll inRows
   turn-ends l = record {
     outcome = rw (end .out) (ap accepted (end .last));
@@ -116,22 +111,20 @@ module _ {f : List ℕ} {h : Header} {order : List ℕ} {cols : List (List ℤ)}
   }
     where
       none : R i ≡ record { asked = []; out = accepted [] }
-      none =
-          let e : stopCount cols - i ≡ 0 = omega arith in
-          rw (e, rows-none cols i) (walks-none _)
+      none = rw (drop-of-length-le ps l) (walks-none _)
 
-      end : Ends f h order cols k o₀ o at used []
+      end : Ends f h order ps k o₀ o at used []
       end = turn .fine [] (ap (λ w. w .out) none)
 
       marks : markAll (o₀ .marks) (W .asked) ≡ o .marks
       marks = turn .asked ∙ ap (λ w. markAll (o .marks) (w .asked)) none
 
   -- the stop at i
-  module _ (l : i < stopCount cols) where
+  module _ (l : i < length ps) where
     fits : at + k ≤ N
     fits =
         let a = suc-mul i k in
-        let c = mul-le-mul-right {m = suc i} {n = stopCount cols} k l in
+        let c = mul-le-mul-right {m = suc i} {n = length ps} k l in
         omega (arith, turn .place)
 
     pub turn-ready : 0 < k → Long (o₀ .lists) N → Ready (o .lists) at 0 k
@@ -148,25 +141,23 @@ module _ {f : List ℕ} {h : Header} {order : List ℕ} {cols : List (List ℤ)}
           sorted = tt;
         }
 
-    module _ {r : Outcome ℕ} {o′ : Slices} (x : StopServed f h (walkOf f h order (stopAt cols i) k) k at o r o′) where
+    module _ {r : Outcome ℕ} {o′ : Slices} (x : StopServed f h (walkOf f h order (getD ps i []) k) k at o r o′) where
       abbrev stop : Trace (List Place)
-      stop = walkOf f h order (stopAt cols i) k
+      stop = walkOf f h order (getD ps i []) k
 
-      stops-are : rows cols i (stopCount cols - i) ≡ stopAt cols i ∷ rows cols (i + 1) (stopCount cols - (i + 1))
-      stops-are =
-          let e : stopCount cols - i ≡ suc (stopCount cols - (i + 1)) = omega arith in
-          rw (e, rows-next cols i (stopCount cols - (i + 1)))
+      stops-are : drop i ps ≡ getD ps i [] ∷ drop (i + 1) ps
+      stops-are = rw (add-one i) (drop-cons ps i [] l)
 
       -- it is refused
       pub turn-refused : (a b : ℕ) → r ≡ refused a b → StopsServed h W k N o₀ (refused a b) o′
       turn-refused a b e =
           let q : stop .out ≡ refused a b = lengths (stop .out) (sym (x .outcome) ∙ e) in
           let w : W .out ≡ refused a b = turn .bad a b (rw stops-are
-          (walks-refused _ (stopAt cols i) _ a b q)) in
+          (walks-refused _ (getD ps i []) _ a b q)) in
           record {
             outcome = rw w;
             answered = λ ls z. accepted-refused z w;
-            under = covered f h order cols k o₀ o o′ at fits (x .under) ∙ turn .under;
+            under = covered f h order ps k o₀ o o′ at fits (x .under) ∙ turn .under;
           }
         where
           lengths : (z : Outcome (List Place)) → andThen z (λ l. accepted (length l)) ≡ refused a b → z ≡ refused a b
@@ -203,9 +194,9 @@ module _ {f : List ℕ} {h : Header} {order : List ℕ} {cols : List (List ℤ)}
           out = andThen (R (i + 1) .out) (λ ls. accepted (list ∷ ls));
         }
         rest-is = rw stops-are
-            (walks-next _ (stopAt cols i) _ list came)
+            (walks-next _ (getD ps i []) _ list came)
 
-        fine : (ls : List (List Place)) → R (i + 1) .out ≡ accepted ls → Ends f h order cols k o₀ o′ (at + k) n ls
+        fine : (ls : List (List Place)) → R (i + 1) .out ≡ accepted ls → Ends f h order ps k o₀ o′ (at + k) n ls
         fine ls z =
             let p = turn .fine (list ∷ ls) (ap (λ w. w .out) rest-is ∙ rw z) in
             let w = fits in
@@ -217,7 +208,7 @@ module _ {f : List ℕ} {h : Header} {order : List ℕ} {cols : List (List ℤ)}
               last = ap (λ (y : ℕ). lastLength y ls) (sym number) ∙ p .last;
             }
 
-        pub turn-next : StopTurn f h order cols k o₀ o′ (i + 1) (at + k) n
+        pub turn-next : StopTurn f h order ps k o₀ o′ (i + 1) (at + k) n
         turn-next =
             let q = lay-lengths (o .lists) at list in
             let u = suc-mul i k in
@@ -239,7 +230,7 @@ module _ {f : List ℕ} {h : Header} {order : List ℕ} {cols : List (List ℤ)}
               asked = turn .asked ∙ ap (λ w. markAll (o .marks) (w .asked)) rest-is
                   ∙ mark-all-append (o .marks) (stop .asked) (R (i + 1) .asked)
                   ∙ ap (λ z. markAll z (R (i + 1) .asked)) (sym marks-are);
-              under = covered f h order cols k o₀ o o′ at fits (x .under) ∙ turn .under;
+              under = covered f h order ps k o₀ o o′ at fits (x .under) ∙ turn .under;
             }
 
 -- ---- what is left of a run that was served, and of a refused one that was cleared

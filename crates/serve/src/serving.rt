@@ -1,5 +1,4 @@
 // Serving the stops: for each, the waiting tiles by key, until its list is full ahead of the next key.
-ghost use mathlib.Core.List.{[], _∷_};
 ghost use mathlib.Core.Path.{_≡_};
 ghost use Prim.Native.Nat.{_*_};
 ghost use lib.ListN.{length};
@@ -9,7 +8,7 @@ ghost use Rattle.plan.specs.FilePlan.{openingOf};
 ghost use Rattle.tiles.specs.Inner.Opening.{openingOutcome};
 ghost use Rattle.serve.specs.Inner.Serving.{servingOutcome, TileReady, withSites, afterTile};
 ghost use Rattle.serve.specs.Inner.Serving.{StopReady, StopServed, walkOf, StopsReady, StopsServed, waiting};
-ghost use Rattle.serve.specs.Inner.Serving.{walksOf, lastLength, afterStops};
+ghost use Rattle.serve.specs.Inner.Serving.{walksOf, Serves};
 use crate::marks::open_once;
 use base::Refusal;
 use blocks::header::Header;
@@ -20,10 +19,10 @@ use list::last_ahead;
 use places::tile::Target;
 use places::tile::add_tile;
 use plan::measure::NONE;
+use plan::region::Stop;
 use queue::gather::gather;
 use queue::keys::fill_keys;
 use queue::keys::next_key;
-use stops::stop::stop_at;
 use tiles::tile::Opening;
 
 // The answer of serving: the places used by the stop served last, or the refusal of an opening.
@@ -122,17 +121,16 @@ fn serve_stop(
 fn serve_all(
     f: &[u8],
     h: Header,
-    xs: &[i32],
-    ys: &[i32],
+    stops: &[Stop],
     k: usize,
     dist: &mut [u64],
     site: &mut [u32],
     cue: &mut [u32],
     marks: &mut [u8],
 ) -> Serving
-    requires { ⌜ StopsReady (now f) h (now xs ∷ now ys ∷ []) k (lent (now dist) (now site) (now cue) (now marks)) ⌝ }
+    requires { ⌜ StopsReady (now f) h (now stops) k (lent (now dist) (now site) (now cue) (now marks)) ⌝ }
     ensures { λ r. ⌜ StopsServed h (walksOf (now (f .entry)) h (waiting (now (f .entry)) h (now (marks .entry)))
-        (now (xs .entry) ∷ now (ys .entry) ∷ []) k) k (length (now (xs .entry)) * k)
+        (now (stops .entry)) k) k (length (now (stops .entry)) * k)
         (lent (now (dist .entry)) (now (site .entry)) (now (cue .entry)) (now (marks .entry))) (servingOutcome r)
         (lent (now (dist .exit)) (now (site .exit)) (now (cue .exit)) (now (marks .exit))) ⌝ }
 {
@@ -142,12 +140,9 @@ fn serve_all(
     let mut i: usize = 0;
     let mut at: usize = 0;
     let mut used: usize = 0;
-    while i < xs.len() {
-        let target = Target {
-            stop: stop_at(xs, ys, i),
-            at,
-            k,
-        };
+    while i < stops.len() {
+        let stop = stops[i];
+        let target = Target { stop, at, k };
         let answer = serve_stop(f, h, &order[..m], target, &mut keys, dist, site, cue, marks);
         let Serving::Served(n) = answer else {
             return answer;
@@ -163,26 +158,21 @@ fn serve_all(
 pub fn serve(
     f: &[u8],
     h: Header,
-    xs: &[i32],
-    ys: &[i32],
+    stops: &[Stop],
     k: usize,
     dist: &mut [u64],
     site: &mut [u32],
     cue: &mut [u32],
     marks: &mut [u8],
 ) -> Serving
-    requires { ⌜ StopsReady (now f) h (now xs ∷ now ys ∷ []) k (lent (now dist) (now site) (now cue) (now marks)) ⌝ }
-    ensures { λ r. ⌜ servingOutcome r
-        ≡ andThen (walksOf (now (f .entry)) h (waiting (now (f .entry)) h (now (marks .entry)))
-        (now (xs .entry) ∷ now (ys .entry) ∷ []) k .out) (λ ls. accepted (lastLength 0 ls)) ⌝ }
-    ensures { λ r. ⌜ lent (now (dist .exit)) (now (site .exit)) (now (cue .exit)) (now (marks .exit))
-        ≡ afterStops h (walksOf (now (f .entry)) h (waiting (now (f .entry)) h (now (marks .entry)))
-        (now (xs .entry) ∷ now (ys .entry) ∷ []) k) k (length (now (xs .entry)) * k)
-        (lent (now (dist .entry)) (now (site .entry)) (now (cue .entry)) (now (marks .entry))) ⌝ }
+    requires { ⌜ StopsReady (now f) h (now stops) k (lent (now dist) (now site) (now cue) (now marks)) ⌝ }
+    ensures { λ r. ⌜ Serves (now (f .entry)) h (now (stops .entry)) k
+        (lent (now (dist .entry)) (now (site .entry)) (now (cue .entry)) (now (marks .entry))) (servingOutcome r)
+        (lent (now (dist .exit)) (now (site .exit)) (now (cue .exit)) (now (marks .exit))) ⌝ }
 {
-    let answer = serve_all(f, h, xs, ys, k, dist, site, cue, marks);
+    let answer = serve_all(f, h, stops, k, dist, site, cue, marks);
     let Serving::Served(_) = answer else {
-        clear_places(dist, site, cue, xs.len() * k);
+        clear_places(dist, site, cue, stops.len() * k);
         clear8(marks, h.tiles);
         return answer;
     };

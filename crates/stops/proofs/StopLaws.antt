@@ -1,17 +1,19 @@
--- Loops over the stops: their test, and the least and the greatest coordinate.
-use Prim.Native.Nat.{ℕ, zero, suc, _+_, _<_, _≤_}
+-- Loops over the stops: the least and the greatest coordinate, and the stops gathered as points.
+use Prim.Native.Nat.{ℕ, zero, suc, _+_, _-_, _<_, _≤_}
 use mathlib.Core.Bool.{Bool, cond}
 use mathlib.Core.List.{List, [], _∷_}
 use mathlib.Core.Path.{_≡_, refl}
 use native.Mathlib.Numerals.{add-one}
 use native.Mathlib.Omega.{arith}
 use lib.IntN.{ℤ, pos}
-use lib.ListN.{length, getD, drop}
-use lib.Seq.{drop-cons}
+use lib.ListN.{length, getD, set, take, drop}
+use lib.Seq.{drop-cons, take-at}
 use lib.Signed.{ltZ}
-use Rattle.geometry.specs.Around.{foremost, least, greatest}
-use Rattle.geometry.proofs.Theorems.{points-length}
-use Rattle.stops.specs.Stops.{stopCount, stopsOf}
+use Rattle.base.specs.Over.{over}
+use Rattle.geometry.specs.Around.{rows, foremost, least, greatest}
+use Rattle.base.proofs.Over.{over-eq, over-nil, over-cons}
+use Rattle.geometry.proofs.Theorems.{points-length, points-rows, rows-none, rows-next}
+use Rattle.stops.specs.Stops.{stopCount, stopAt, stopsOf}
 
 -- the rest of the list is looked at from the best so far
 module _ (lt : ℤ → ℤ → Bool) (xs : List ℤ) where
@@ -45,3 +47,29 @@ greatest-start (x ∷ xs) h = refl
 
 pub stops-length : (cols : List (List ℤ)) → length (stopsOf cols) ≡ stopCount cols
 stops-length cols = points-length cols (stopCount cols)
+
+-- ---- the stops gathered as points: the loop's start, a turn, its end, and what is gathered
+
+module _ (cols : List (List ℤ)) where
+  pub gathering-starts : (l : List (List ℤ)) → over l 0 (rows cols 0 (stopCount cols - 0)) ≡ over l 0 (stopsOf cols)
+  gathering-starts l =
+      let e : stopCount cols - 0 ≡ stopCount cols = omega arith in
+      rw (e, points-rows cols (stopCount cols))
+
+  pub gathering-turn : (l : List (List ℤ)) (i n : ℕ) → i < n
+      → over (set l i (stopAt cols i)) (i + 1) (rows cols (i + 1) (n - (i + 1))) ≡ over l i (rows cols i (n - i))
+  gathering-turn l i n h =
+      let e : n - i ≡ suc (n - (i + 1)) = omega arith in
+      rw (e, rows-next cols i (n - (i + 1)), over-cons l i (stopAt cols i) (rows cols (i + 1) (n - (i + 1))), add-one i)
+
+  pub gathering-done : (l : List (List ℤ)) (i n : ℕ) → n ≤ i → l ≡ over l i (rows cols i (n - i))
+  gathering-done l i n h =
+      let e : n - i ≡ 0 = omega arith in
+      rw (e, rows-none cols i, over-nil l i)
+
+  -- they stand at the front
+  pub gathered : (l : List (List ℤ)) {m : List (List ℤ)} → m ≡ over l 0 (stopsOf cols) → stopCount cols ≤ length l
+      → take (stopCount cols) m ≡ stopsOf cols
+  gathered l e h =
+      let n = stops-length cols in
+      rw (e, over-eq l 0 (stopsOf cols) (omega arith)) (take-at (stopsOf cols) _ (stopCount cols) n)

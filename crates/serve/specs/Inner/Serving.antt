@@ -6,7 +6,6 @@
 --   StopsReady, StopsServed  before and after all stops are served
 --   afterStops               what is left then
 use Prim.Native.Nat.{ℕ, _*_, _<_, _≤_}
-use mathlib.Core.Bool.{true}
 use mathlib.Core.List.{List, [], _∷_}
 use mathlib.Core.Path.{_≡_}
 use lib.Dec.{ltb}
@@ -29,7 +28,6 @@ use Rattle.search.specs.Lists.{range, filter}
 use Rattle.search.specs.Order.{Strict}
 use Rattle.search.specs.Run.{noPlace, rank, tilePlaces, inOrder, inRows, openedMark}
 use Rattle.search.specs.declared.Place.{Place}
-use Rattle.stops.specs.Stops.{stopCount, stopsOf, validStop}
 use Rattle.serve.specs.Inner.Marks.{markAll, OpenedOpen}
 use Rattle.serve.specs.declared.serving.Serving.{Serving}
 use Rattle.serve.specs.declared.serving.Serving.the-variants.{Served, Refused}
@@ -88,14 +86,13 @@ pub record StopServed (f : List ℕ) (h : Header) (w : Trace (List Place)) (k at
 
 -- ---- all stops
 
-pub record StopsReady (f : List ℕ) (h : Header) (cols : List (List ℤ)) (k : ℕ) (o : Slices) : Type 0 where
+pub record StopsReady (f : List ℕ) (h : Header) (ps : List (List ℤ)) (k : ℕ) (o : Slices) : Type 0 where
   pub dir : directory f ≡ accepted h
-  pub same : All (λ c. length c ≡ stopCount cols) cols
-  pub valid : (i : ℕ) → i < stopCount cols → validStop cols i ≡ true
+  pub valid : All ValidStop ps
   pub some : 0 < k
-  pub few : stopCount cols * k ≤ maxPlaces
-  pub long : Long (o .lists) (stopCount cols * k)
-  pub clear : (i : ℕ) → 0 ≤ i → i < stopCount cols * k → placeAt (o .lists) i ≡ noPlace
+  pub few : length ps * k ≤ maxPlaces
+  pub long : Long (o .lists) (length ps * k)
+  pub clear : (i : ℕ) → 0 ≤ i → i < length ps * k → placeAt (o .lists) i ≡ noPlace
   pub marks : h .tiles ≤ length (o .marks)
   pub opens : OpenedOpen f h (o .marks)
 
@@ -105,7 +102,7 @@ waiting f h marks = filter (waits (entries f h) marks) (range 0 (h .tiles))
 
 -- the walks of all stops over them
 abbrev pub walksOf : List ℕ → Header → List ℕ → List (List ℤ) → ℕ → Trace (List (List Place))
-walksOf f h order cols k = cutWalks (entries f h) k (openingOf f h) (inOrder (entries f h) order) (stopsOf cols)
+walksOf f h order ps k = cutWalks (entries f h) k (openingOf f h) (inOrder (entries f h) order) ps
 
 -- the length of the last list, or n if there is none
 abbrev pub lastLength : ℕ → List (List Place) → ℕ
@@ -127,3 +124,9 @@ afterStops h w k n o = go (w .out)
     go : Outcome (List (List Place)) → Slices
     go (accepted ls) = record { lists = lay (o .lists) 0 (inRows k ls); marks = markAll (o .marks) (w .asked) }
     go (refused number block) = cleared 0 n (h .tiles) o
+
+-- what serving comes to, and what it leaves
+pub record Serves (f : List ℕ) (h : Header) (ps : List (List ℤ)) (k : ℕ) (o : Slices) (r : Outcome ℕ) (o′ : Slices)
+    : Type 0 where
+  pub outcome : r ≡ andThen (walksOf f h (waiting f h (o .marks)) ps k .out) (λ ls. accepted (lastLength 0 ls))
+  pub left : o′ ≡ afterStops h (walksOf f h (waiting f h (o .marks)) ps k) k (length ps * k) o

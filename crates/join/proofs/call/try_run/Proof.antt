@@ -44,10 +44,11 @@ begins m =
     let p : tie.After-clear-places = search in
     begun (start m .pre) (p .clear-places .ensures) (before m .around .ensures) (m .mark-pruned .ensures .1)
 
-serve-requires : tie.Need-serve-requires
-serve-requires c κs =
+serve-columns-requires : tie.Need-serve-columns-requires
+serve-columns-requires c κs =
     let m : tie.After-mark-pruned = search in
-    stops-ready (start m .pre) (begins m)
+    let s = start m in
+    ((s .pre .args .same .1 .0, s .pre .args .few), stops-ready (s .pre) (begins m))
 
 same-length : tie.Need-same-length
 same-length c = search needs
@@ -63,15 +64,15 @@ same-length-4 c = search needs
 
 returns : tie.Need-returns
 returns c =
-    let v : tie.After-serve = search in
+    let v : tie.After-serve-columns = search in
     let m : tie.After-mark-pruned = search in
     let a = before m in
     let s = start m in
     let x = s .args in
     let counted = m .mark-pruned .ensures .0 .0
     ∙ ap (λ o. prunedCount (entries (x .f .now) (x .h)) o (x .k)) (a .around .ensures) in
-    attempted (s .pre) (begins m) counted (m .mark-pruned .ensures .0 .1) (v .serve .ensures)
+    attempted (s .pre) (begins m) counted (m .mark-pruned .ensures .0 .1) (v .serve-columns .ensures)
 
 pub try-run-spec : {M : Type 1} → statement M
 try-run-spec = tie.close (tie.spec mul-clear-places clear-places-requires around-requires mark-pruned-requires
-    serve-requires same-length same-length-2 same-length-3 same-length-4 returns)
+    serve-columns-requires same-length same-length-2 same-length-3 same-length-4 returns)

@@ -39,10 +39,11 @@ returns c =
     let p : tie.After-clear-places = search in
     let m : tie.After-clear8 = search in
     let e : tie.After-enum-told2 = search in
-    let served = v .serve-all .ensures in (
-      served .outcome,
-      left-refused (rw (e .enum-told2 .given .1) at served) (p .clear-places .ensures) (m .clear8 .ensures),
-    )
+    let served = v .serve-all .ensures in
+    record {
+      outcome = served .outcome;
+      left = left-refused (rw (e .enum-told2 .given .1) at served) (p .clear-places .ensures) (m .clear8 .ensures);
+    }
 
 same-length-5 : tie.Need-same-length-5
 same-length-5 c = search needs
@@ -61,7 +62,7 @@ returns-2 c =
     let v : tie.After-serve-all = search in
     let e : tie.After-enum-told = search in
     let served = v .serve-all .ensures in
-    (served .outcome, left-served (rw (e .enum-told .given .1) at served))
+    record { outcome = served .outcome; left = left-served (rw (e .enum-told .given .1) at served) }
 
 pub serve-spec : {M : Type 1} → statement M
 serve-spec =

@@ -1,38 +1,31 @@
-use Prim.Native.Nat.{ℕ, _-_, _≤_}
-use mathlib.Core.Bool.{true}
-use mathlib.Core.List.{List, [], _∷_}
+use Prim.Native.Nat.{_-_, _≤_}
+use mathlib.Core.List.{[]}
 use mathlib.Core.Path.{_≡_, refl, ap, _∙_}
 use native.Mathlib.Omega.{arith}
-use lib.IntN.{ℤ}
-use lib.ListN.{length, take, length-take}
+use lib.ListN.{length, getD, take, length-take}
 use borrow.Author.Needs.{needs}
 use Rattle.blocks.specs.Layout.{maxTiles}
 use Rattle.list.specs.Lists.{lent}
 use Rattle.plan.specs.FilePlan.{entries}
 use Rattle.plan.specs.Inner.Seam.{ValidStop}
-use Rattle.geometry.proofs.Theorems.{row-axes}
 use Rattle.plan.proofs.Measures.{tiles-few}
 use Rattle.queue.specs.Inner.Keys.{waits}
+use Rattle.search.proofs.Lists.{all-getD}
 use Rattle.queue.proofs.Gathering.{gathered, waiting-tiles, waiting-rise}
-use Rattle.stops.specs.Stops.{stopAt, validStop}
 use Rattle.serve.specs.Inner.Serving.{servingOutcome, waiting, walkOf, StopServed}
 use Rattle.serve.proofs.StopLoop.{StopTurn, turn-starts, turn-ends, turn-refused, turn-next, turn-ready}
 use Rattle.serve.proofs.serving.serve_all.Statement.{statement}
 use Rattle.serve.proofs.serving.serve_all.Tie as tie
 
-stop-valid : (xs ys : List ℤ) (i : ℕ) → validStop (xs ∷ ys ∷ []) i ≡ true → ValidStop (stopAt (xs ∷ ys ∷ []) i)
-unfolding validStop
-stop-valid xs ys i e = record { valid = e; axes = row-axes (xs ∷ ys ∷ []) i }
-
 abbrev Inv-loop : tie.InvT-loop
-Inv-loop f h xs ys k dist₀ site₀ cue₀ marks₀ order keys₀ m i₀ at₀ used₀ dist site cue marks keys i at used =
+Inv-loop f h stops k dist₀ site₀ cue₀ marks₀ order keys₀ m i₀ at₀ used₀ dist site cue marks keys i at used =
     (length keys ≡ length keys₀)
-    × StopTurn f h (waiting f h marks₀) (xs ∷ ys ∷ []) k (lent dist₀ site₀ cue₀ marks₀)
+    × StopTurn f h (waiting f h marks₀) stops k (lent dist₀ site₀ cue₀ marks₀)
     (lent dist site cue marks) i at used
 
 abbrev μ-loop : tie.MeasureT-loop
-μ-loop f h xs ys k dist₀ site₀ cue₀ marks₀ order keys₀ m i₀ at₀ used₀ dist site cue marks keys i at used =
-    length xs - i
+μ-loop f h stops k dist₀ site₀ cue₀ marks₀ order keys₀ m i₀ at₀ used₀ dist site cue marks keys i at used =
+    length stops - i
 
 slice-aggregate-gather : tie.Need-slice-aggregate-gather Inv-loop μ-loop
 slice-aggregate-gather c = search needs
@@ -48,7 +41,7 @@ loop-holds c =
     let a = s .args in
     let o = lent (a .dist .now) (a .site .now) (a .cue .now) (a .marks .now) in
     let tiles = waiting (a .f .now) (a .h) (a .marks .now) in
-    (refl, turn-starts (a .f .now) (a .h) tiles (a .xs .now ∷ a .ys .now ∷ []) (a .k) o (s .pre .clear) (s .pre .opens))
+    (refl, turn-starts (a .f .now) (a .h) tiles (a .stops .now) (a .k) o (s .pre .clear) (s .pre .opens))
 
 -- what was gathered: the waiting tiles, in their order
 abbrev start : tie.After-gather Inv-loop μ-loop → tie.Start Inv-loop μ-loop
@@ -70,8 +63,11 @@ few-gathered g =
     let s = start g in
     omega (arith, waiting-gathered g .0, tiles-few (s .args .f .now) (s .args .h) (s .pre .dir))
 
-stop-at-requires : tie.Need-stop-at-requires Inv-loop μ-loop
-stop-at-requires c κs = search needs
+mul-stop : tie.Need-mul-stop Inv-loop μ-loop
+mul-stop c = search needs
+
+shared-slice-copy-out-stop : tie.Need-shared-slice-copy-out-stop Inv-loop μ-loop
+shared-slice-copy-out-stop c = search needs
 
 array-share-prefix-order : tie.Need-array-share-prefix-order Inv-loop μ-loop
 array-share-prefix-order c =
@@ -95,7 +91,6 @@ slice-aggregate-serve-stop-2 c = search needs
 serve-stop-requires : tie.Need-serve-stop-requires Inv-loop μ-loop
 serve-stop-requires c κs =
     let b : tie.In-loop Inv-loop μ-loop = search in
-    let p : tie.After-stop-at Inv-loop μ-loop = search in
     let l : tie.At-loop Inv-loop μ-loop = search in
     let g = gathering l in
     let s = start g in
@@ -107,8 +102,7 @@ serve-stop-requires c κs =
       dir = s .pre .dir;
       tiles = rw (w .1) (waiting-tiles waits′ (s .args .h .tiles));
       rise = rw (w .1) (waiting-rise waits′ (s .args .h .tiles));
-      stop = rw (p .stop-at .ensures) (stop-valid (a .xs .now) (a .ys .now) (l .loop .i)
-          (s .pre .valid (l .loop .i) (b .loop-test .taken)));
+      stop = all-getD ValidStop (a .stops .now) (l .loop .i) [] (b .loop-test .taken) (s .pre .valid);
       list = turn-ready t (b .loop-test .taken) (s .pre .some) (s .pre .long);
       room =
           omega (arith, few-gathered g, l .loop .inv .0, length-take (g .gather .result) (g .gather .last .1 .1 .1 .0));
@@ -146,17 +140,16 @@ served : (x : tie.After-serve-stop Inv-loop μ-loop) →
     let a = start (gathering l) .args in
     let tiles = waiting (a .f .now) (a .h) (a .marks .now) in
     StopServed (a .f .now) (a .h)
-    (walkOf (a .f .now) (a .h) tiles (stopAt (a .xs .now ∷ a .ys .now ∷ []) (l .loop .i)) (a .k)) (a .k) (l .loop .at)
+    (walkOf (a .f .now) (a .h) tiles (getD (a .stops .now) (l .loop .i) []) (a .k)) (a .k) (l .loop .at)
     (lent (l .loop .dist) (l .loop .site) (l .loop .cue) (l .loop .marks)) (servingOutcome (x .serve-stop .result))
     (lent (x .serve-stop .last .1 .1 .1 .1 .1 .0) (x .serve-stop .last .1 .1 .1 .1 .1 .1 .0)
     (x .serve-stop .last .1 .1 .1 .1 .1 .1 .1 .0) (x .serve-stop .last .1 .1 .1 .1 .1 .1 .1 .1 .0))
 served x =
-    let p : tie.After-stop-at Inv-loop μ-loop = search in
-    let g = gathering (head (turned x)) in
+    let l = head (turned x) in
+    let g = gathering l in
     let a = start g .args in
-    let tiles = waiting (a .f .now) (a .h) (a .marks .now) in
-    let same = ap (λ order. walkOf (a .f .now) (a .h) order (p .stop-at .result) (a .k)) (waiting-gathered g .1)
-    ∙ ap (λ stop. walkOf (a .f .now) (a .h) tiles stop (a .k)) (p .stop-at .ensures) in
+    let stop = getD (a .stops .now) (l .loop .i) [] in
+    let same = ap (λ order. walkOf (a .f .now) (a .h) order stop (a .k)) (waiting-gathered g .1) in
     rw same at (x .serve-stop .ensures)
 
 returns : tie.Need-returns Inv-loop μ-loop
@@ -212,7 +205,7 @@ returns-2 c =
     turn-ends (l .loop .inv .1) (omega (arith, c .loop-test .left))
 
 pub serve-all-spec : {M : Type 1} → statement M
-serve-all-spec = tie.close (tie.spec Inv-loop μ-loop slice-aggregate-gather gather-requires loop-holds stop-at-requires
-    array-share-prefix-order slice-aggregate-serve-stop slice-aggregate-serve-stop-2 serve-stop-requires
+serve-all-spec = tie.close (tie.spec Inv-loop μ-loop slice-aggregate-gather gather-requires loop-holds mul-stop
+    shared-slice-copy-out-stop array-share-prefix-order slice-aggregate-serve-stop slice-aggregate-serve-stop-2 serve-stop-requires
     enum-known-answer enum-told same-length same-length-2 same-length-3 same-length-4 returns add-i add-at loop-less
     loop-again same-length-5 same-length-6 same-length-7 same-length-8 returns-2)
