@@ -1,6 +1,6 @@
-# make run: the program on a sample town. make lib: the library for hosts in C. make install and make uninstall: both, in the
-# folders below PREFIX. make test: everything; its last line is the verdict of `rt ci`. make bench: the benchmark, which writes
-# docs/BENCHMARK.md.
+# make run: the program on a sample town. make lib: the library for hosts in C. make install and make uninstall: both,
+# in the folders below PREFIX. make test: everything; its last line is the verdict of `rt ci`. make bench: the
+# benchmark, which writes docs/BENCHMARK.md.
 PREFIX = /usr/local
 DESTDIR =
 VERSION = 1.0.0

@@ -9,8 +9,8 @@
 extern "C" {
 #endif
 
-/* As nearby_block_check: 0, or 1 (not 512 bytes), 2 (first byte), 3 (check). The sums are taken as the paper says them, with a
- * remainder for each byte. */
+/* As nearby_block_check: 0, or 1 (not 512 bytes), 2 (first byte), 3 (check). The sums are taken as the paper says them,
+ * with a remainder for each byte. */
 uint32_t c_block_check(const uint8_t *block, size_t block_len);
 
 /* The same answers, but the sums are reduced once at the end: they stay below 2^32. */

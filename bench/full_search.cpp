@@ -1,6 +1,6 @@
-// (b) A full search: all squared distances of a stop, then one pass over them that keeps the k best. The first loop has no
-// branch, so that the compiler can use vector instructions. Sites come in the order of tile and slot, so a site that ties with
-// the last of a full list never enters.
+// (b) A full search: all squared distances of a stop, then one pass over them that keeps the k best. The first loop has
+// no branch, so that the compiler can use vector instructions. Sites come in the order of tile and slot, so a site that
+// ties with the last of a full list never enters.
 #include "peers.hpp"
 
 namespace {
@@ -39,4 +39,7 @@ private:
 
 } // namespace
 
-std::unique_ptr<Index> full_search(const Bytes &file, BlockCheck check, Use) { return std::make_unique<FullSearch>(file, check); }
+std::unique_ptr<Index> full_search(const Bytes &file, BlockCheck check, Use)
+{
+    return std::make_unique<FullSearch>(file, check);
+}

@@ -1,5 +1,6 @@
-// The benchmark: `bench RESULTS` measures everything in two passes, so that a disturbance of minutes spoils one of them at most;
-// it prints the figures and writes them to the file RESULTS, one to a line. The report takes the better of the two.
+// The benchmark: `bench RESULTS` measures everything in two passes, so that a disturbance of minutes spoils one of them
+// at most; it prints the figures and writes them to the file RESULTS, one to a line. The report takes the better of the
+// two.
 // `bench one RUNNER TOWN STOPS N K SECONDS` repeats one runner on one input, for a profiler.
 // The clock runs from the file's bytes in memory to the filled lists. The output slices are made before.
 #include "../include/nearby.h"
@@ -28,9 +29,9 @@ struct Engine {
     nearby_joined joined{};
     void run(const Query &q, Lists &out)
     {
-        joined = nearby_join(q.file.data(), q.file.size(), q.x.data(), q.x.size(), q.y.data(), q.y.size(), q.k, out.dist.data(),
-                             out.dist.size(), out.site.data(), out.site.size(), out.cue.data(), out.cue.size(), marks.data(),
-                             marks.size());
+        joined = nearby_join(q.file.data(), q.file.size(), q.x.data(), q.x.size(), q.y.data(), q.y.size(), q.k,
+                             out.dist.data(), out.dist.size(), out.site.data(), out.site.size(), out.cue.data(),
+                             out.cue.size(), marks.data(), marks.size());
     }
 };
 
@@ -38,8 +39,8 @@ struct Engine {
 class Cell {
 public:
     Cell(const Town &town, const std::string &stops, size_t n, uint32_t k, BlockCheck check = c_block_check)
-        : town_(town), kind_(stops), stops_(stops == "track" ? track(town, n) : spread(town, n)), query_{town.file, stops_.x, stops_.y, k},
-          check_(check), lists_(6, Lists(n * k))
+        : town_(town), kind_(stops), stops_(stops == "track" ? track(town, n) : spread(town, n)),
+          query_{town.file, stops_.x, stops_.y, k}, check_(check), lists_(6, Lists(n * k))
     {
     }
 
@@ -71,7 +72,8 @@ public:
     // All lists that were made are the same, and the counts of (e) and (f) are those of the engine.
     void compare() const
     {
-        std::string where = town_.name + ", " + kind_ + ", n " + std::to_string(query_.stops()) + ", k " + std::to_string(query_.k);
+        std::string where = town_.name + ", " + kind_ + ", n " + std::to_string(query_.stops()) + ", k " +
+                            std::to_string(query_.k);
         if (engine_.joined.number != NEARBY_OK)
             fail("the engine refused " + where);
         for (size_t i = 1; i < 6; i++)
@@ -85,15 +87,15 @@ public:
     void write(const std::string &group, const std::vector<Runner> &runners) const
     {
         for (const Runner &r : runners)
-            std::fprintf(results, "%s\t%s\t%s\t%zu\t%u\t%s\t%.4f\n", group.c_str(), town_.name.c_str(), kind_.c_str(), query_.stops(), query_.k,
-                         r.name.c_str(), r.best);
+            std::fprintf(results, "%s\t%s\t%s\t%zu\t%u\t%s\t%.4f\n", group.c_str(), town_.name.c_str(), kind_.c_str(),
+                         query_.stops(), query_.k, r.name.c_str(), r.best);
     }
 
     void write_counts() const
     {
         const nearby_joined &j = engine_.joined;
-        std::fprintf(results, "counts\t%s\t%s\t%zu\t%u\t%u\t%u\t%u\n", town_.name.c_str(), kind_.c_str(), query_.stops(), query_.k, j.tiles,
-                     j.opened, j.pruned);
+        std::fprintf(results, "counts\t%s\t%s\t%zu\t%u\t%u\t%u\t%u\n", town_.name.c_str(), kind_.c_str(),
+                     query_.stops(), query_.k, j.tiles, j.opened, j.pruned);
     }
 
     void print(const std::vector<Runner> &runners) const
@@ -122,11 +124,13 @@ private:
 
 void header(const char *title)
 {
-    std::printf("\n%s: microseconds, then ratios to the engine, then tiles opened/struck\n%-14s %-6s %4s %3s %10s %10s %10s %10s %10s %10s\n", title,
-                "town", "stops", "n", "k", "engine", "search", "nanoflann", "rtree", "paper", "tuned");
+    std::printf("\n%s: microseconds, then ratios to the engine, then tiles opened/struck\n"
+                "%-14s %-6s %4s %3s %10s %10s %10s %10s %10s %10s\n",
+                title, "town", "stops", "n", "k", "engine", "search", "nanoflann", "rtree", "paper", "tuned");
 }
 
-void measure_cell(const char *group, const Town &town, const std::string &stops, size_t n, uint32_t k, BlockCheck check = c_block_check)
+void measure_cell(const char *group, const Town &town, const std::string &stops, size_t n, uint32_t k,
+                  BlockCheck check = c_block_check)
 {
     Cell cell(town, stops, n, k, check);
     std::vector<Runner> runners = cell.runners();
@@ -246,7 +250,9 @@ void measure_checks(const Town &town)
             sink = sink + sum;
         };
     };
-    std::vector<Runner> checks{{"proved", over_blocks(nearby_block_check)}, {"c", over_blocks(c_block_check)}, {"c-late", over_blocks(c_block_check_late)}};
+    std::vector<Runner> checks{{"proved", over_blocks(nearby_block_check)},
+                               {"c", over_blocks(c_block_check)},
+                               {"c-late", over_blocks(c_block_check_late)}};
     write_ns("block check", checks, blocks);
 
     std::mt19937_64 rng(7);
@@ -273,7 +279,9 @@ void measure_checks(const Town &town)
             sink = sink + sum;
         };
     };
-    for (const auto &[what, list] : {std::pair<const char *, const std::vector<Triple> &>("margin, tile pairs of the grid", pairs), {"margin, random boxes", mixed}, {"margin, one triple again", same}}) {
+    using Named = std::pair<const char *, const std::vector<Triple> &>;
+    for (const auto &[what, list] : {Named("margin, tile pairs of the grid", pairs), {"margin, random boxes", mixed},
+                                     {"margin, one triple again", same}}) {
         std::vector<Runner> margins{{"proved", over_triples(list, nearby_margin)}, {"c", over_triples(list, c_margin)}};
         write_ns(what, margins, list.size());
     }
@@ -282,7 +290,8 @@ void measure_checks(const Town &town)
 // Reading alone: every block checked and decoded, as (b), (c), (d) do first.
 void measure_reading(const Town &town)
 {
-    std::vector<Runner> r{{"paper's check", [&] { read_sites(town.file, c_block_check); }}, {"late check", [&] { read_sites(town.file, c_block_check_late); }}};
+    std::vector<Runner> r{{"paper's check", [&] { read_sites(town.file, c_block_check); }},
+                          {"late check", [&] { read_sites(town.file, c_block_check_late); }}};
     measure(r);
     std::printf("\nReading all of %s:", town.name.c_str());
     for (Runner &x : r) {
@@ -318,9 +327,14 @@ void measure_stack(const Town &town)
     std::vector<std::pair<const char *, std::function<void()>>> calls{
         {"(an empty call)", [] {}},
         {"nearby_join", [&] { engine.run(q, lists); }},
-        {"nearby_prune", [&] { nearby_prune(f.data(), f.size(), -100, 100, -100, 100, 64, marks.data(), marks.size()); }},
+        {"nearby_prune",
+         [&] { nearby_prune(f.data(), f.size(), -100, 100, -100, 100, 64, marks.data(), marks.size()); }},
         {"nearby_validate", [&] { nearby_validate(f.data(), f.size()); }},
-        {"nearby_write", [&] { nearby_write(boxes.data(), 4, counts.data(), 1, x.data(), 40, y.data(), 40, cues.data(), 40, out.data(), out.size()); }},
+        {"nearby_write",
+         [&] {
+             nearby_write(boxes.data(), 4, counts.data(), 1, x.data(), 40, y.data(), 40, cues.data(), 40, out.data(),
+                          out.size());
+         }},
         {"nearby_block_check", [&] { nearby_block_check(f.data(), BLOCK); }},
         {"nearby_margin", [&] { nearby_margin(0, 1, 0, 1, 2, 3, 2, 3, 4, 5, 4, 5); }},
     };

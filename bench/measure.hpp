@@ -1,5 +1,5 @@
-// Timing: every runner of a cell is warmed up once, then all take turns in four rounds; the best run counts. Taking turns
-// spreads a disturbance of the machine over all of them.
+// Timing: every runner of a cell is warmed up once, then all take turns in four rounds; the best run counts. Taking
+// turns spreads a disturbance of the machine over all of them.
 #pragma once
 #include <algorithm>
 #include <chrono>

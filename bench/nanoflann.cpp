@@ -1,5 +1,6 @@
-// (c) nanoflann's k-d tree over all sites. Its own result set keeps an arbitrary one of the sites that tie at place k; ours
-// ranks by distance, then site, and asks for sites up to and including the worst distance, so one search gives the exact list.
+// (c) nanoflann's k-d tree over all sites. Its own result set keeps an arbitrary one of the sites that tie at place k;
+// ours ranks by distance, then site, and asks for sites up to and including the worst distance, so one search gives the
+// exact list.
 #include "peers.hpp"
 #include <limits>
 #include <nanoflann.hpp>
@@ -34,12 +35,14 @@ private:
     Best best_;
 };
 
-using Tree = nanoflann::KDTreeSingleIndexAdaptor<nanoflann::L2_Simple_Adaptor<double, Cloud, double, uint32_t>, Cloud, 2, uint32_t>;
+using Distance = nanoflann::L2_Simple_Adaptor<double, Cloud, double, uint32_t>;
+using Tree = nanoflann::KDTreeSingleIndexAdaptor<Distance, Cloud, 2, uint32_t>;
 
 class KdTree : public Index {
 public:
     KdTree(const Bytes &file, BlockCheck check, size_t leaf)
-        : sites_(read_sites(file, check)), cloud_{sites_}, tree_(2, cloud_, nanoflann::KDTreeSingleIndexAdaptorParams(leaf))
+        : sites_(read_sites(file, check)), cloud_{sites_},
+          tree_(2, cloud_, nanoflann::KDTreeSingleIndexAdaptorParams(leaf))
     {
     }
 
@@ -62,8 +65,8 @@ private:
 
 } // namespace
 
-// Sites in a leaf. On the 960 x 40 grid with n = 256, k = 8, of 8 to 256: from 64 on the whole call is quickest, within the
-// noise; with the tree ready, questions are quicker with 16 than with 64.
+// Sites in a leaf. On the 960 x 40 grid with n = 256, k = 8, of 8 to 256: from 64 on the whole call is quickest, within
+// the noise; with the tree ready, questions are quicker with 16 than with 64.
 std::unique_ptr<Index> nanoflann_tree(const Bytes &file, BlockCheck check, Use use)
 {
     return std::make_unique<KdTree>(file, check, use == Use::ONCE ? 64 : 16);

@@ -1,18 +1,22 @@
-// (e) The paper's own algorithm, as one would write it down, and (f) the same made quicker by keeping what does not change.
-// Both: check and decode the directory; for each tile B the counts of the nearer tiles, left as soon as they reach k; for each
-// stop a heap of the tiles neither struck nor empty by key; each tile opened once a run, with all tests; sites read from the
-// block's bytes; the k best in a sorted vector.
+// (e) The paper's own algorithm, as one would write it down, and (f) the same made quicker by keeping what does not
+// change.
+// Both: check and decode the directory; for each tile B the counts of the nearer tiles, left as soon as they reach k;
+// for each stop a heap of the tiles neither struck nor empty by key; each tile opened once a run, with all tests; sites
+// read from the block's bytes; the k best in a sorted vector.
 // (e) takes the margin of each pair of tiles from their boxes, and looks through all tiles for each stop.
 // (f) takes for each tile and each end of the box O the far and near square once, and gathers the tiles that wait once.
-// Neither sorts or groups tiles in space, keeps anything of one stop's walk for the next, or uses vector instructions by hand
-// or threads.
+// Neither sorts or groups tiles in space, keeps anything of one stop's walk for the next, or uses vector instructions
+// by hand or threads.
 #include "peers.hpp"
 #include <functional>
 
 namespace {
 
 int64_t square(int64_t a) { return a * a; }
-int64_t near_square(int64_t p, int64_t low, int64_t high) { return p < low ? square(low - p) : p > high ? square(p - high) : 0; }
+int64_t near_square(int64_t p, int64_t low, int64_t high)
+{
+    return p < low ? square(low - p) : p > high ? square(p - high) : 0;
+}
 int64_t far_square(int64_t p, int64_t low, int64_t high) { return std::max(square(p - low), square(high - p)); }
 
 int64_t axis_margin(int64_t o0, int64_t o1, int64_t e0, int64_t e1, int64_t b0, int64_t b1)
@@ -42,17 +46,21 @@ struct TableMargins {
     {
         for (size_t t = 0; t < dir.tiles(); t++) {
             const Box &b = dir.box[t];
-            far[t] = {far_square(o.x0, b.x0, b.x1), far_square(o.x1, b.x0, b.x1), far_square(o.y0, b.y0, b.y1), far_square(o.y1, b.y0, b.y1)};
-            near[t] = {near_square(o.x0, b.x0, b.x1), near_square(o.x1, b.x0, b.x1), near_square(o.y0, b.y0, b.y1), near_square(o.y1, b.y0, b.y1)};
+            far[t] = {far_square(o.x0, b.x0, b.x1), far_square(o.x1, b.x0, b.x1),
+                      far_square(o.y0, b.y0, b.y1), far_square(o.y1, b.y0, b.y1)};
+            near[t] = {near_square(o.x0, b.x0, b.x1), near_square(o.x1, b.x0, b.x1),
+                       near_square(o.y0, b.y0, b.y1), near_square(o.y1, b.y0, b.y1)};
         }
     }
     int64_t operator()(size_t e, size_t b) const
     {
-        return std::max(far[e].x0 - near[b].x0, far[e].x1 - near[b].x1) + std::max(far[e].y0 - near[b].y0, far[e].y1 - near[b].y1);
+        return std::max(far[e].x0 - near[b].x0, far[e].x1 - near[b].x1) +
+               std::max(far[e].y0 - near[b].y0, far[e].y1 - near[b].y1);
     }
 };
 
-template <class Margins> std::vector<uint8_t> strike(const Directory &dir, const Margins &margin, uint32_t k, PaperCounts &counts)
+template <class Margins>
+std::vector<uint8_t> strike(const Directory &dir, const Margins &margin, uint32_t k, PaperCounts &counts)
 {
     size_t tiles = dir.tiles();
     std::vector<uint8_t> marks(tiles);
@@ -76,7 +84,9 @@ struct Key {
 };
 
 // Serves the stops; `each_waiting` calls its argument with each tile neither struck nor empty.
-template <class Waiting> void serve(const Query &q, BlockCheck check, const Directory &dir, std::vector<uint8_t> &marks, const Waiting &each_waiting, PaperCounts &counts, Lists &out)
+template <class Waiting>
+void serve(const Query &q, BlockCheck check, const Directory &dir, std::vector<uint8_t> &marks,
+           const Waiting &each_waiting, PaperCounts &counts, Lists &out)
 {
     std::vector<Key> keys;
     keys.reserve(dir.tiles());
@@ -92,7 +102,8 @@ template <class Waiting> void serve(const Query &q, BlockCheck check, const Dire
         best.clear();
         while (!keys.empty()) {
             Key next = keys.front();
-            if (best.full() && (best.last().dist < next.near || (best.last().dist == next.near && best.last().site / SLOTS < next.tile)))
+            if (best.full() && (best.last().dist < next.near ||
+                                (best.last().dist == next.near && best.last().site / SLOTS < next.tile)))
                 break;
             std::pop_heap(keys.begin(), keys.end(), std::greater<>());
             keys.pop_back();
@@ -103,7 +114,8 @@ template <class Waiting> void serve(const Query &q, BlockCheck check, const Dire
             }
             const uint8_t *p = tile_block(q.file, dir, next.tile) + PAYLOAD;
             for (uint32_t j = 0; j < dir.count[next.tile]; j++, p += SITE)
-                best.add({uint64_t(square(i32_at(p) - px) + square(i32_at(p + 4) - py)), uint32_t(next.tile * SLOTS + j), u32_at(p + 8)});
+                best.add({uint64_t(square(i32_at(p) - px) + square(i32_at(p + 4) - py)),
+                          uint32_t(next.tile * SLOTS + j), u32_at(p + 8)});
         }
         best.put(out, i);
     }

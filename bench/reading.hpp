@@ -32,7 +32,10 @@ inline uint32_t u16_at(const uint8_t *p) { return p[0] | p[1] << 8; }
 inline int32_t i32_at(const uint8_t *p) { int32_t v; std::memcpy(&v, p, 4); return v; }
 inline uint32_t u32_at(const uint8_t *p) { uint32_t v; std::memcpy(&v, p, 4); return v; }
 
-inline const uint8_t *tile_block(const Bytes &file, const Directory &dir, size_t t) { return &file[(dir.blocks + t) * BLOCK]; }
+inline const uint8_t *tile_block(const Bytes &file, const Directory &dir, size_t t)
+{
+    return &file[(dir.blocks + t) * BLOCK];
+}
 
 // Reads and checks the directory: tests 1 to 9.
 Directory read_directory(const Bytes &file, BlockCheck check);

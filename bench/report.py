@@ -7,8 +7,10 @@ from collections import defaultdict
 
 FOLDER, FLAGS = sys.argv[1], sys.argv[2]
 PLOTS = 'docs/benchmark'
-NAMES = {'engine': 'engine (a)', 'search': 'full search (b)', 'nanoflann': 'nanoflann (c)', 'rtree': 'R-tree (d)', 'paper': "paper in C++ (e)", 'tuned': 'paper, tuned (f)'}
-COLOURS = {'engine': '#6a3d9a', 'search': '#888888', 'nanoflann': '#1f78b4', 'rtree': '#33a02c', 'paper': '#e66100', 'tuned': '#b15928'}
+NAMES = {'engine': 'engine (a)', 'search': 'full search (b)', 'nanoflann': 'nanoflann (c)', 'rtree': 'R-tree (d)',
+         'paper': "paper in C++ (e)", 'tuned': 'paper, tuned (f)'}
+COLOURS = {'engine': '#6a3d9a', 'search': '#888888', 'nanoflann': '#1f78b4', 'rtree': '#33a02c', 'paper': '#e66100',
+           'tuned': '#b15928'}
 PEERS = ['search', 'nanoflann', 'rtree', 'paper', 'tuned']
 TARGET = ('grid 960 x 40', 'track', 256, 8)
 STACK_LIMIT = 512 * 1024
@@ -91,16 +93,19 @@ def package(name):
 
 class Svg:
     def __init__(self, width, height, title):
-        self.parts = [f'<svg xmlns="http://www.w3.org/2000/svg" width="{width}" height="{height}" viewBox="0 0 {width} {height}" '
-                      f'font-family="sans-serif" font-size="12">', f'<rect width="{width}" height="{height}" fill="white"/>']
+        self.parts = [f'<svg xmlns="http://www.w3.org/2000/svg" width="{width}" height="{height}" '
+                      f'viewBox="0 0 {width} {height}" font-family="sans-serif" font-size="12">',
+                      f'<rect width="{width}" height="{height}" fill="white"/>']
         self.text(width / 2, 20, title, 'middle', size=14)
 
     def text(self, x, y, words, anchor='start', colour='#222', size=12, turn=None):
         turned = f' transform="rotate({turn} {x:.1f} {y:.1f})"' if turn else ''
-        self.parts.append(f'<text x="{x:.1f}" y="{y:.1f}" text-anchor="{anchor}" fill="{colour}" font-size="{size}"{turned}>{words}</text>')
+        self.parts.append(f'<text x="{x:.1f}" y="{y:.1f}" text-anchor="{anchor}" fill="{colour}" '
+                          f'font-size="{size}"{turned}>{words}</text>')
 
     def line(self, x1, y1, x2, y2, colour='#ddd', width=1):
-        self.parts.append(f'<line x1="{x1:.1f}" y1="{y1:.1f}" x2="{x2:.1f}" y2="{y2:.1f}" stroke="{colour}" stroke-width="{width}"/>')
+        self.parts.append(f'<line x1="{x1:.1f}" y1="{y1:.1f}" x2="{x2:.1f}" y2="{y2:.1f}" '
+                          f'stroke="{colour}" stroke-width="{width}"/>')
 
     def path(self, points, colour):
         d = ' '.join(f'{x:.1f},{y:.1f}' for x, y in points)
@@ -173,12 +178,14 @@ def write_plots(run):
     os.makedirs(PLOTS, exist_ok=True)
     bar_plot('inputs.svg', 'n = 256, k = 8: microseconds (log scale)',
              [(f'{c[0]}, {c[1]}', v) for c, v in run.times['main'].items() if c[2:] == (256, 8)])
-    for group, at, title, unit in [('growth-T', 0, 'Growth with T: grid of T tiles x 40 sites, track, n = 64, k = 8', 'tiles'),
-                                   ('growth-n', 2, 'Growth with n: grid 960 x 40, track, k = 8', 'stops'),
-                                   ('growth-k', 3, 'Growth with k: grid 960 x 40, track, n = 64', 'k')]:
+    for group, at, title, unit in [
+            ('growth-T', 0, 'Growth with T: grid of T tiles x 40 sites, track, n = 64, k = 8', 'tiles'),
+            ('growth-n', 2, 'Growth with n: grid 960 x 40, track, k = 8', 'stops'),
+            ('growth-k', 3, 'Growth with k: grid 960 x 40, track, n = 64', 'k')]:
         cells = run.times[group]
         xs = [int(c[0].split()[1]) if at == 0 else c[at] for c in cells]
-        growth_plot(f'{group}.svg', title, f'{unit} (both scales are logarithmic)', xs, {r: [v[r] for v in cells.values()] for r in NAMES})
+        growth_plot(f'{group}.svg', title, f'{unit} (both scales are logarithmic)', xs,
+                    {r: [v[r] for v in cells.values()] for r in NAMES})
 
 
 # The text.
@@ -194,14 +201,16 @@ def main_table(run):
     for cell, v in run.times['main'].items():
         opened, struck = run.counts[cell][1:]
         rows.append([*cell, *(three(v[r]) for r in NAMES), *ratios(v), opened, struck])
-    return table(['town', 'stops', 'n', 'k', 'a', 'b', 'c', 'd', 'e', 'f', 'b/a', 'c/a', 'd/a', 'e/a', 'f/a', 'opened', 'struck'], rows)
+    return table(['town', 'stops', 'n', 'k', 'a', 'b', 'c', 'd', 'e', 'f', 'b/a', 'c/a', 'd/a', 'e/a', 'f/a',
+                  'opened', 'struck'], rows)
 
 
 def ask_table(run):
     rows = []
     for cell, v in run.times['ask'].items():
         if cell[:2] in (('grid 960 x 40', 'track'), ('grid 960 x 40', 'spread'), ('alike', 'track')):
-            rows.append([*cell, three(run.times['main'][cell]['engine']), *(three(v[r]) for r in ('search', 'nanoflann', 'rtree'))])
+            rows.append([*cell, three(run.times['main'][cell]['engine']),
+                         *(three(v[r]) for r in ('search', 'nanoflann', 'rtree'))])
     return table(['town', 'stops', 'n', 'k', 'a, whole call', 'b, sites ready', 'c, tree ready', 'd, tree ready'], rows)
 
 
@@ -229,10 +238,13 @@ def reach_table(run):
             ['5 times faster than (c)', f"{ratio(times['nanoflann'])} times", word(times['nanoflann'] >= 5)],
             ['5 times faster than (d)', f"{ratio(times['rtree'])} times", word(times['rtree'] >= 5)]]
     for what, n in run.ns.items():
-        rows.append([f'{what}: not slower than C', f"{three(n['proved'])} ns against {three(n['c'])} ns", word(n['proved'] <= n['c'])])
+        rows.append([f'{what}: not slower than C', f"{three(n['proved'])} ns against {three(n['c'])} ns",
+                     word(n['proved'] <= n['c'])])
     undefined = open(f'{FOLDER}/undefined').read().split()
     calls = open(f'{FOLDER}/syscalls').read().strip()
-    rows.append(['no call allocates', f"the archive asks for {', '.join(f'`{u}`' for u in undefined) or 'nothing'} only and has {calls} system calls",
+    rows.append(['no call allocates',
+                 f"the archive asks for {', '.join(f'`{u}`' for u in undefined) or 'nothing'} only and has {calls} "
+                 "system calls",
                  word(set(undefined) <= {'memset', 'memcpy', 'memmove', 'memcmp'} and calls == '0')])
     most = max(run.stack, key=run.stack.get)
     rows.append(['largest frame under 512 KiB, the limit set for the design (the header promises 128 KiB)',
@@ -255,28 +267,35 @@ def slower(run):
                 if r > worst.get(p, (0,))[0]:
                     worst[p] = (r, cell)
         words = '; '.join(f"{NAMES[p]} up to {ratio(r)} times (n = {c[2]}, k = {c[3]})" for p, (r, c) in worst.items())
-        lines.append(f"- {town}, {stops}: slower in {len(cells)} of {sum(c[:2] == (town, stops) for c in run.times['main'])} rows. Quicker than the engine: {words}.")
+        lines.append(f"- {town}, {stops}: slower in {len(cells)} of "
+                     f"{sum(c[:2] == (town, stops) for c in run.times['main'])} rows. "
+                     f"Quicker than the engine: {words}.")
     if not lines:
         lines.append('- In no row of the table.')
     whole, ready = run.times['main'][TARGET]['engine'], run.times['ask'][TARGET]
-    lines.append(f"- Against a tree that is ready: on the 960 x 40 grid (track, n = 256, k = 8) nanoflann answers in {three(ready['nanoflann'])} µs and the "
-                 f"R-tree in {three(ready['rtree'])} µs; the engine, which starts from the bytes at each call, takes {three(whole)} µs. The next table has more.")
+    lines.append("- Against a tree that is ready: on the 960 x 40 grid (track, n = 256, k = 8) nanoflann answers in "
+                 f"{three(ready['nanoflann'])} µs and the R-tree in {three(ready['rtree'])} µs; the engine, which "
+                 f"starts from the bytes at each call, takes {three(whole)} µs. The next table has more.")
     for cell, v in run.times['late'].items():
         behind = [f"{NAMES[p]} {ratio(v['engine'] / v[p])} times" for p in PEERS if v[p] < v['engine']]
         if behind:
-            lines.append(f"- Against peers with the quicker block check below: {cell[0]}, {cell[1]}, n = {cell[2]}, k = {cell[3]}: {', '.join(behind)}.")
+            lines.append(f"- Against peers with the quicker block check below: {cell[0]}, {cell[1]}, n = {cell[2]}, "
+                         f"k = {cell[3]}: {', '.join(behind)}.")
     for what, v in run.ns.items():
         if v['c'] < v['proved']:
-            lines.append(f"- {what[0].upper()}{what[1:]}: C takes {three(v['c'])} ns, the proved one {three(v['proved'])} ns.")
+            lines.append(f"- {what[0].upper()}{what[1:]}: C takes {three(v['c'])} ns, "
+                         f"the proved one {three(v['proved'])} ns.")
     late = run.ns['block check']['c-late']
     if late < run.ns['block check']['proved']:
-        lines.append(f"- Block check: C that reduces the sums once at the end takes {three(late)} ns, the proved one {three(run.ns['block check']['proved'])} ns.")
+        lines.append(f"- Block check: C that reduces the sums once at the end takes {three(late)} ns, "
+                     f"the proved one {three(run.ns['block check']['proved'])} ns.")
     return '\n'.join(lines)
 
 
 def write_page(run):
     towns = '\n'.join(f'- {name}: {words}' for name, words in run.towns.items())
-    stack = table(['call', 'bytes'], [[f'`{n}`' if n.startswith('nearby') else n, f'{b:,}'] for n, b in run.stack.items()])
+    stack = table(['call', 'bytes'],
+                  [[f'`{n}`' if n.startswith('nearby') else n, f'{b:,}'] for n, b in run.stack.items()])
     page = f"""# Benchmark
 
 Written by `make bench` from one run. Microseconds, best of at least eight runs, in two passes, in which all take
@@ -292,18 +311,21 @@ turns; on one thread.
 
 ## What is measured
 
-The clock runs from the file's bytes in memory to the lists of all stops: squared distance, site and cue. The output slices are made before. All
+The clock runs from the file's bytes in memory to the lists of all stops: squared distance, site and cue. \
+The output slices are made before. All
 lists are compared, and the run fails if any differ; so are the opened and struck tiles of (a), (e) and (f).
 
 - a: the engine, `nearby_join` of the static library
 - b: full search: every block checked and decoded, then all sites for each stop
 - c: nanoflann: every block checked and decoded, the k-d tree built, then asked for each stop
 - d: Boost.Geometry's R-tree, likewise
-- e: the paper's own algorithm in straightforward C++ (`bench/paper.cpp` says what it does and does not do): a margin for each pair of tiles, all
+- e: the paper's own algorithm in straightforward C++ (`bench/paper.cpp` says what it does and does not do): \
+a margin for each pair of tiles, all
   tiles looked through for each stop
 - f: the same, tuned: squares taken once for each tile, the tiles that wait gathered once
 
-All make the same tests of each block that they read. b to f sum up a block as the paper says it, with a remainder for each byte; further down
+All make the same tests of each block that they read. b to f sum up a block as the paper says it, \
+with a remainder for each byte; further down
 they do it with one remainder at the end.
 
 Towns:
@@ -317,7 +339,8 @@ Stops: *track* is a line of 640 m by 213 m, 5% of the grid's width; *spread* is 
 
 ## Times
 
-Microseconds and ratios to the engine: above 1 the engine is quicker; in bold it is slower. Opened and struck are tiles of {run.counts[TARGET][0]}.
+Microseconds and ratios to the engine: above 1 the engine is quicker; in bold it is slower. \
+Opened and struck are tiles of {run.counts[TARGET][0]}.
 
 {main_table(run)}
 
@@ -329,21 +352,25 @@ Microseconds and ratios to the engine: above 1 the engine is quicker; in bold it
 
 ## With the index ready
 
-Only the questions, to an index built beforehand: no block is checked, decoded or indexed within the time. The trees have 16 sites in
+Only the questions, to an index built beforehand: no block is checked, decoded or indexed within the time. \
+The trees have 16 sites in
 a leaf here and 64 above: as measured, 16 is quicker to ask and 64 is quicker for the whole call. Microseconds.
 
 {ask_table(run)}
 
 ## Peers with a quicker block check
 
-The same peers when their sums have one remainder at the end. Reading alone (every block of the 960 x 40 grid checked and decoded) takes
-{three(run.read["paper's check"])} µs with the paper's sums and {three(run.read['late check'])} µs with these. Microseconds.
+The same peers when their sums have one remainder at the end. \
+Reading alone (every block of the 960 x 40 grid checked and decoded) takes
+{three(run.read["paper's check"])} µs with the paper's sums and {three(run.read['late check'])} µs with these. \
+Microseconds.
 
 {late_table(run)}
 
 ## Block check and margin alone
 
-Nanoseconds for one call, over the 1,000 blocks of the 960 x 40 grid and over 4,096 triples of valid boxes: O around the track
+Nanoseconds for one call, over the 1,000 blocks of the 960 x 40 grid and over 4,096 triples of valid boxes: \
+O around the track
 with every 15th tile as E and as B; random boxes; one triple again and again.
 
 {ns_table(run)}
@@ -358,7 +385,8 @@ with every 15th tile as E and as B; random boxes; one triple again and again.
 
 ## Stack
 
-Bytes written below the caller, in a thread whose stack was painted before; the frames of the measure itself are the first line.
+Bytes written below the caller, in a thread whose stack was painted before; \
+the frames of the measure itself are the first line.
 
 {stack}
 """

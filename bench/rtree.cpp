@@ -1,6 +1,6 @@
-// (d) Boost.Geometry's R-tree over all sites, built at once by its packing constructor. A query for k sites keeps an arbitrary
-// one of those that tie at place k, so we ask for one more: if it is farther than place k, the list is exact; else we ask for
-// twice as many, until one is farther or all sites are had.
+// (d) Boost.Geometry's R-tree over all sites, built at once by its packing constructor. A query for k sites keeps an
+// arbitrary one of those that tie at place k, so we ask for one more: if it is farther than place k, the list is exact;
+// else we ask for twice as many, until one is farther or all sites are had.
 #include "peers.hpp"
 #include <boost/geometry.hpp>
 #include <boost/geometry/geometries/point.hpp>
@@ -60,8 +60,8 @@ private:
 
 } // namespace
 
-// Entries in a node. On the 960 x 40 grid with n = 256, k = 8, of 4 to 128: from 64 on the whole call is quickest, within the
-// noise; with the tree ready, questions are quicker with 16 than with 64.
+// Entries in a node. On the 960 x 40 grid with n = 256, k = 8, of 4 to 128: from 64 on the whole call is quickest,
+// within the noise; with the tree ready, questions are quicker with 16 than with 64.
 std::unique_ptr<Index> boost_rtree(const Bytes &file, BlockCheck check, Use use)
 {
     if (use == Use::ONCE)

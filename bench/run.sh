@@ -1,6 +1,6 @@
 #!/bin/sh
-# Installs what is missing, compiles the benchmark, runs it and writes docs/BENCHMARK.md. Started by `make bench`, which makes
-# target/staticlib/libhost.a first.
+# Installs what is missing, compiles the benchmark, runs it and writes docs/BENCHMARK.md. Started by `make bench`, which
+# makes target/staticlib/libhost.a first.
 set -eu
 cd "$(dirname "$0")/.."
 out=target/bench

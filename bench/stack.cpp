@@ -35,8 +35,8 @@ size_t stack_used(const std::function<void()> &call)
     pthread_attr_t attr;
     pthread_t thread;
     Job job{&call, nullptr};
-    if (pthread_attr_init(&attr) || pthread_attr_setstack(&attr, stack, SIZE) || pthread_create(&thread, &attr, enter, &job) ||
-        pthread_join(thread, nullptr)) {
+    if (pthread_attr_init(&attr) || pthread_attr_setstack(&attr, stack, SIZE) ||
+        pthread_create(&thread, &attr, enter, &job) || pthread_join(thread, nullptr)) {
         std::fprintf(stderr, "no thread for the measure of the stack\n");
         std::exit(1);
     }

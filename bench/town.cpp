@@ -51,8 +51,8 @@ Bytes written(const std::vector<Tile> &tiles)
         }
     }
     Bytes out(NEARBY_MAX_FILE);
-    nearby_written w = nearby_write(boxes.data(), boxes.size(), counts.data(), counts.size(), x.data(), x.size(), y.data(),
-                                    y.size(), cues.data(), cues.size(), out.data(), out.size());
+    nearby_written w = nearby_write(boxes.data(), boxes.size(), counts.data(), counts.size(), x.data(), x.size(),
+                                    y.data(), y.size(), cues.data(), cues.size(), out.data(), out.size());
     if (w.number != NEARBY_OK) {
         std::fprintf(stderr, "nearby_write refused the town: %u\n", w.number);
         std::exit(1);
@@ -98,7 +98,8 @@ Town grid(size_t tiles, uint32_t sites)
         list[t].box = {x, x + EDGE - 1, y, y + EDGE - 1};
         fill(list[t], sites, r);
     }
-    return town("grid " + std::to_string(tiles) + " x " + std::to_string(sites), "tiles of 400 m side by side", list, all, -23000, -9000);
+    return town("grid " + std::to_string(tiles) + " x " + std::to_string(sites), "tiles of 400 m side by side", list,
+                all, -23000, -9000);
 }
 
 Town clustered()
@@ -139,8 +140,8 @@ Town clustered()
         halve(cut, to, tiles - left);
     };
     halve(0, sites.size(), 960);
-    return town("clustered", "960 x 40, sites crowd around 40 places, tiles by halving with tight boxes", list, all, centres[0].x - TRACK / 2,
-                centres[0].y - TRACK / 6);
+    return town("clustered", "960 x 40, sites crowd around 40 places, tiles by halving with tight boxes", list, all,
+                centres[0].x - TRACK / 2, centres[0].y - TRACK / 6);
 }
 
 Town overlapping()

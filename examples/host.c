@@ -1,6 +1,7 @@
 /* A sound host: host FILE
  *
- * Checks a town's file as a host would when it arrives, then drives along a track and says which cues to play at each stop.
+ * Checks a town's file as a host would when it arrives, then drives along a track and says which cues to play at each
+ * stop.
  *
  *     gcc examples/host.c $(pkg-config --cflags --libs nearby) -o host        after make install
  *     gcc -Iinclude examples/host.c target/lib/libnearby.a -o host            after make lib */
@@ -65,12 +66,14 @@ int main(int argc, char **argv) {
     size_t length = load(argv[1]);
     printf("blocks %zu bad %u\n", length / NEARBY_BLOCK_SIZE, check_blocks(length));
     struct nearby_validated whole = nearby_validate(file, length);
-    printf("full check: number %" PRIu32 " block %" PRIu32 " tiles %" PRIu32 "\n", whole.number, whole.block, whole.tiles);
+    printf("full check: number %" PRIu32 " block %" PRIu32 " tiles %" PRIu32 "\n", whole.number, whole.block,
+           whole.tiles);
     if (whole.number != NEARBY_OK) {
         return refused(whole.number, whole.block, length);
     }
 
-    /* The box of the cab's stretch of track, a crossing, a depot behind it: is the crossing nearer from all of the track? */
+    /* The box of the cab's stretch of track, a crossing, a depot behind it: is the crossing nearer from all of the
+     * track? */
     int64_t margin = nearby_margin(0, 1000, 0, 0, 2000, 3000, 0, 0, 6000, 7000, 0, 0);
     printf("margin %" PRId64 ": the crossing is %s\n", margin, margin < 0 ? "nearer" : "not nearer");
 

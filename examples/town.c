@@ -1,8 +1,9 @@
 /* Makes the file of a town from text: town < TEXT > FILE
  *
- * A line is `tile LOW_X LOW_Y HIGH_X HIGH_Y`, or `site X Y CUE` for a site of the tile above it, in centimetres; what follows
- * a # is left out (docs/FORMAT.md, "The text of a town"). Tiles are numbered from 0 in their order, and the sites of a tile
- * from slot 0. What the library would refuse is found line by line, by asking it for a town of the one tile. */
+ * A line is `tile LOW_X LOW_Y HIGH_X HIGH_Y`, or `site X Y CUE` for a site of the tile above it, in centimetres; what
+ * follows a # is left out (docs/FORMAT.md, "The text of a town"). Tiles are numbered from 0 in their order, and the
+ * sites of a tile from slot 0. What the library would refuse is found line by line, by asking it for a town of the one
+ * tile. */
 #include "nearby.h"
 
 #include <stdarg.h>
@@ -70,7 +71,8 @@ int main(void) {
             int32_t *box = boxes + 4 * tiles++;
             box[0] = (int32_t)a, box[1] = (int32_t)b, box[2] = (int32_t)c, box[3] = (int32_t)d;
             if (alone(tiles - 1, 0, 0) == NEARBY_BOX) {
-                return failed(line, "tile %zu: a coordinate beyond 1,000,000, or a low end above its high end", tiles - 1);
+                return failed(line, "tile %zu: a coordinate beyond 1,000,000, or a low end above its high end",
+                              tiles - 1);
             }
         } else if (sscanf(text, " site%*[ \t]%lld%*[ \t]%lld%*[ \t]%lld%n", &a, &b, &c, &used) == 3 &&
                    ends(text + used)) {
@@ -85,7 +87,8 @@ int main(void) {
             }
             x[sites] = (int32_t)a, y[sites] = (int32_t)b, cues[sites] = (uint32_t)c;
             if (alone(tiles - 1, sites, 1) == NEARBY_STRAY) {
-                return failed(line, "tile %zu, slot %u: the site is outside the tile's box", tiles - 1, counts[tiles - 1]);
+                return failed(line, "tile %zu, slot %u: the site is outside the tile's box", tiles - 1,
+                              counts[tiles - 1]);
             }
             counts[tiles - 1]++;
             sites++;

@@ -1,14 +1,14 @@
 /* Violetjoist for hosts in C: the k nearest sound sites of each stop, from a town's file.
  *
- * Link with libnearby.a or libnearby.so: `make lib` puts them into target/lib, and after `make install` pkg-config knows them
- * as nearby. Every function here is proved against its definition in crates/host/specs; this header says the same in words,
- * and docs/PROOF.md, "What is assumed", says which of them are proved and which tested or measured.
+ * Link with libnearby.a or libnearby.so: `make lib` puts them into target/lib, and after `make install` pkg-config
+ * knows them as nearby. Every function here is proved against its definition in crates/host/specs; this header says the
+ * same in words, and docs/PROOF.md, "What is assumed", says which of them are proved and which tested or measured.
  *
  * For all functions:
- * - A slice is a pointer and the number of its elements. The pointer is not NULL, not even for 0 elements, and has that many
- *   elements behind it. Slices that are written do not overlap any other.
- * - Whatever the slices and numbers hold, a call returns, reads and writes nothing outside the slices, keeps no pointer and
- *   allocates nothing. Calls on different slices may run at the same time. A call takes less than 128 KiB of stack.
+ * - A slice is a pointer and the number of its elements. The pointer is not NULL, not even for 0 elements, and has that
+ *   many elements behind it. Slices that are written do not overlap any other.
+ * - Whatever the slices and numbers hold, a call returns, reads and writes nothing outside the slices, keeps no pointer
+ *   and allocates nothing. Calls on different slices may run at the same time. A call takes less than 128 KiB of stack.
  * - A file is the blocks of a town, as nearby_write makes them. A coordinate is a whole number of centimetres from
  *   -1,000,000 to 1,000,000. Distances are squared.
  */
@@ -32,12 +32,13 @@ enum {
     NEARBY_CHECK = 3,    /* bytes 510-511; due: the two sums over bytes 1 to 509 */
     NEARBY_KIND = 4,     /* byte 1; due: 1 in a directory block, 2 in a tile's block */
     NEARBY_POSITION = 5, /* bytes 2-3; due: the position of the block in the file, from 0 */
-    NEARBY_TILES = 6,    /* T, bytes 6-7 of a directory block; due: 1 to 960, as in block 0, and T + d blocks in the file */
-    NEARBY_ENTRIES = 7,  /* bytes 4-5; due: in directory block p the smaller of 24 and T - 24 * p; in a tile's block the count
-                            that the directory has for the tile */
+    NEARBY_TILES = 6,    /* T, bytes 6-7 of a directory block; due: 1 to 960, as in block 0, and
+                            T + d blocks in the file */
+    NEARBY_ENTRIES = 7,  /* bytes 4-5; due: in directory block p the smaller of 24 and T - 24 * p; in a tile's block the
+                            count that the directory has for the tile */
     NEARBY_PADDING = 8,  /* a byte that is not 0; due to be 0: each that the format has no use for */
-    NEARBY_BOX = 9,      /* an entry of the directory; due: coordinates within the limits, no low end above its high end, at
-                            most 40 sites */
+    NEARBY_BOX = 9,      /* an entry of the directory; due: coordinates within the limits, no low end above its high
+                            end, at most 40 sites */
     NEARBY_STRAY = 10,   /* a site of the tile; due: inside the box that the directory has for the tile */
     /* Of a question. */
     NEARBY_K = 11,       /* due: k from 1 to 64 */
@@ -47,17 +48,17 @@ enum {
     NEARBY_SUPPLY = 15   /* the writer's lists; due: four numbers a tile in boxes, a site for each that counts says */
 };
 
-/* Where. With the number goes a block: the position in the file of the block refused, from 0. It is 0 for NEARBY_LENGTH, for
- * NEARBY_K to NEARBY_SUPPLY, for the box of nearby_prune, and for every refusal by nearby_write.
- * A file has d directory blocks, d = T/24 rounded up, then the block of each tile. A refusal does not say T, but the length
- * says d: (file_len / 512 + 24) / 25 in whole numbers. A block below d belongs to the directory: block p has the entries of
- * tiles 24 * p to 24 * p + 23, as far as there are any. Any other block is that of tile block - d. So block 12 is that of tile
- * 11 in a file of 25 blocks, where d is 1, and a directory block in one of 400, where d is 16. The whole directory is tested
- * before a tile is opened: where a tile is refused, T and all boxes and counts are good.
+/* Where. With the number goes a block: the position in the file of the block refused, from 0. It is 0 for
+ * NEARBY_LENGTH, for NEARBY_K to NEARBY_SUPPLY, for the box of nearby_prune, and for every refusal by nearby_write.
+ * A file has d directory blocks, d = T/24 rounded up, then the block of each tile. A refusal does not say T, but the
+ * length says d: (file_len / 512 + 24) / 25 in whole numbers. A block below d belongs to the directory: block p has the
+ * entries of tiles 24 * p to 24 * p + 23, as far as there are any. Any other block is that of tile block - d. So block
+ * 12 is that of tile 11 in a file of 25 blocks, where d is 1, and a directory block in one of 400, where d is 16. The
+ * whole directory is tested before a tile is opened: where a tile is refused, T and all boxes and counts are good.
  *
  * What to do.
- * - The caller's mistake, and the same call would be refused again: NEARBY_K to NEARBY_SUPPLY, NEARBY_BOX for the box of
- *   nearby_prune, and every refusal by nearby_write.
+ * - The caller's mistake, and the same call would be refused again: NEARBY_K to NEARBY_SUPPLY, NEARBY_BOX for the box
+ *   of nearby_prune, and every refusal by nearby_write.
  * - All others speak of the file: copy it again from where it came, the whole of it.
  *     NEARBY_LENGTH, NEARBY_TILES: cut short or too long, or something else than a town's file.
  *     NEARBY_SYNC, NEARBY_CHECK: damaged, or something else than a town's file.
@@ -66,8 +67,8 @@ enum {
  *     NEARBY_ENTRIES in the directory, NEARBY_PADDING, NEARBY_BOX: such damage, or a file not made by nearby_write.
  *   Do not put in the refused block alone: one of an older file may pass every test, and its sites are wrong.
  *   If a full copy is refused alike, the file is bad where it came from: make it again from its town.
- * - Check a file with nearby_validate when it arrives: if it passes, nearby_join and nearby_prune refuse only the caller's
- *   mistakes. */
+ * - Check a file with nearby_validate when it arrives: if it passes, nearby_join and nearby_prune refuse only the
+ *   caller's mistakes. */
 enum {
     NEARBY_BLOCK_SIZE = 512,
     NEARBY_MAX_TILES = 960,
@@ -84,8 +85,8 @@ enum {
  * NEARBY_LENGTH (not 512 bytes), NEARBY_SYNC, NEARBY_CHECK. The kind and the content of the block are not looked at. */
 uint32_t nearby_block_check(const uint8_t *block, size_t block_len);
 
-/* The margin of boxes O, E and B, each low x, high x, low y, high y: the largest D(o,e) - D(o,b) over their whole-number
- * points o, e, b. Below 0 exactly when, from every point of O, all of E is nearer than all of B.
+/* The margin of boxes O, E and B, each low x, high x, low y, high y: the largest D(o,e) - D(o,b) over their
+ * whole-number points o, e, b. Below 0 exactly when, from every point of O, all of E is nearer than all of B.
  * NEARBY_BAD_BOX if a coordinate is beyond the limits or a low end above its high end. */
 int64_t nearby_margin(int32_t ox0, int32_t ox1, int32_t oy0, int32_t oy1,
                       int32_t ex0, int32_t ex1, int32_t ey0, int32_t ey1,
@@ -102,13 +103,14 @@ struct nearby_joined {
 
 /* The k nearest sites of each stop. Stop i is at (x[i], y[i]); place j of stop i is element i * k + j of dist (squared
  * distance), site (tile * 40 + slot) and cue, nearest first, then by tile, then by slot. Places past `used` are 0.
- * marks has a byte for each tile: 2 opened, 1 struck as by nearby_prune for the smallest box around the stops, 0 neither.
+ * marks has a byte for each tile: 2 opened, 1 struck as by nearby_prune for the smallest box around the stops,
+ * 0 neither.
  *
  * Needs n * k elements in dist, site and cue, and T in marks. Elements past these never change.
- * Refuses, first that applies: NEARBY_LENGTH; of each directory block NEARBY_SYNC to NEARBY_BOX; NEARBY_K, NEARBY_STOPS,
- * NEARBY_SPOT, NEARBY_SHORT: all four slices are as they were. Then, of a tile that had to be opened, NEARBY_SYNC,
- * NEARBY_CHECK, NEARBY_KIND, NEARBY_POSITION, NEARBY_ENTRIES, NEARBY_PADDING, NEARBY_STRAY: the first n * k places and T
- * marks are 0. A tile that is not opened may hold anything: the answer does not depend on it. */
+ * Refuses, first that applies: NEARBY_LENGTH; of each directory block NEARBY_SYNC to NEARBY_BOX; NEARBY_K,
+ * NEARBY_STOPS, NEARBY_SPOT, NEARBY_SHORT: all four slices are as they were. Then, of a tile that had to be opened,
+ * NEARBY_SYNC, NEARBY_CHECK, NEARBY_KIND, NEARBY_POSITION, NEARBY_ENTRIES, NEARBY_PADDING, NEARBY_STRAY: the first
+ * n * k places and T marks are 0. A tile that is not opened may hold anything: the answer does not depend on it. */
 struct nearby_joined nearby_join(const uint8_t *file, size_t file_len,
                                  const int32_t *x, size_t x_len, const int32_t *y, size_t y_len, uint32_t k,
                                  uint64_t *dist, size_t dist_len, uint32_t *site, size_t site_len,
@@ -121,12 +123,13 @@ struct nearby_pruned {
     uint32_t pruned; /* tiles struck: as many marks are 1 */
 };
 
-/* Marks with 1 each tile that is struck, from the directory alone: the tiles nearer than it from all of the box x0..x1 by
- * y0..y1 have k sites or more, so it cannot hold one of the k nearest sites of any point of the box. The others are marked 0.
+/* Marks with 1 each tile that is struck, from the directory alone: the tiles nearer than it from all of the box x0..x1
+ * by y0..y1 have k sites or more, so it cannot hold one of the k nearest sites of any point of the box. The others are
+ * marked 0.
  *
- * Needs T elements in marks; elements past these never change. Refuses, first that applies: NEARBY_LENGTH; of each directory
- * block NEARBY_SYNC to NEARBY_BOX; NEARBY_K; NEARBY_BOX for the box (block 0); NEARBY_SHORT. Then marks is as it was. If the
- * box is good, NEARBY_BOX with block 0 is that of the directory. */
+ * Needs T elements in marks; elements past these never change. Refuses, first that applies: NEARBY_LENGTH; of each
+ * directory block NEARBY_SYNC to NEARBY_BOX; NEARBY_K; NEARBY_BOX for the box (block 0); NEARBY_SHORT. Then marks is as
+ * it was. If the box is good, NEARBY_BOX with block 0 is that of the directory. */
 struct nearby_pruned nearby_prune(const uint8_t *file, size_t file_len,
                                   int32_t x0, int32_t x1, int32_t y0, int32_t y1, uint32_t k,
                                   uint8_t *marks, size_t marks_len);
@@ -137,9 +140,9 @@ struct nearby_validated {
     uint32_t tiles;  /* T */
 };
 
-/* The full check: the directory, then every tile in order. Gives T or the first refusal: NEARBY_LENGTH; of each directory
- * block NEARBY_SYNC to NEARBY_BOX; of each tile as an opening of nearby_join. A file passes exactly when nearby_write makes it
- * from some town. */
+/* The full check: the directory, then every tile in order. Gives T or the first refusal: NEARBY_LENGTH; of each
+ * directory block NEARBY_SYNC to NEARBY_BOX; of each tile as an opening of nearby_join. A file passes exactly when
+ * nearby_write makes it from some town. */
 struct nearby_validated nearby_validate(const uint8_t *file, size_t file_len);
 
 struct nearby_written {
@@ -148,12 +151,12 @@ struct nearby_written {
     size_t length;   /* of the file, in bytes: 512 * (T + T/24 rounded up) */
 };
 
-/* Writes the file of a town to the start of out. T is counts_len; boxes has four numbers for each tile: low x, low y, high x,
- * high y (in this order); x, y and cues have the sites of all tiles, tile after tile.
+/* Writes the file of a town to the start of out. T is counts_len; boxes has four numbers for each tile: low x, low y,
+ * high x, high y (in this order); x, y and cues have the sites of all tiles, tile after tile.
  *
- * Needs the file's length in out; bytes past it never change. Refuses, first that applies: NEARBY_TILES (T is 0 or over 960),
- * NEARBY_SUPPLY (not four numbers a tile), NEARBY_BOX, NEARBY_SUPPLY (x, y or cues not as long as the counts add up to),
- * NEARBY_STRAY, NEARBY_SHORT. Then out is as it was. */
+ * Needs the file's length in out; bytes past it never change. Refuses, first that applies: NEARBY_TILES (T is 0 or over
+ * 960), NEARBY_SUPPLY (not four numbers a tile), NEARBY_BOX, NEARBY_SUPPLY (x, y or cues not as long as the counts add
+ * up to), NEARBY_STRAY, NEARBY_SHORT. Then out is as it was. */
 struct nearby_written nearby_write(const int32_t *boxes, size_t boxes_len, const uint32_t *counts, size_t counts_len,
                                    const int32_t *x, size_t x_len, const int32_t *y, size_t y_len,
                                    const uint32_t *cues, size_t cues_len, uint8_t *out, size_t out_len);
