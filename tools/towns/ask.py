@@ -22,9 +22,9 @@ def _as_taken(stops, k):
 def ask(engine, content, stops, k):
     """Asks the engine. Raises Refused.
 
-    Stops are taken in turn, so the tiles opened for the first i stops are those opened by a call with these stops alone. Such
-    a call has a smaller box O and may strike other tiles, but striking changes neither which tiles are opened nor their order
-    (the theorem pruning-opens-alike of the crate `search`).
+    Stops are taken in turn, so the tiles opened for the first i stops are those opened by a call with these stops
+    alone. Such a call has a smaller box O and may strike other tiles, but striking changes neither which tiles are
+    opened nor their order (the theorem pruning-opens-alike of the crate `search`).
     """
     stops, k = _as_taken(stops, k)
     file = engine.file(content)
@@ -57,7 +57,8 @@ def report(engine, content, stops, k):
     joined, total = answer.joined, len(answer.joined.marks)
     o = around(stops)
     lines = [f"k {k}, stops {len(stops)}, O x {o[0]}..{o[2]}, y {o[1]}..{o[3]}",
-             f"tiles {total}: opened {joined.opened}, struck {joined.struck}, neither {total - joined.opened - joined.struck}"]
+             f"tiles {total}: opened {joined.opened}, struck {joined.struck}, "
+             f"neither {total - joined.opened - joined.struck}"]
     for i, stop in enumerate(stops):
         first = [tile for tile, of in answer.opened_for.items() if of == i]
         lines.append(f"opened for stop {i}: {_tiles(content, by_key(engine, content, stop, first))}")

@@ -28,36 +28,46 @@ Makes the file of a town from text; TEXT may be - for standard input. A line of 
   tile LOW_X LOW_Y HIGH_X HIGH_Y   a tile and its box
   site X Y CUE                     a site of the tile above it
 
-in whole centimetres; what follows a # is left out. Tiles are numbered from 0 in their order, the sites of a tile from slot 0.
-A town has 1 to 960 tiles, a tile at most 40 sites, all inside its box, ends included. A cue is a number from 0 to 4294967295.
+in whole centimetres; what follows a # is left out. Tiles are numbered from 0 in their order, \
+the sites of a tile from slot 0.
+A town has 1 to 960 tiles, a tile at most 40 sites, all inside its box, ends included. \
+A cue is a number from 0 to 4294967295.
 What is wrong is said with line, tile and slot; then no file is written.
 """,
     "show": """\
 town show FILE
 
-Prints a file as the text that `town make` takes, with the numbers of tiles and sites in comments. The file must pass the full
+Prints a file as the text that `town make` takes, with the numbers of tiles and sites in comments. \
+The file must pass the full
 check.
 """,
     "check": """\
 town check FILE
 
-The full check: the directory, then every tile in order. A refusal is printed with its number, name and block, what was due
+The full check: the directory, then every tile in order. A refusal is printed with its number, name and block, \
+what was due
 and what stood there.
 """,
     "ask": """\
 town ask FILE K X,Y ..
 
-Prints for each stop X,Y its K nearest sites, nearest first: D (the squared distance), the site (tile x 40 + slot) and its cue.
-Before them: O, the smallest box around the stops; the tiles opened for each stop, in this order; the tiles struck; and those
-neither opened nor struck. K is 1 to 64; there are 1 to 256 stops. An opened tile is named at the first stop that needs it.
+Prints for each stop X,Y its K nearest sites, nearest first: D (the squared distance), \
+the site (tile x 40 + slot) and its cue.
+Before them: O, the smallest box around the stops; the tiles opened for each stop, in this order; \
+the tiles struck; and those
+neither opened nor struck. K is 1 to 64; there are 1 to 256 stops. \
+An opened tile is named at the first stop that needs it.
 """,
     "draw": """\
 town draw FILE K X,Y .. PAGE
 
-Writes a page of HTML for a town and its stops, which opens in any browser and needs no network. It shows the boxes by mark
+Writes a page of HTML for a town and its stops, which opens in any browser and needs no network. \
+It shows the boxes by mark
 (opened, struck, neither), the sites, the stops and O; for a stop its queue by key, the list after each turn, and why it
-ended; a slider for k, which begins at K; and for two tiles E and B the margin and its three points. The numbers are those of
-the engine, asked when the page is written; of O and the three points, docs/TOOL.md says more. The file must pass the full
+ended; a slider for k, which begins at K; and for two tiles E and B the margin and its three points. \
+The numbers are those of
+the engine, asked when the page is written; of O and the three points, docs/TOOL.md says more. \
+The file must pass the full
 check.
 """,
 }
@@ -180,7 +190,8 @@ def draw(arguments):
 
 
 # For each command: what does it, and the least and the largest number of its arguments.
-COMMANDS = {"make": (make, 2, 2), "show": (show, 1, 1), "check": (check, 1, 1), "ask": (ask_, 2, None), "draw": (draw, 4, None)}
+COMMANDS = {"make": (make, 2, 2), "show": (show, 1, 1), "check": (check, 1, 1), "ask": (ask_, 2, None),
+            "draw": (draw, 4, None)}
 
 
 def _run(arguments):

@@ -1,4 +1,5 @@
-"""The calls of include/nearby.h, for Python. Every answer of the tool comes from these, and what tests and figures ask."""
+"""The calls of include/nearby.h, for Python. Every answer of the tool comes from these, and what tests and figures
+ask."""
 import ctypes
 import os
 from ctypes import POINTER, Structure, c_int32, c_int64, c_size_t, c_uint8, c_uint32, c_uint64
@@ -86,7 +87,8 @@ def refusal(call, *given):
 
 
 class Engine:
-    """The loaded library, that of a path or else the one that `library` finds. `calls` has the header's calls as they are."""
+    """The loaded library, that of a path or else the one that `library` finds. `calls` has the header's calls as they
+    are."""
 
     def __init__(self, path=None):
         path = path or library()
@@ -104,8 +106,8 @@ class Engine:
         lib.nearby_block_check.restype = c_uint32
         lib.nearby_margin.argtypes = [c_int32] * 12
         lib.nearby_margin.restype = c_int64
-        lib.nearby_join.argtypes = [data, c_size_t, whole, c_size_t, whole, c_size_t, c_uint32, POINTER(c_uint64), c_size_t,
-                                    many, c_size_t, many, c_size_t, data, c_size_t]
+        lib.nearby_join.argtypes = [data, c_size_t, whole, c_size_t, whole, c_size_t, c_uint32, POINTER(c_uint64),
+                                    c_size_t, many, c_size_t, many, c_size_t, data, c_size_t]
         lib.nearby_join.restype = _Joined
         lib.nearby_prune.argtypes = [data, c_size_t, c_int32, c_int32, c_int32, c_int32, c_uint32, data, c_size_t]
         lib.nearby_prune.restype = _Pruned

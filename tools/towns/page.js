@@ -1,7 +1,7 @@
 "use strict";
-// Shows the data below it. The numbers were given by the engine when the page was written; O and the three points of a margin
-// are the tool's own, and the engine confirmed the margin of the points. Nothing here computes a number: lists are cut, rows are
-// counted and compared, that is all. Squares are rooted to draw circles.
+// Shows the data below it. The numbers were given by the engine when the page was written; O and the three points of a
+// margin are the tool's own, and the engine confirmed the margin of the points. Nothing here computes a number: lists
+// are cut, rows are counted and compared, that is all. Squares are rooted to draw circles.
 (function () {
   const data = JSON.parse(document.getElementById("data").textContent);
   const WORDS = ["neither", "struck", "opened"], SITES = 40;
@@ -35,14 +35,15 @@
     table.parentNode.hidden = rows.length === 0;
   }
 
-  // ---- what the data says of a stop -------------------------------------------------------------------------------------
+  // ---- what the data says of a stop ---------------------------------------------------------------------------------
   const queueOf = (i) => {
     const held = data.queues[i], rows = [];
     for (let at = 0; at < held.length; at += 2) rows.push({tile: held[at], near: held[at + 1]});
     return rows;
   };
   const taken = (i, k) => data.walks[i][k - 1];
-  // The list of stop i after m turns: of all places that are ever in its lists, in their order, the first k of opened tiles.
+  // The list of stop i after m turns: of all places that are ever in its lists, in their order, the first k of opened
+  // tiles.
   function listOf(i, m) {
     const opened = new Set(queueOf(i).slice(0, m).map((row) => row.tile)), held = data.places[i], list = [];
     for (let at = 0; at < held.length && list.length < state.k; at += 2) {
@@ -62,7 +63,7 @@
     return first;
   }
 
-  // ---- the map ----------------------------------------------------------------------------------------------------------
+  // ---- the map ------------------------------------------------------------------------------------------------------
   const view = (function () {
     const all = data.boxes.concat([data.o]);
     let x0 = Math.min(...all.map((b) => b[0])), x1 = Math.max(...all.map((b) => b[2]));
@@ -122,8 +123,9 @@
     return b;
   }
   function label(at, text, kind, size, shift) {
-    return draw("text", {class: kind, x: at[0] + (shift ? shift[0] * unit : 0), y: -at[1] + (shift ? shift[1] * unit : 0),
-      "font-size": size * unit, "stroke-width": 3 * unit, "text-anchor": shift ? "start" : "middle"}, text);
+    return draw("text", {class: kind, x: at[0] + (shift ? shift[0] * unit : 0),
+      y: -at[1] + (shift ? shift[1] * unit : 0), "font-size": size * unit, "stroke-width": 3 * unit,
+      "text-anchor": shift ? "start" : "middle"}, text);
   }
   function layout() {
     const frame = $("frame"), room = Math.max(120, frame.clientWidth - 2);
@@ -143,17 +145,19 @@
     tiles.forEach((path, t) => {
       const b = drawnBox(t), w = (b[2] - b[0]) / unit, h = (b[3] - b[1]) / unit;
       path.setAttribute("d", outline(b));
-      if (w >= 2 * BAR && h >= 2 * BAR - 1) layer.numbers.append(label([b[0], b[3]], t, "number", 11, flat(t) ? [3, -5] : [4, 13]));
+      if (w >= 2 * BAR && h >= 2 * BAR - 1)
+        layer.numbers.append(label([b[0], b[3]], t, "number", 11, flat(t) ? [3, -5] : [4, 13]));
     });
     focusLayers();
   }
 
-  // The turn, written to a taken tile: below a bar, or into a corner of a box. The tile's number is in the fourth corner. Where a
-  // stop lies over each corner, or the box is too small, nothing is written.
+  // The turn, written to a taken tile: below a bar, or into a corner of a box. The tile's number is in the fourth
+  // corner. Where a stop lies over each corner, or the box is too small, nothing is written.
   function turnLabel(b, isFlat, text) {
     if (isFlat) return [label([b[0], b[1]], text, "order", 11, [3, 14])];
     const wide = 6.5 * text.length, room = (b[2] - b[0]) / unit - wide;
-    const corners = [[[b[0], b[1]], [5, -5], 8], [[b[2], b[3]], [-5 - wide, 13], 30], [[b[2], b[1]], [-5 - wide, -5], 8]];
+    const corners = [[[b[0], b[1]], [5, -5], 8], [[b[2], b[3]], [-5 - wide, 13], 30],
+      [[b[2], b[1]], [-5 - wide, -5], 8]];
     const free = corners.find(([at, shift, need]) => room >= need && data.stops.every(([x, y]) => {
       const across = (x - at[0]) / unit - shift[0], down = (at[1] - y) / unit - shift[1];
       return across < -11 || across > wide + 11 || down < -21 || down > 11;
@@ -166,12 +170,14 @@
     queue.slice(0, m).forEach((row, turn) => {
       const b = drawnBox(row.tile), w = (b[2] - b[0]) / unit, h = (b[3] - b[1]) / unit;
       layer.taken.append(draw("path", {class: "taken", d: outline(b)}));
-      if (w > 40 && (h > 30 || flat(row.tile))) layer.orders.append(...turnLabel(b, flat(row.tile), `turn ${turn + 1}`));
+      if (w > 40 && (h > 30 || flat(row.tile)))
+        layer.orders.append(...turnLabel(b, flat(row.tile), `turn ${turn + 1}`));
     });
     layer.chosen.append(draw("path", {class: "chosen", d: dots(list.map((place) => [place.x, place.y]))}));
     // The number of a place stands on the side away from the stop.
     const aside = (place, j) => (place.x < at[0] ? [j > 9 ? -20 : -13, -5] : [6, -5]);
-    if (list.length <= 12) list.forEach((place, j) => layer.chosen.append(label([place.x, place.y], j, "letter", 11, aside(place, j))));
+    if (list.length <= 12) list.forEach((place, j) => layer.chosen.append(
+      label([place.x, place.y], j, "letter", 11, aside(place, j))));
     const next = following(i);
     if (list.length) layer.rings.append(draw("circle", {class: "ring", cx: at[0], cy: -at[1],
       r: Math.sqrt(list[list.length - 1].dist)}));
@@ -183,7 +189,8 @@
       layer.pair.append(draw("path", {class: "link e", d: `M${o[0]} ${-o[1]}L${e[0]} ${-e[1]}`}),
         draw("path", {class: "link b", d: `M${o[0]} ${-o[1]}L${b[0]} ${-b[1]}`}),
         draw("path", {class: "chosen", style: "stroke:#1d2429", d: dots(points)}));
-      ["o", "e", "b"].forEach((name, j) => layer.pair.append(label(points[j], name, "letter", 15, [7, 15 - 22 * (j === 0)])));
+      ["o", "e", "b"].forEach((name, j) => layer.pair.append(
+        label(points[j], name, "letter", 15, [7, 15 - 22 * (j === 0)])));
     }
     for (const [t, name] of [[state.e, "E"], [state.b, "B"]]) {
       if (t === null) continue;
@@ -192,7 +199,7 @@
     }
   }
 
-  // ---- a stop -----------------------------------------------------------------------------------------------------------
+  // ---- a stop -------------------------------------------------------------------------------------------------------
   const steps = () => (state.step === null ? taken(state.stop, state.k) : state.step);
   const following = (i) => queueOf(i).slice(taken(i, state.k)).find((row) => mark(row.tile) !== 1) || null;
   function showStop() {
@@ -213,7 +220,8 @@
       $("ended").textContent = `It ended at the key near ${next.near}, tile ${next.tile}: ${plural(k, "site")} ` +
         `${k === 1 ? "is" : "are"} ahead of the next key. The last of them is place ${k - 1}: ${why}.`;
     } else {
-      $("ended").textContent = "It ended because no tile waits: it has taken all tiles that are neither struck nor empty." +
+      $("ended").textContent = "It ended because no tile waits: " +
+        "it has taken all tiles that are neither struck nor empty." +
         (full.length < k ? ` The town has only ${plural(full.length, "site")}.` : "");
     }
     $("stepper").hidden = end === 0;
@@ -229,7 +237,8 @@
       const waits = at >= end;
       if (waits && (mark(row.tile) === 1 || rows.length >= end + 4)) return;
       const here = first.get(row.tile);
-      const what = waits ? (next && row.tile === next.tile ? "here it ended" : "waits") + (here === undefined ? ": not opened" :
+      const what = waits ? (next && row.tile === next.tile ? "here it ended" : "waits") +
+        (here === undefined ? ": not opened" :
         here < i ? `: open since stop ${here}` : `: opened later, for stop ${here}`)
         : here === i ? "opened" : `taken; open since stop ${here}`;
       let turn = at + 1;
@@ -249,7 +258,7 @@
       (stepped ? "" : " The list after each turn is not on this page for this stop.");
   }
 
-  // ---- E and B ----------------------------------------------------------------------------------------------------------
+  // ---- E and B ------------------------------------------------------------------------------------------------------
   // The three points, from letters: which end of O, which end of E, and for b an end of B or o itself.
   function threePoints() {
     if (state.e === null || state.b === null || !data.points[state.e]) return null;
@@ -270,8 +279,8 @@
     $("pick-b").setAttribute("aria-pressed", state.pick === "b");
     layer.stops.style.pointerEvents = state.pick ? "none" : "";
     if (e === null || b === null) {
-      $("margin").textContent = "Pick two tiles, here or on the map. The margin is the largest D(o,e) − D(o,b) over all points " +
-        "o of O, e of E and b of B; E is nearer than B from O when it is below 0.";
+      $("margin").textContent = "Pick two tiles, here or on the map. The margin is the largest D(o,e) − D(o,b) over " +
+        "all points o of O, e of E and b of B; E is nearer than B from O when it is below 0.";
       fill($("points"), []);
       fill($("corners"), []);
       return;
@@ -282,7 +291,8 @@
     const points = threePoints();
     $("margin").replaceChildren();
     if (points) {
-      const margin = data.margins[e][b], at = spots.findIndex((spot) => spot[0] === points[0][0] && spot[1] === points[0][1]);
+      const margin = data.margins[e][b];
+      const at = spots.findIndex((spot) => spot[0] === points[0][0] && spot[1] === points[0][1]);
       const value = make("strong", {id: "margin-value"}, margin);
       const is = margin < 0 ? "nearer" : "not nearer";
       $("margin").append("The margin is ", value, `: tile ${e} is ${is} than tile ${b} from O` +
@@ -292,16 +302,17 @@
         {cells: ["e", pe[0], pe[1], `the point of tile ${e} farthest from o`]},
         {cells: ["b", pb[0], pb[1], `the point of tile ${b} closest to o`]}]);
     } else {
-      $("margin").textContent = `Tile ${e} is ${nearer ? "nearer" : "not nearer"} than tile ${b} from O, by the corners ` +
-        "below; the margin of this pair is not on this page.";
+      $("margin").textContent = `Tile ${e} is ${nearer ? "nearer" : "not nearer"} than tile ${b} from O, ` +
+        "by the corners below; the margin of this pair is not on this page.";
       fill($("points"), []);
     }
-    const rows = spots.map((spot, j) => ({cells: [`(${spot[0]}, ${spot[1]})`, far[j], near[j], far[j] < near[j] ? "yes" : "no"]}));
+    const rows = spots.map((spot, j) => (
+      {cells: [`(${spot[0]}, ${spot[1]})`, far[j], near[j], far[j] < near[j] ? "yes" : "no"]}));
     // The corners of a narrow O are the same points.
     fill($("corners"), rows.filter((row, j) => rows.findIndex((other) => other.cells[0] === row.cells[0]) === j));
   }
 
-  // ---- a tile -----------------------------------------------------------------------------------------------------------
+  // ---- a tile -------------------------------------------------------------------------------------------------------
   function showTile() {
     const t = state.tile;
     $("tile").value = t === null ? "" : t;
@@ -333,7 +344,7 @@
     }
   }
 
-  // ---- all of it --------------------------------------------------------------------------------------------------------
+  // ---- all of it ----------------------------------------------------------------------------------------------------
   function show() {
     const [, opened, struck] = data.counts[state.k - 1];
     $("k").value = state.k;
@@ -341,7 +352,8 @@
     const neither = data.marks[state.k - 1].split("0").length - 1;
     $("counts").textContent = `${plural(T, "tile")}: opened ${opened}, struck ${struck}, neither ${neither}`;
     tiles.forEach((path, t) => {
-      path.setAttribute("class", `tile ${WORDS[mark(t)]}${count(t) ? "" : " empty"}${t === state.tile ? " picked" : ""}`);
+      const empty = count(t) ? "" : " empty", picked = t === state.tile ? " picked" : "";
+      path.setAttribute("class", `tile ${WORDS[mark(t)]}${empty}${picked}`);
     });
     showStop();
     showPair();

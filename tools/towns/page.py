@@ -3,14 +3,16 @@
 What the page holds, and the calls that it comes from:
 - marks and counts of the run for each k: nearby_join of all the stops;
 - for each stop its queue: the tiles that are not empty, by key; near by nearby_margin;
-- for each stop and k how many tiles it takes: the tiles opened by nearby_join of this stop alone. They are the first of its
-  queue: no list and no opening depends on other stops or on striking (theorem pruning-opens-alike of the crate `search`);
-- for each stop the list after each turn: nearby_join of a town that has only the tiles taken so far, all others emptied;
-- for pairs of tiles the margin, and of tiles near and far from the corners of O, by nearby_margin; the sites of the tiles nearer
-  than a tile by nearby_prune.
+- for each stop and k how many tiles it takes: the tiles opened by nearby_join of this stop alone. They are the first of
+  its queue: no list and no opening depends on other stops or on striking (theorem pruning-opens-alike of the crate
+  `search`);
+- for each stop the list after each turn: nearby_join of a town that has only the tiles taken so far, all others
+  emptied;
+- for pairs of tiles the margin, and of tiles near and far from the corners of O, by nearby_margin; the sites of the
+  tiles nearer than a tile by nearby_prune.
 
-No call gives O, or the three points of a margin: these are found here, by their rules. nearby_margin of the points alone has to be
-the margin of the boxes.
+No call gives O, or the three points of a margin: these are found here, by their rules. nearby_margin of the points
+alone has to be the margin of the boxes.
 
 Where two calls must agree, they are compared, and a page is not written if they do not.
 """
@@ -56,7 +58,8 @@ class Run:
         taken = []
         for k in range(1, self.kmax + 1):
             alone = self.engine.join(self.file, [self.stops[i]], k)
-            _agree(alone.lists[0], self.joined[k - 1].lists[i], f"the list of stop {i}, alone and among the others, k {k}")
+            _agree(alone.lists[0], self.joined[k - 1].lists[i],
+                   f"the list of stop {i}, alone and among the others, k {k}")
             opened = {t for t, mark in enumerate(alone.marks) if mark == OPENED}
             _agree(opened, set(order[:len(opened)]), f"the tiles that stop {i} takes are the first of its queue, k {k}")
             taken.append(len(opened))
@@ -78,8 +81,8 @@ class Run:
                 break
             self.stepped += 1
         if self.stepped < len(self.stops):
-            self.notes.append(f"The list after each turn is here for stops 0 to {self.stepped - 1} only: with those of all "
-                              f"stops this page would be too large.")
+            self.notes.append(f"The list after each turn is here for stops 0 to {self.stepped - 1} only: with those of "
+                              f"all stops this page would be too large.")
 
     def _openings_agree(self):
         for k, joined in enumerate(self.joined, 1):
@@ -87,7 +90,8 @@ class Run:
             marked = {t for t, mark in enumerate(joined.marks) if mark == OPENED}
             _agree(taken, marked, f"the tiles that the stops take are the tiles opened, k {k}")
             struck = self.engine.strike(self.file, self.o, k)
-            _agree([mark == STRUCK for mark in joined.marks], [mark == STRUCK for mark in struck], f"the tiles struck, k {k}")
+            _agree([mark == STRUCK for mark in joined.marks], [mark == STRUCK for mark in struck],
+                   f"the tiles struck, k {k}")
 
     def queue(self, i):
         """The queue of stop i as far as a page shows it: past the end of its walk for every k, and a little more."""
@@ -98,8 +102,8 @@ class Run:
         return queue[:last + 5]
 
     def places(self, i):
-        """Every place that is ever in the list of stop i, by rank, as (D, site): the list for k after m turns has the first
-        k of them whose tile is among the first m of the queue."""
+        """Every place that is ever in the list of stop i, by rank, as (D, site): the list for k after m turns has the
+        first k of them whose tile is among the first m of the queue."""
         order = [t for _, t in self.queues[i]]
         last = self.walks[i][-1]
         lists = {last: [place[:2] for place in self.joined[-1].lists[i]]}
@@ -120,8 +124,8 @@ class Run:
         return ever
 
     def nearer(self):
-        """For each tile how many sites the tiles nearer than it from O hold, 64 standing for more: the last k for which it is
-        struck."""
+        """For each tile how many sites the tiles nearer than it from O hold, 64 standing for more: the last k for which
+        it is struck."""
         most = [0] * len(self.tiles)
         for k in range(1, MAX_K + 1):
             for t, mark in enumerate(self.engine.strike(self.file, self.o, k)):
@@ -149,13 +153,15 @@ class Run:
                 break
             if t not in some:
                 some.append(t)
-        self.notes.append(f"The margin is here for E among {len(some)} tiles; for the others the corners of O are compared.")
+        self.notes.append(f"The margin is here for E among {len(some)} tiles; for the others the corners of O are "
+                          "compared.")
         return sorted(some)
 
 
 def _axis(o, e, b):
-    """The three points of a margin on one axis, by the rule: o an end of O, e the end of E farther from it, b the point of B
-    closest to it; the low end where both are as good. As letters: which end of O, which of E, and for b an end or o itself."""
+    """The three points of a margin on one axis, by the rule: o an end of O, e the end of E farther from it, b the point
+    of B closest to it; the low end where both are as good. As letters: which end of O, which of E, and for b an end or
+    o itself."""
     best = None
     for end, at in (("l", o[0]), ("h", o[1])):
         far = "l" if abs(at - e[0]) >= abs(at - e[1]) else "h"
@@ -169,7 +175,8 @@ def _axis(o, e, b):
 
 
 def margins(run, e):
-    """For E and every B the margin and, as letters, its three points: the margin of the points alone must be the same."""
+    """For E and every B the margin and, as letters, its three points: the margin of the points alone must be the
+    same."""
     box, o = run.tiles[e].box, run.o
     values, letters = [], []
     for b, tile in enumerate(run.tiles):
@@ -177,7 +184,8 @@ def margins(run, e):
         x, (ox, ex, bx) = _axis((o[0], o[2]), (box[0], box[2]), (other[0], other[2]))
         y, (oy, ey, by) = _axis((o[1], o[3]), (box[1], box[3]), (other[1], other[3]))
         value = run.engine.margin(o, box, other)
-        _agree(run.engine.margin((ox, oy, ox, oy), (ex, ey, ex, ey), (bx, by, bx, by)), value, f"the margin of {e} and {b}")
+        _agree(run.engine.margin((ox, oy, ox, oy), (ex, ey, ex, ey), (bx, by, bx, by)), value,
+               f"the margin of {e} and {b}")
         values.append(value)
         letters.append(x + y)
     return values, "".join(letters)
@@ -207,8 +215,8 @@ def data(engine, name, content, tiles, stops, k):
 
 
 def html(engine, name, content, tiles, stops, k):
-    """The page as text, and its largest k. Raises Refused for a question that the engine refuses, Disagrees if two of its
-    answers do."""
+    """The page as text, and its largest k. Raises Refused for a question that the engine refuses, Disagrees if two of
+    its answers do."""
     page = pkgutil.get_data("towns", "page.html").decode()
     shown = data(engine, name, content, tiles, stops, k)
     held = json.dumps(shown, separators=(",", ":")).replace("<", "\\u003c")

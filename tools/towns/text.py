@@ -1,7 +1,7 @@
 """A town as text, and back.
 
-A line is `tile LOW_X LOW_Y HIGH_X HIGH_Y`, or `site X Y CUE` for a site of the tile above it, in centimetres; what follows a
-# is left out. Tiles are numbered from 0 in their order, and the sites of a tile from slot 0.
+A line is `tile LOW_X LOW_Y HIGH_X HIGH_Y`, or `site X Y CUE` for a site of the tile above it, in centimetres; what
+follows a # is left out. Tiles are numbered from 0 in their order, and the sites of a tile from slot 0.
 """
 import re
 from typing import NamedTuple, Optional

@@ -53,7 +53,8 @@ class Blocks:
         if self.is_directory(position):
             for e in range(entries):
                 for at in (18, 19):
-                    yield PAYLOAD + ENTRY_SIZE * e + at, f"the last two bytes of the entry of tile {ENTRIES * position + e}"
+                    yield (PAYLOAD + ENTRY_SIZE * e + at,
+                           f"the last two bytes of the entry of tile {ENTRIES * position + e}")
             first, what = PAYLOAD + ENTRY_SIZE * entries, "past the last entry"
         else:
             yield from ((at, "zero in a tile, where a directory block has T") for at in (6, 7))
@@ -98,8 +99,10 @@ def _tiles(file, position):
     if not 1 <= says <= MAX_TILES:
         return f"T from 1 to {MAX_TILES}", there
     room = [t for t in range(1, MAX_TILES + 1) if t + directory_blocks(t) == file.count]
-    due = f"T {room[0]}, as the file has {file.count} blocks" if room else f"a T that takes {file.count} blocks (there is none)"
-    return due, f"{there}, which take {says + directory_blocks(says)} blocks, {directory_blocks(says)} of them of the directory"
+    due = (f"T {room[0]}, as the file has {file.count} blocks" if room
+           else f"a T that takes {file.count} blocks (there is none)")
+    return due, (f"{there}, which take {says + directory_blocks(says)} blocks, "
+                 f"{directory_blocks(says)} of them of the directory")
 
 
 def _entries(file, position):
