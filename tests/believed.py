@@ -15,10 +15,10 @@ of those definitions. What it comes to has to stand where a reader looks for it:
 - in crates/NAME/specs/Inner/ (what contracts between crates speak of) or in crates/NAME/proofs/: nobody has to
   believe it. If a statement rests on it, this is a failure: it is named, with what needs it, and the exit status is 1.
 
-Printed are the number of definitions to believe and of their lines, without comments and imports, for each crate and
-in all. README.md has to say the numbers in all. With --unbelieved also the definitions of specs/ that no statement rests on: these belong to specs/Inner/.
-Names of the library (Prim, mathlib, lib, ..) are not followed. A variable that is called like a definition in scope
-counts as that definition: this can only name too much.
+Printed are the number of definitions to believe and of their lines, without comments and imports, for each crate and in
+all. README.md has to say the numbers in all. With --unbelieved also the definitions of specs/ that no statement rests
+on: these belong to specs/Inner/. Names of the library (Prim, mathlib, lib, ..) are not followed. A variable that is
+called like a definition in scope counts as that definition: this can only name too much.
 
 use: believed.py [--unbelieved] [ROOT]
 """
@@ -232,8 +232,8 @@ def main(words):
     inner = [one for one in needed_by if one not in believed]
     failures = [f"not to be believed: {one}, which {needed_by[one]} rests on" for one in inner]
     failures += sorted(set(tree.errors))
-    due = (f"What has to be believed are {len(believed)} definitions, {sum(one.lines for one in believed):,} lines without "
-           f"comments, for {len(calls)} public calls and {len(theorems)} theorems.")
+    due = (f"What has to be believed are {len(believed)} definitions, {sum(one.lines for one in believed):,} lines "
+           f"without comments, for {len(calls)} public calls and {len(theorems)} theorems.")
     if due not in " ".join(tree.readme.split()):
         failures.append(f"README.md has other counts; the line to write:\n{due}")
     print(f"{len(calls)} public calls and {len(theorems)} theorems rest on")

@@ -5,10 +5,10 @@
     tests/documents.py FILE ..      these only
 
 Commands stand in fenced blocks tagged `console`. A line that starts with `$ ` is a command, run by `bash -c` in the
-repository's root; if it ends in a backslash it goes on in the next line. The lines after it, up to the next command or the end
-of the block, are what it prints, errors too; a last line `status N` says that its exit status is N and not 0. Files that
-commands make go to target/class/, which is cleared before each document, so that no document rests on another or on an earlier
-run.
+repository's root; if it ends in a backslash it goes on in the next line. The lines after it, up to the next command or
+the end of the block, are what it prints, errors too; a last line `status N` says that its exit status is N and not 0.
+Files that commands make go to target/class/, which is cleared before each document, so that no document rests on
+another or on an earlier run.
 
 An indented line that starts with a command is a failure, unless NOT_RUN has it, with the reason.
 
@@ -48,7 +48,8 @@ NOT_RUN = {
     "docs/figures/draw.py": "it changes files; tests/run.sh does it with --check",
     "tests/why.py --write": "it changes files; tests/run.sh does it without --write",
 }
-INDENTED = re.compile(r"^ {4,}((?:rt|make|gcc|cc|git|python3?|cargo|apt-get) .*|(?:tools|tests|docs|target|examples|\.ci)/\S+( .*)?)$")
+INDENTED = re.compile(r"^ {4,}((?:rt|make|gcc|cc|git|python3?|cargo|apt-get) .*"
+                      r"|(?:tools|tests|docs|target|examples|\.ci)/\S+( .*)?)$")
 
 
 class Command:
@@ -57,8 +58,8 @@ class Command:
 
 
 def fenced_blocks(text):
-    """The fenced blocks: number of the first line, tag, and lines; the tag is None where the fence is not closed. A line outside
-    of them comes alone, with the tag `outside`."""
+    """The fenced blocks: number of the first line, tag, and lines; the tag is None where the fence is not closed. A
+    line outside of them comes alone, with the tag `outside`."""
     lines = text.split("\n")
     at = 0
     while at < len(lines):
@@ -120,7 +121,8 @@ def printed(command):
 
 
 def run_document(path, left_out):
-    """Runs the commands of a document. Gives their number and that of the faults, and adds to the commands that are left out."""
+    """Runs the commands of a document. Gives their number and that of the faults, and adds to the commands that are
+    left out."""
     name = path.relative_to(ROOT) if path.is_relative_to(ROOT) else path
     shutil.rmtree(MADE, ignore_errors=True)
     MADE.mkdir(parents=True)
@@ -135,7 +137,8 @@ def run_document(path, left_out):
         if tag == "outside":
             indented = INDENTED.match(lines[0])
             if indented and (shown := indented[1].partition(" #")[0].strip()) not in NOT_RUN:
-                fault(first, f"a command that no test runs: put `{shown}` into a console block, or into NOT_RUN of this test")
+                fault(first, f"a command that no test runs: put `{shown}` into a console block, "
+                             "or into NOT_RUN of this test")
             elif indented:
                 left_out.add(shown)
         elif tag is None:

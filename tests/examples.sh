@@ -1,6 +1,6 @@
 #!/usr/bin/env bash
-# Builds the C programs of examples/ with every warning an error, runs them and the program on the samples, and compares all
-# that they print.
+# Builds the C programs of examples/ with every warning an error, runs them and the program on the samples, and compares
+# all that they print.
 set -euo pipefail
 cd "$(dirname "$0")/.."
 built=target/examples
@@ -68,8 +68,8 @@ compare <(echo "refused 8 block 21") ask "$built/255.town" 3 2600,3100
 # says NUMBER BLOCK WHERE FILE: what the sound host prints of a bad file, besides its lines for each block
 host() { "$built/host" "$1" | grep -v '^block'; }
 says() {
-    compare <(printf '%s\n' "full check: number $1 block $2 tiles 0" "refused $1, $3: copy the whole file again" "status 1") \
-        host "$4"
+    compare <(printf '%s\n' "full check: number $1 block $2 tiles 0" "refused $1, $3: copy the whole file again" \
+        "status 1") host "$4"
 }
 says 1 0 "the length" "$built/cut.town"
 says 3 21 "block 21, tile 20" "$built/one.town"

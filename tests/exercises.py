@@ -343,8 +343,9 @@ def mistakes(engine, document):
         document.says("Answer 4.2", f"{words} tile 0 is at D = {engine.near(stop, e)}"
                       f" and tile 1 at D = {engine.near(stop, b)}")
     (first_box, [held]), (second_box, _) = document.town("found")
-    document.says("Answer 4.3", f"near of tile 0 is {engine.near((0, 0), first_box)}, and it is taken first; its one site is at"
-                  f" D = {engine.near((0, 0), held[:2] * 2)}. But near of tile 1 is {engine.near((0, 0), second_box)},")
+    document.says("Answer 4.3", f"near of tile 0 is {engine.near((0, 0), first_box)}, and it is taken first; its one"
+                  f" site is at D = {engine.near((0, 0), held[:2] * 2)}. But near of tile 1 is"
+                  f" {engine.near((0, 0), second_box)},")
 
 
 def check(engine, document):
@@ -445,13 +446,14 @@ def as_the_prover_says(document, shown, found):
     errors = [error.groups() for said in found if (error := re.match(r"\S+: error: `([^`]+)`: (.*)", said))]
     own = [name for name, why in errors if "was not admitted" not in why]
     document.says("Answer 6", f"{' and '.join(f'`{name}`' for name in own)} fail because of the edit.")
-    same("the functions that are not proved, exercise 6", [said for said in found if re.match("fn .*: not proved", said)],
+    same("the functions that are not proved, exercise 6",
+         [said for said in found if re.match("fn .*: not proved", said)],
          [entry for entry in entries(shown) if re.match("fn .*: not proved", entry)])
 
 
 def wrong_program(document, gate):
-    """The edit is the one of the repository and fits, each error stands in the answer that it names, and the prover says
-    what is shown."""
+    """The edit is the one of the repository and fits, each error stands in the answer that it names, and the prover
+    says what is shown."""
     heading = "6. A wrong program, and what the prover says"
     lines = [line[4:] for line in document.lines(heading) if line.startswith("    ")]
     edit = EDIT.read_text(encoding="utf-8").splitlines()
@@ -471,7 +473,8 @@ def wrong_program(document, gate):
 
 
 def contributing(path):
-    """The files that CONTRIBUTING.md names are there, and the edit and the error that it shows are those of the code."""
+    """The files that CONTRIBUTING.md names are there, and the edit and the error that it shows are those of the
+    code."""
     text = path.read_text(encoding="utf-8")
     named = re.findall(r"`((?:crates|tests|docs|include|bench)/[\w./-]+)`", text)
     missing = [name for name in named if not re.search(r"NAME|FILE|\.\.", name) and not (ROOT / name).exists()]

@@ -335,7 +335,8 @@ def check_what_is_seen(engine, sample):
     unseen_by_the_check(engine, sample)
     # a block that is moved: 4 where the other kind is due, else 5
     two = engine.written(*town(30))[2]
-    for file, one, other, due in (sample, 0, 2, 4), (sample, 2, 0, 4), (sample, 2, 3, 5), (two, 0, 1, 5), (two, 1, 2, 4):
+    for file, one, other, due in ((sample, 0, 2, 4), (sample, 2, 0, 4), (sample, 2, 3, 5), (two, 0, 1, 5),
+                                  (two, 1, 2, 4)):
         expect("a moved block", engine.checked(put(file, BLOCK * other, block_of(file, one))), (due, other))
     zero = put(bytes(BLOCK), 0, [0xD6])
     expect("zeros", [engine.block_check(put(zero, at, [255])) for at in (1, 509, 510, 511)], [0, 0, 3, 3])

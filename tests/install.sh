@@ -1,7 +1,7 @@
 #!/usr/bin/env bash
-# Installs into a temporary tree, builds the sound host of examples/ against it as pkg-config says, with the shared and the
-# static library, runs it and the program, and takes everything away again. It also looks at what the compiled library asks for
-# and holds. It needs the libraries and the program: `make lib`, `make run`.
+# Installs into a temporary tree, builds the sound host of examples/ against it as pkg-config says, with the shared and
+# the static library, runs it and the program, and takes everything away again. It also looks at what the compiled
+# library asks for and holds. It needs the libraries and the program: `make lib`, `make run`.
 set -euo pipefail
 cd "$(dirname "$0")/.."
 unset MAKEFLAGS MFLAGS MAKELEVEL DESTDIR NEARBY_LIB LD_LIBRARY_PATH PKG_CONFIG_PATH
@@ -35,8 +35,8 @@ chmod +x "$work/no-rt/rt"
 make_without_rt() { PATH=$work/no-rt:$PATH make --no-print-directory "$@"; }
 make_without_rt install PREFIX="$tree"
 
-# What the header says of every call: nothing is allocated, no pointer kept, and calls may run at the same time. The library
-# asks for memset only, makes no system call, and has no data that can be written.
+# What the header says of every call: nothing is allocated, no pointer kept, and calls may run at the same time. The
+# library asks for memset only, makes no system call, and has no data that can be written.
 archive=$tree/lib/libnearby.a
 undefined=$(nm -u "$archive" | sed -n 's/^ *U //p' | sort -u | xargs)
 [ "$undefined" = memset ] || failed "libnearby.a asks for $undefined"
@@ -48,7 +48,8 @@ exported=$(nm -D --defined-only "$tree/lib/libnearby.so" | sed 's/.* //' | sort 
     failed "libnearby.so exports $exported"
 asked_for=$(nm -D --undefined-only "$tree/lib/libnearby.so" | sed 's/.* //; s/@.*//' | sort | xargs)
 [ "$asked_for" = memset ] || failed "libnearby.so asks for $asked_for"
-readelf -d "$tree/lib/libnearby.so" | grep 'SONAME.*\[libnearby\.so\.1\]' >/dev/null || failed "libnearby.so has another soname"
+readelf -d "$tree/lib/libnearby.so" | grep 'SONAME.*\[libnearby\.so\.1\]' >/dev/null ||
+    failed "libnearby.so has another soname"
 
 export PKG_CONFIG_PATH=$tree/lib/pkgconfig
 pkg-config --exact-version="$(make -s --no-print-directory version)" nearby || failed "nearby.pc has another version"

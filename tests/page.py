@@ -1,8 +1,8 @@
 #!/usr/bin/env python3
-"""The page of `tools/town draw` in a real browser, headless Chromium: it loads without an error and without a network, answers
-clicks and keys, and every number that it shows is the engine's, asked again here. The map is where the numbers say: boxes, sites,
-stops, O and circles. The three points of a margin are those of docs/WHY.md, and the marks can be told apart in grey, here as in the
-figure of the town.
+"""The page of `tools/town draw` in a real browser, headless Chromium: it loads without an error and without a network,
+answers clicks and keys, and every number that it shows is the engine's, asked again here. The map is where the numbers
+say: boxes, sites, stops, O and circles. The three points of a margin are those of docs/WHY.md, and the marks can be
+told apart in grey, here as in the figure of the town.
 
 Installs Debian's packages where they are missing. Pictures of the page are left in target/tool/.
 """
@@ -27,7 +27,8 @@ def installed():
 
 if not installed():
     subprocess.run(["apt-get", "update"], check=True, stdout=subprocess.DEVNULL)
-    subprocess.run(["apt-get", "install", "-y", "--no-install-recommends", *PACKAGES], check=True, stdout=subprocess.DEVNULL)
+    subprocess.run(["apt-get", "install", "-y", "--no-install-recommends", *PACKAGES], check=True,
+                   stdout=subprocess.DEVNULL)
 try:
     from selenium import webdriver
 except ImportError:
@@ -65,10 +66,11 @@ class Page:
         self.o = town.around(stops)
         file, self.path = WORK / f"{name}.town", WORK / f"{name}.html"
         file.write_bytes(content)
-        subprocess.run([ROOT / "tools/town", "draw", file, str(k), *(f"{x},{y}" for x, y in stops), self.path], check=True,
-                       stdout=subprocess.DEVNULL)
+        subprocess.run([ROOT / "tools/town", "draw", file, str(k), *(f"{x},{y}" for x, y in stops), self.path],
+                       check=True, stdout=subprocess.DEVNULL)
         driver.get(self.path.as_uri())
-        same(self.script("return performance.getEntriesByType('resource').length"), 0, f"{name}: nothing is loaded from elsewhere")
+        same(self.script("return performance.getEntriesByType('resource').length"), 0,
+             f"{name}: nothing is loaded from elsewhere")
         self.on_the_map()
         self.quiet()
 
@@ -113,14 +115,16 @@ class Page:
     def box_of(self, path):
         """The box that an outline goes around."""
         number = r"(-?[\d.]+(?:e-?\d+)?)"
-        x0, y0, x1, y1, back = map(float, re.fullmatch(f"M{number} {number}H{number}V{number}H{number}Z", path).groups())
+        outline = re.fullmatch(f"M{number} {number}H{number}V{number}H{number}Z", path)
+        x0, y0, x1, y1, back = map(float, outline.groups())
         same(back, x0, f"{self.name}: an outline is closed")
         return x0, -y0, x1, -y1
 
     # ---- what is due ----
     def on_the_map(self):
         """Boxes, sites, stops and O are drawn where they are; a box without width or height is a bar around it."""
-        outlines = dict(self.script("return [...document.querySelectorAll('[data-tile]')].map((p) => [+p.dataset.tile, p.getAttribute('d')])"))
+        outlines = dict(self.script("return [...document.querySelectorAll('[data-tile]')]"
+                                    ".map((p) => [+p.dataset.tile, p.getAttribute('d')])"))
         same(sorted(outlines), list(range(len(self.tiles))), f"{self.name}: a box for each tile")
         for t, tile in enumerate(self.tiles):
             drawn_box = self.box_of(outlines[t])
@@ -129,11 +133,13 @@ class Page:
                 if due[0] < due[1]:
                     same((low, high), due, f"{self.name}: the outline of tile {t}")
                 else:
-                    same(low < due[0] < high and abs(low + high - 2 * due[0]) < 1e-6 * (high - low), True, f"{self.name}: the bar of tile {t}")
+                    same(low < due[0] < high and abs(low + high - 2 * due[0]) < 1e-6 * (high - low), True,
+                         f"{self.name}: the bar of tile {t}")
         same(self.points_of("#layer-sites .sites") if any(tile.sites for tile in self.tiles) else [],
              [site[:2] for tile in self.tiles for site in tile.sites], f"{self.name}: the sites on the map")
         same(self.box_of(self.at("#layer-o .o").get_attribute("d")), self.o, f"{self.name}: O on the map")
-        spots = self.script("return [...document.querySelectorAll('[data-stop]')].map((g) => [+g.dataset.stop, g.getAttribute('transform')])")
+        spots = self.script("return [...document.querySelectorAll('[data-stop]')]"
+                            ".map((g) => [+g.dataset.stop, g.getAttribute('transform')])")
         for i, where in spots:
             x, y = re.match(r"translate\((-?\d+) (-?\d+)\)", where).groups()
             same((int(x), -int(y)), self.stops[i], f"{self.name}: stop {i} on the map")
@@ -144,7 +150,8 @@ class Page:
         joined = self.engine.join(self.content, self.stops, k)
         neither = len(joined.marks) - joined.opened - joined.struck
         tiles = "tile" if len(self.tiles) == 1 else "tiles"
-        same(self.text("counts"), f"{len(self.tiles)} {tiles}: opened {joined.opened}, struck {joined.struck}, neither {neither}",
+        same(self.text("counts"),
+             f"{len(self.tiles)} {tiles}: opened {joined.opened}, struck {joined.struck}, neither {neither}",
              f"{self.name}: the counts for k {k}")
         shown = self.script("return [...document.querySelectorAll('[data-tile]')]"
                             ".map((path) => [+path.dataset.tile, path.getAttribute('class')])")
@@ -165,17 +172,20 @@ class Page:
         waits = sorted((self.engine.near(stop, tile.box), t) for t, tile in enumerate(self.tiles)
                        if tile.sites and joined.marks[t] != 1)
         queue = self.rows("queue")
-        same([row[1:4] for row in queue], [[str(near), str(t), str(len(self.tiles[t].sites))] for near, t in waits][:len(queue)],
+        same([row[1:4] for row in queue],
+             [[str(near), str(t), str(len(self.tiles[t].sites))] for near, t in waits][:len(queue)],
              f"{what}: the queue")
         turns = [row[0] for row in queue]
-        same(turns, [str(j + 1) for j in range(alone.opened)] + [""] * (len(queue) - alone.opened), f"{what}: the turns")
+        same(turns, [str(j + 1) for j in range(alone.opened)] + [""] * (len(queue) - alone.opened),
+             f"{what}: the turns")
         earlier = self.engine.join(self.content, self.stops[:i], k).marks if i else bytes(len(self.tiles))
         for row in queue[:alone.opened]:
             same(row[4] == "opened", earlier[int(row[2])] != 2, f"{what}: whether tile {row[2]} is opened here")
         ended = self.text("ended")
         if len(waits) > alone.opened:
             near, t = waits[alone.opened]
-            same(ended.startswith(f"It ended at the key near {near}, tile {t}: {k} site"), True, f"{what}: where it ended: {ended}")
+            same(ended.startswith(f"It ended at the key near {near}, tile {t}: {k} site"), True,
+                 f"{what}: where it ended: {ended}")
             same("ahead of the next key" in ended, True, f"{what}: why it ended: {ended}")
             same(f"D {joined.lists[i][-1][0]} is" in ended, True, f"{what}: the last place: {ended}")
         else:
@@ -185,17 +195,20 @@ class Page:
             rings.append(["ring", joined.lists[i][-1][0]])
         if len(waits) > alone.opened:
             rings.append(["next", waits[alone.opened][0]])
-        drawn_rings = self.script("return [...document.querySelectorAll('#layer-rings circle')].map((c) => [c.getAttribute('class'),"
+        drawn_rings = self.script("return [...document.querySelectorAll('#layer-rings circle')]"
+                                  ".map((c) => [c.getAttribute('class'),"
                                   " ...['r', 'cx', 'cy'].map((name) => +c.getAttribute(name))])")
         same([[kind, round(radius ** 2)] for kind, radius, _, _ in drawn_rings], rings, f"{what}: the circles")
         for kind, _, x, y in drawn_rings:
             same((x, -y), stop, f"{what}: the middle of the circle {kind}")
         chosen = self.points_of("#layer-chosen .chosen")
-        same(chosen, [self.tiles[site // 40].sites[site % 40][:2] for _, site, _ in joined.lists[i]], f"{what}: the sites in the list")
+        same(chosen, [self.tiles[site // 40].sites[site % 40][:2] for _, site, _ in joined.lists[i]],
+             f"{what}: the sites in the list")
         for m in range(1, alone.opened + 1) if all_turns else ():
             self.script("document.querySelector(`#queue [data-step='${arguments[0]}']`).click()", m)
             opened = {t for _, t in waits[:m]}
-            made = self.engine.write([(tile.box, tile.sites if t in opened else []) for t, tile in enumerate(self.tiles)])
+            made = self.engine.write([(tile.box, tile.sites if t in opened else [])
+                                      for t, tile in enumerate(self.tiles)])
             due = [[str(dist), str(site), str(cue)] for dist, site, cue in self.engine.join(made, [stop], k).lists[0]]
             same([[row[1], row[2], row[5]] for row in self.rows("list")], due, f"{what}: the list after turn {m}")
 
@@ -203,11 +216,14 @@ class Page:
         what = f"{self.name}: E {e}, B {b}"
         margin = self.engine.margin(self.o, self.tiles[e].box, self.tiles[b].box)
         same(self.text("margin-value"), str(margin), f"{what}: the margin")
-        same(f"tile {e} is {'nearer' if margin < 0 else 'not nearer'} than tile {b} from O" in self.text("margin"), True, what)
+        same(f"tile {e} is {'nearer' if margin < 0 else 'not nearer'} than tile {b} from O" in self.text("margin"),
+             True, what)
         points = [(int(row[1]), int(row[2])) for row in self.rows("points")]
-        same(self.engine.margin(*(point + point for point in points)), margin, f"{what}: the margin of the three points")
+        same(self.engine.margin(*(point + point for point in points)), margin,
+             f"{what}: the margin of the three points")
         for point, box in zip(points, (self.o, self.tiles[e].box, self.tiles[b].box)):
-            same(box[0] <= point[0] <= box[2] and box[1] <= point[1] <= box[3], True, f"{what}: the points are in their boxes")
+            same(box[0] <= point[0] <= box[2] and box[1] <= point[1] <= box[3], True,
+                 f"{what}: the points are in their boxes")
         links = [self.at(f"#layer-pair .link.{name}").get_attribute("d") for name in "eb"]
         o, *others = points
         same(links, [f"M{o[0]} {-o[1]}L{x} {-y}" for x, y in others], f"{what}: the lines on the map")
@@ -234,7 +250,8 @@ class Page:
         same(says.startswith(f"Box x {box[0]}..{box[2]}, y {box[1]}..{box[3]}, {sites}. "), True, says)
         nearer = sum(len(other.sites) for other in self.tiles if self.engine.margin(self.o, other.box, box) < 0)
         due = "64 sites or more" if nearer >= 64 else f"{nearer} site{'' if nearer == 1 else 's'}"
-        same(f"The tiles nearer than it from O hold {due}, and k is" in says, True, f"{self.name}: tile {t}: {nearer}: {says}")
+        same(f"The tiles nearer than it from O hold {due}, and k is" in says, True,
+             f"{self.name}: tile {t}: {nearer}: {says}")
         due = [[str(slot), str(40 * t + slot), *map(str, site)] for slot, site in enumerate(tile.sites)]
         same(self.rows("sites"), due, f"tile {t}: sites")
 
@@ -288,7 +305,8 @@ def sample(driver, engine):
     page.click("#pick-e")
     page.click("[data-tile='18']")
     page.click("[data-tile='5']")
-    same([page.at("#e").get_attribute("value"), page.at("#b").get_attribute("value")], ["18", "5"], "E and B picked on the map")
+    same([page.at("#e").get_attribute("value"), page.at("#b").get_attribute("value")], ["18", "5"],
+         "E and B picked on the map")
     page.pair_numbers(18, 5)
     driver.save_screenshot(str(WORK / "page-pair.png"))
     page.click("#swap")
@@ -347,20 +365,24 @@ def contrast(one, other):
 
 
 def in_grey(page):
-    """Opened is clearly darker than neither, struck is hatched; the same in docs/figures/crossing.svg. What stands on an opened
-    tile can be seen."""
+    """Opened is clearly darker than neither, struck is hatched; the same in docs/figures/crossing.svg. What stands on
+    an opened tile can be seen."""
     look = "const s = getComputedStyle(document.querySelector(arguments[0])); return s[arguments[1]]"
-    opened, struck, neither = (page.script(look, f".legend .tile.{kind}", "fill") for kind in ("opened", "struck", "neither"))
+    opened, struck, neither = (page.script(look, f".legend .tile.{kind}", "fill")
+                               for kind in ("opened", "struck", "neither"))
     same(contrast(opened, neither) >= 2, True, f"opened is darker than neither: {opened}, {neither}")
-    same([page.script(look, f"[data-tile].{kind}", "fill") for kind in ("opened", "neither:not(.empty)")], [opened, neither], "the legend")
+    same([page.script(look, f"[data-tile].{kind}", "fill") for kind in ("opened", "neither:not(.empty)")],
+         [opened, neither], "the legend")
     same("url(" in struck and "url(" in page.script(look, "[data-tile].struck", "fill"), True, "struck is hatched")
-    for choice, name in ((".sites", "stroke"), (".chosen", "stroke"), (".ring", "stroke"), (".taken", "stroke"), (".o", "stroke")):
+    for choice, name in ((".sites", "stroke"), (".chosen", "stroke"), (".ring", "stroke"), (".taken", "stroke"),
+                         (".o", "stroke")):
         colour = page.script(look, choice, name)
         same(contrast(opened, colour) >= 3, True, f"{choice} on an opened tile: {contrast(opened, colour):.2f}")
     figure = (ROOT / "docs/figures/crossing.svg").read_text()
     legend = re.findall(r'<rect [^>]*width="16" height="16" [^>]*fill="([^"]+)"/>', figure)
     page.driver.execute_script("document.body.append(Object.assign(document.createElement('i'), {id: 'probe'}))")
-    as_shown = [page.script("const p = document.getElementById('probe'); p.style.color = arguments[0]; return getComputedStyle(p).color", fill)
+    as_shown = [page.script("const p = document.getElementById('probe'); p.style.color = arguments[0]; "
+                            "return getComputedStyle(p).color", fill)
                 for fill in (legend[0], legend[2])]
     same((as_shown, legend[1]), ([opened, neither], "url(#hatch)"), "the figure of the town has the same code")
 
@@ -368,7 +390,8 @@ def in_grey(page):
 def reach(page):
     """Every button, slider and choice has a name, and the tab key comes to the slider, the stops and the tabs."""
     unnamed = page.script("return [...document.querySelectorAll('button, select, input, [role=button], [role=tab]')]"
-                          ".filter((e) => !(e.getAttribute('aria-label') || e.textContent.trim() || (e.labels && e.labels.length))).length")
+                          ".filter((e) => !(e.getAttribute('aria-label') || e.textContent.trim()"
+                          " || (e.labels && e.labels.length))).length")
     same(unnamed, 0, "controls without a name")
     page.driver.get(page.path.as_uri())
     seen = set()
@@ -388,7 +411,8 @@ def phone(page):
     same(page.script("return document.documentElement.scrollWidth"), 380, "the width on a phone")
     same(page.at("#k-help").is_displayed(), False, "the line about k, O and D on a phone")
     words = page.script("return document.querySelector('details').textContent.replace(/\\s+/g, ' ')")
-    for sentence in page.script("return document.getElementById('k-help').textContent.replace(/\\s+/g, ' ').trim()").split(". "):
+    help_of_k = page.script("return document.getElementById('k-help').textContent.replace(/\\s+/g, ' ').trim()")
+    for sentence in help_of_k.split(". "):
         same(sentence.rstrip(".") in words, True, f"the words say it instead: {sentence}")
     low = page.script("return [...document.querySelectorAll('button, select, input')]"
                       ".filter((e) => e.offsetParent && e.offsetHeight < 32).map((e) => e.id || e.textContent)")
@@ -410,7 +434,8 @@ def phone(page):
     driver.save_screenshot(str(WORK / "page-grey.png"))
     driver.execute_cdp_cmd("Emulation.setEmulatedVisionDeficiency", {"type": "none"})
     # Without colour the marks differ by pattern and by edge.
-    looks = page.script("const look = (kind) => { const e = document.querySelector('.tile.' + kind), s = getComputedStyle(e); "
+    looks = page.script("const look = (kind) => { "
+                        "const e = document.querySelector('.tile.' + kind), s = getComputedStyle(e); "
                         "return [s.fill.includes('url'), s.strokeWidth, s.strokeDasharray].join(' '); };"
                         "return ['opened', 'struck', 'neither:not(.empty)', 'empty'].map(look)")
     same(len(set(looks)), 4, f"the marks look different without colour: {looks}")
@@ -499,7 +524,8 @@ def unusual(driver, engine):
         page.choose("stop", i)
         page.stop_numbers(i, 64, False)
         same(bool(page.driver.find_elements("css selector", "#queue button")), i == 0, "turns that the page has")
-    same("The list after each turn is not on this page for this stop." in page.text("left-out"), True, "turns that the page has not got")
+    same("The list after each turn is not on this page for this stop." in page.text("left-out"), True,
+         "turns that the page has not got")
     page.quiet()
 
 

@@ -1,6 +1,6 @@
 #!/usr/bin/env bash
-# Every test. `rt ci` comes first, since it starts from nothing and leaves what the other parts are linked from; its verdict,
-# the last line it prints, is printed again at the end, once all the other parts have passed.
+# Every test. `rt ci` comes first, since it starts from nothing and leaves what the other parts are linked from; its
+# verdict, the last line it prints, is printed again at the end, once all the other parts have passed.
 set -euo pipefail
 cd "$(dirname "$0")/.."
 log=$(mktemp)

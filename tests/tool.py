@@ -44,9 +44,10 @@ def holds(truth, what):
         sys.exit(f"tool: {what}")
 
 
-# ---- drawn towns ------------------------------------------------------------------------------------------------------------
+# ---- drawn towns -----------------------------------------------------------------------------------------------------
 def drawn(rng, most=40):
-    """A town: boxes that may overlap, be points or lines, and be empty; small numbers, so that distances are often equal."""
+    """A town: boxes that may overlap, be points or lines, and be empty; small numbers, so that distances are often
+    equal."""
     span = rng.choice([5, 30, 1000, 1_000_000])
     tiles = []
     for _ in range(rng.randint(1, most)):
@@ -55,8 +56,9 @@ def drawn(rng, most=40):
             ends = [[low, min(high, low + span // 4)] for low, high in ends]
         box = (ends[0][0], ends[1][0], ends[0][1], ends[1][1])
         count = rng.choice([0, 1, 1, 2, 3, rng.randint(0, 40)])
-        tiles.append(town.Tile(box, [(rng.randint(box[0], box[2]), rng.randint(box[1], box[3]), rng.randint(0, 2**32 - 1))
-                                     for _ in range(count)]))
+        sites = [(rng.randint(box[0], box[2]), rng.randint(box[1], box[3]), rng.randint(0, 2**32 - 1))
+                 for _ in range(count)]
+        tiles.append(town.Tile(box, sites))
     return span, tiles
 
 
@@ -96,7 +98,7 @@ def marks(tiles, stops, k):
     return struck, opened
 
 
-# ---- make and show ----------------------------------------------------------------------------------------------------------
+# ---- make and show ---------------------------------------------------------------------------------------------------
 def texts():
     target = WORK / "made.town"
     same(run("make", "samples/riverside.txt", target), (0, f"{target}: 24 tiles, 45 sites, 12800 bytes\n", ""), "make")
@@ -148,7 +150,8 @@ def faulty(engine):
         (b"tile 0 0 4 9\nsite 1 1 4294967296\nsite 1 1 -1\n",
          ["line 2: tile 0 slot 0: the cue is 4294967296, not a number from 0 to 4294967295",
           "line 3: tile 0 slot 1: the cue is -1, not a number from 0 to 4294967295"]),
-        (b"tile 0 0 1 1\ntile 0 0 1 1\n" + b"site 1 1 1\n" * 42, ["line 43: tile 1 slot 40: more than 40 sites in the tile"]),
+        (b"tile 0 0 1 1\ntile 0 0 1 1\n" + b"site 1 1 1\n" * 42,
+         ["line 43: tile 1 slot 40: more than 40 sites in the tile"]),
         (b"tile 0 0 1 1\n" * 961, ["line 961: tile 960: more than 960 tiles"]),
         (b"tile 0 0\nsite 1 1 1\ntile 0 0 1 1\nsite 2 1 1\n",
          ["line 1: tile 0: `tile` takes 4 numbers, LOW_X LOW_Y HIGH_X HIGH_Y; here are 2",
@@ -163,8 +166,8 @@ def faulty(engine):
         same(found, (1, "", "".join(f"standard input: {line}\n" for line in due)), f"make of {given[:60]!r}")
     holds(not target.exists(), "a text with a fault makes no file")
     _, _, said = run("make", "-", target, given=b"sight\n" * 30)
-    same(said.splitlines()[19:], ["standard input: line 20: `sight` is neither `tile` nor `site`", "11 more like these"],
-         "many faults")
+    same(said.splitlines()[19:],
+         ["standard input: line 20: `sight` is neither `tile` nor `site`", "11 more like these"], "many faults")
     # What the engine refuses has a fault in words, and what it takes has none.
     rng = random.Random(7)
     for _ in range(500):
@@ -183,7 +186,7 @@ def faulty(engine):
         same(bool(list(text._town_faults(source))), refused, "a text has a fault exactly when the engine refuses it")
 
 
-# ---- check ------------------------------------------------------------------------------------------------------------------
+# ---- check -----------------------------------------------------------------------------------------------------------
 def resummed(content, block):
     """The file with the block's check put right again."""
     at = 512 * block
@@ -212,21 +215,25 @@ def damaged(engine):
     yield "no bytes", b"", ["refused 1 (length)", length, "there: the file has 0 bytes"]
     yield "cut", good[:-1], ["refused 1 (length)", length, "there: the file has 12799 bytes, 24 blocks and 511 bytes"]
     yield "too long", bytes(512512), ["refused 1 (length)", length, "there: the file has 512512 bytes"]
-    yield "sync", put(good, 0, b"\0"), ["refused 2 (sync), block 0, of the directory", "due: byte 0 is D6", "there: byte 0 is 00"]
+    yield "sync", put(good, 0, b"\0"), [
+        "refused 2 (sync), block 0, of the directory", "due: byte 0 is D6", "there: byte 0 is 00"]
     yield "sync of a tile", put(good, 512 * 8, b"\x6d"), ["refused 2 (sync), block 8, tile 7", "due: byte 0 is D6",
                                                         "there: byte 0 is 6D"]
     yield "check", put(good, 510, wrong_check), [
         "refused 3 (check), block 0, of the directory",
         f"due: check bytes {check[0]:02X} {check[1]:02X} at 510 and 511, the sums over bytes 1 to 509",
         f"there: check bytes {wrong_check[0]:02X} {wrong_check[1]:02X}"]
-    yield "kind", put(good, 1, b"\2", 0), ["refused 4 (kind), block 0, of the directory",
-                                           "due: byte 1, the kind, is 1, a block of the directory", "there: byte 1 is 2"]
-    yield "kind of a tile", put(large, 512 * 3 + 1, b"\1", 3), ["refused 4 (kind), block 3, tile 0",
-                                                               "due: byte 1, the kind, is 2, a tile", "there: byte 1 is 1"]
-    yield "position", put(large, 512 * 5 + 2, small(6), 5), ["refused 5 (position), block 5, tile 2",
-                                                           "due: bytes 2-3, the block's position, say 5", "there: bytes 2-3 say 6"]
+    yield "kind", put(good, 1, b"\2", 0), [
+        "refused 4 (kind), block 0, of the directory", "due: byte 1, the kind, is 1, a block of the directory",
+        "there: byte 1 is 2"]
+    yield "kind of a tile", put(large, 512 * 3 + 1, b"\1", 3), [
+        "refused 4 (kind), block 3, tile 0", "due: byte 1, the kind, is 2, a tile", "there: byte 1 is 1"]
+    yield "position", put(large, 512 * 5 + 2, small(6), 5), [
+        "refused 5 (position), block 5, tile 2", "due: bytes 2-3, the block's position, say 5",
+        "there: bytes 2-3 say 6"]
     says = "there: bytes 6-7, the number of tiles T, say"
-    yield "T 0", put(good, 6, small(0), 0), ["refused 6 (tiles), block 0, of the directory", "due: T from 1 to 960", f"{says} 0"]
+    yield "T 0", put(good, 6, small(0), 0), [
+        "refused 6 (tiles), block 0, of the directory", "due: T from 1 to 960", f"{says} 0"]
     yield "T 961", put(good, 6, small(961), 0), [
         "refused 6 (tiles), block 0, of the directory", "due: T from 1 to 960", f"{says} 961"]
     yield "T 25", put(good, 6, small(25), 0), [
@@ -239,7 +246,8 @@ def damaged(engine):
         "refused 6 (tiles), block 1, of the directory", "due: the T of block 0, 60", f"{says} 59"]
     yield "entries", put(large, 512 * 2 + 4, small(11), 2), [
         "refused 7 (entries), block 2, of the directory",
-        "due: bytes 4-5, the number of entries, say 12, the entries of this block when T is 60", "there: bytes 4-5 say 11"]
+        "due: bytes 4-5, the number of entries, say 12, the entries of this block when T is 60",
+        "there: bytes 4-5 say 11"]
     yield "entries of a tile", put(large, 512 * 6 + 4, small(4), 6), [
         "refused 7 (entries), block 6, tile 3",
         "due: bytes 4-5, the number of entries, say 3, the directory's count of this tile", "there: bytes 4-5 say 4"]
@@ -247,17 +255,19 @@ def damaged(engine):
         "refused 8 (padding), block 0, of the directory", "due: byte 8 is 00: between the head and the payload",
         "there: byte 8 is 03, and 1 more"]
     yield "padding of an entry", put(large, 512 + 16 + 20 * 5 + 19, b"\1", 1), [
-        "refused 8 (padding), block 1, of the directory", "due: byte 135 is 00: the last two bytes of the entry of tile 29",
-        "there: byte 135 is 01"]
+        "refused 8 (padding), block 1, of the directory",
+        "due: byte 135 is 00: the last two bytes of the entry of tile 29", "there: byte 135 is 01"]
     yield "padding past entries", put(large, 1024 + 16 + 20 * 12, b"\x80", 2), [
-        "refused 8 (padding), block 2, of the directory", "due: byte 256 is 00: past the last entry", "there: byte 256 is 80"]
+        "refused 8 (padding), block 2, of the directory", "due: byte 256 is 00: past the last entry",
+        "there: byte 256 is 80"]
     yield "padding past sites", put(large, 512 * 6 + 52, b"\1", 6), [
         "refused 8 (padding), block 6, tile 3", "due: byte 52 is 00: past the last site", "there: byte 52 is 01"]
     yield "padding of T", put(large, 512 * 6 + 6, b"\1", 6), [
         "refused 8 (padding), block 6, tile 3", "due: byte 6 is 00: zero in a tile, where a directory block has T",
         "there: byte 6 is 01"]
     yield "padding before the check", put(large, 512 * 6 + 509, b"\1", 6), [
-        "refused 8 (padding), block 6, tile 3", "due: byte 509 is 00: between the payload and the check", "there: byte 509 is 01"]
+        "refused 8 (padding), block 6, tile 3", "due: byte 509 is 00: between the payload and the check",
+        "there: byte 509 is 01"]
     entry = 512 + 16 + 20 * 2  # of tile 26
     yield "beyond the limits", put(large, entry + 8, struct.pack("<i", 1000001), 1), [
         "refused 9 (box), block 1, of the directory", "due: coordinates from -1000000 to 1000000",
@@ -266,14 +276,16 @@ def damaged(engine):
         "refused 9 (box), block 1, of the directory", "due: no low end above its high end",
         "there: tile 26 has low y 10 and high y 9"]
     yield "too many sites", put(large, entry + 16, small(41), 1), [
-        "refused 9 (box), block 1, of the directory", "due: at most 40 sites in a tile", "there: the count of tile 26 is 41"]
+        "refused 9 (box), block 1, of the directory", "due: at most 40 sites in a tile",
+        "there: the count of tile 26 is 41"]
     yield "stray", put(large, 512 * 6 + 16 + 12 * 2, struct.pack("<i", -1), 6), [
         "refused 10 (stray), block 6, tile 3", "due: all sites inside the box of their tile",
         "there: slot 2 of tile 3: the site at (-1, 2) is outside its box, x 0..9, y 0..9"]
 
 
 def checks(engine):
-    same(run("check", SAMPLE), (0, f"{SAMPLE}: good: 24 tiles, 45 sites, 25 blocks, 1 of them of the directory\n", ""), "check")
+    same(run("check", SAMPLE),
+         (0, f"{SAMPLE}: good: 24 tiles, 45 sites, 25 blocks, 1 of them of the directory\n", ""), "check")
     name, seen = WORK / "damaged.town", set()
     for what, content, (head, *rest) in damaged(engine):
         name.write_bytes(content)
@@ -311,7 +323,7 @@ def drawn_damage(engine, rng):
     holds(all(tally.get(number) for number in range(2, 11)), f"drawn damage meets every refusal of a block: {tally}")
 
 
-# ---- ask --------------------------------------------------------------------------------------------------------------------
+# ---- ask -------------------------------------------------------------------------------------------------------------
 def questions(engine, rng):
     for _ in range(400):
         span, tiles = drawn(rng, most=rng.choice([3, 12, 40]))
@@ -319,12 +331,14 @@ def questions(engine, rng):
         stops = [(rng.randint(-span, span), rng.randint(-span, span)) for _ in range(rng.choice([1, 1, 2, 5, 9]))]
         k = rng.choice([1, 2, 3, 8, 64, rng.randint(1, 64)])
         answer = ask(engine, file, stops, k)
-        same(answer.joined.lists, [full_search(tiles, stop, k) for stop in stops], "the lists are those of a full search")
+        same(answer.joined.lists, [full_search(tiles, stop, k) for stop in stops],
+             "the lists are those of a full search")
         struck, opened = marks(tiles, stops, k)
         same(answer.opened_for, opened, "the tiles opened, and the stop of each")
         same({t for t, mark in enumerate(answer.joined.marks) if mark == 1}, struck, "the tiles struck")
         for box in (rng.choice(tiles).box for _ in range(5)):
-            same((engine.near(stops[0], box), engine.far(stops[0], box)), (near(stops[0], box), far(stops[0], box)), "near and far")
+            same((engine.near(stops[0], box), engine.far(stops[0], box)),
+                 (near(stops[0], box), far(stops[0], box)), "near and far")
 
 
 def asked():
@@ -334,9 +348,10 @@ def asked():
     program = (ROOT / "samples/riverside.answer").read_text().splitlines()
     lines = said.splitlines()
     same(lines[:9], ["k 3, stops 4, O x 1200..5600, y 3000..3200", "tiles 24: opened 12, struck 2, neither 10",
-                     "opened for stop 0: 19, 13, 18, 12", "opened for stop 1: 20, 14", "opened for stop 2: 22, 21, 16, 15",
-                     "opened for stop 3: 23, 17", "struck: 0, 5",
-                     "neither: 1, 2 (empty), 3, 4, 6 (empty), 7, 8, 9 (empty), 10 (empty), 11 (empty)", "stop 0 at 1200,3000:"], "ask")
+                     "opened for stop 0: 19, 13, 18, 12", "opened for stop 1: 20, 14",
+                     "opened for stop 2: 22, 21, 16, 15", "opened for stop 3: 23, 17", "struck: 0, 5",
+                     "neither: 1, 2 (empty), 3, 4, 6 (empty), 7, 8, 9 (empty), 10 (empty), 11 (empty)",
+                     "stop 0 at 1200,3000:"], "ask")
     same(program[0], "tiles 24 opened 12 struck 2", "the program's counts")
     found = []
     for line in lines[8:]:
@@ -348,11 +363,13 @@ def asked():
             same(int(parts[3]), 40 * int(parts[5]) + int(parts[7].rstrip(")")), "tile and slot of a site")
     same([line.rstrip(";") for line in found], program[1:], "ask beside the program")
     empty = WORK / "empty.town"
-    same(run("make", "-", empty, given=b"tile 0 0 1 1\n"), (0, f"{empty}: 1 tile, 0 sites, 1024 bytes\n", ""), "an empty tile")
-    same(run("draw", empty, 2, "5,5", WORK / "empty.html"), (0, f"{WORK}/empty.html: 1 tile, 1 stop, k from 1 to 2\n", ""),
-         "draw of a town without sites")
-    same(run("ask", empty, 2, "-5,7"), (0, "k 2, stops 1, O x -5..-5, y 7..7\ntiles 1: opened 0, struck 0, neither 1\n"
-                                           "opened for stop 0: none\nstruck: none\nneither: 0 (empty)\nstop 0 at -5,7: no site\n", ""),
+    same(run("make", "-", empty, given=b"tile 0 0 1 1\n"), (0, f"{empty}: 1 tile, 0 sites, 1024 bytes\n", ""),
+         "an empty tile")
+    same(run("draw", empty, 2, "5,5", WORK / "empty.html"),
+         (0, f"{WORK}/empty.html: 1 tile, 1 stop, k from 1 to 2\n", ""), "draw of a town without sites")
+    same(run("ask", empty, 2, "-5,7"),
+         (0, "k 2, stops 1, O x -5..-5, y 7..7\ntiles 1: opened 0, struck 0, neither 1\n"
+             "opened for stop 0: none\nstruck: none\nneither: 0 (empty)\nstop 0 at -5,7: no site\n", ""),
          "ask of a town without sites")
 
 
@@ -369,7 +386,8 @@ def refused_questions():
     ]:
         same(run("ask", SAMPLE, *arguments), (1, "", due), f"ask {arguments[:3]}")
         same(run("draw", SAMPLE, *arguments, WORK / "none.html"), (1, "", due), f"draw {arguments[:3]}")
-    same(run("ask", SAMPLE, 3), (1, "", "refused 12 (stops)\n  due: 1 to 256 stops\n  there: there are 0\n"), "ask without a stop")
+    same(run("ask", SAMPLE, 3), (1, "", "refused 12 (stops)\n  due: 1 to 256 stops\n  there: there are 0\n"),
+         "ask without a stop")
     # A tile that is not opened may hold anything; one that is opened may not.
     torn = WORK / "torn.town"
     torn.write_bytes(put(SAMPLE.read_bytes(), 512 * 21, b"\0"))
@@ -386,13 +404,15 @@ def usage():
         holds(status == 0 and said.startswith(f"town {name} "), f"help of {name}")
         holds(max(map(len, said.splitlines())) <= 132, f"help of {name} is not wide")
         same(run(name)[0], 2, f"{name} without arguments")
-    for arguments in ([], ["sing"], ["show", SAMPLE, "more"], ["make", "a"], ["ask", SAMPLE], ["ask", SAMPLE, "x", "1,1"],
-                      ["ask", SAMPLE, "3", "1"], ["ask", SAMPLE, "3", "1,2,3"], ["ask", SAMPLE, "3", "1.5,2"],
-                      ["draw", SAMPLE, "3", "page"], ["draw", SAMPLE, "3", "1;1", "page"], ["draw", SAMPLE, "3", "1,1", "2,-2"]):
+    for arguments in ([], ["sing"], ["show", SAMPLE, "more"], ["make", "a"], ["ask", SAMPLE],
+                      ["ask", SAMPLE, "x", "1,1"], ["ask", SAMPLE, "3", "1"], ["ask", SAMPLE, "3", "1,2,3"],
+                      ["ask", SAMPLE, "3", "1.5,2"], ["draw", SAMPLE, "3", "page"],
+                      ["draw", SAMPLE, "3", "1;1", "page"], ["draw", SAMPLE, "3", "1,1", "2,-2"]):
         status, said, wrong = run(*arguments)
         holds(status == 2 and not said and wrong.startswith("town: "), f"usage: {arguments}: {status} {wrong}")
     none = WORK / "no-such"
-    for name in (["show", none], ["check", none], ["ask", none, 1, "0,0"], ["make", none, none], ["draw", none, 1, "0,0", none]):
+    for name in (["show", none], ["check", none], ["ask", none, 1, "0,0"], ["make", none, none],
+                 ["draw", none, 1, "0,0", none]):
         same(run(*name), (1, "", f"{none}: No such file or directory\n"), f"{name[0]} of a missing file")
     same(run("check", WORK), (1, "", f"{WORK}: Is a directory\n"), "check of a folder")
     same(run("make", "samples/riverside.txt", none / "x")[0], 1, "make into a missing folder")
@@ -427,7 +447,7 @@ def copied(library):
     return tree / "tools/town"
 
 
-# ---- the data of pages ------------------------------------------------------------------------------------------------------
+# ---- the data of pages -----------------------------------------------------------------------------------------------
 def list_after(data, i, m, k):
     """A list as the page decodes it."""
     opened = set(data["queues"][i][0:2 * m:2])
@@ -466,7 +486,8 @@ def pages(engine, rng):
             if k > data["kmax"]:
                 continue
             struck, opened = marks(tiles, stops, k)
-            same(data["marks"][k - 1], "".join("2" if t in opened else "1" if t in struck else "0" for t in range(len(tiles))),
+            same(data["marks"][k - 1],
+                 "".join("2" if t in opened else "1" if t in struck else "0" for t in range(len(tiles))),
                  "the marks of a page")
             for i, stop in enumerate(stops):
                 order = sorted((near(stop, tile.box), t) for t, tile in enumerate(tiles) if tile.sites)
@@ -481,12 +502,14 @@ def pages(engine, rng):
                     last = full_search(so_far, stop, k)
                     same(list_after(data, i, m, k), [place[:2] for place in last], "the list after an opening")
                     ahead = [place for place in last if m < len(order) and (place[0], place[1] // 40) < order[m]]
-                    same(m == end, len(ahead) >= k or m == len(order) or not [key for key in order[m:] if key[1] not in struck],
+                    same(m == end,
+                         len(ahead) >= k or m == len(order) or not [key for key in order[m:] if key[1] not in struck],
                          "a stop ends when k sites are ahead of the next key or no tile waits")
         for e in range(len(tiles)):
             for b in range(len(tiles)):
                 same(data["margins"][e][b], margin(o, tiles[e].box, tiles[b].box), "the margin of a page")
-                same(list(three_points(data, tiles, e, b)), [points_due(o, tiles[e].box, tiles[b].box, axis) for axis in (0, 1)],
+                same(list(three_points(data, tiles, e, b)),
+                     [points_due(o, tiles[e].box, tiles[b].box, axis) for axis in (0, 1)],
                      "the three points of a margin")
         for b, tile in enumerate(tiles):
             nearer = sum(len(e.sites) for e in tiles if margin(o, e.box, tile.box) < 0)

@@ -253,7 +253,8 @@ def numbers_exchanged():
 
 
 def zero_counted():
-    """What a program that counts a margin of 0 does with that town: it has tile 1 struck, and so another list of stop 0."""
+    """What a program that counts a margin of 0 does with that town: it has tile 1 struck, and so another list of stop
+    0."""
     boxes = [BOXES[0], BOXES[3], BOXES[2], BOXES[1], *BOXES[4:]]
     counts = [COUNTS[0], COUNTS[3], COUNTS[2], COUNTS[1], *COUNTS[4:]]
     not_farther = [e for e in ALL if margin(O, boxes[e], boxes[1]) <= 0]
@@ -328,8 +329,8 @@ def sentences():
         f"the next key is ({end_0[0]}, {end_0[1]}), and the places are {' and '.join(map(place, LISTS[0]))}.",
         f"the sites (-3,2) of tile 0 and (3,2) of tile 1 are both at {both_at((0, 0), (-3, 2), (3, 2))}",
         f"the sites (2,1) of tile 1 and (10,3) of tile 2 are both at {both_at((6, 2), (2, 1), (10, 3))}",
-        f"The least D that the site of tile 3 can have from stop 0 is {near_of((0, 0), 3)}, at (-3,-2), and there it ranks"
-        f" behind {place(LISTS[0][1])}. From stop 1 its least D is {near_of((6, 2), 3)}.",
+        f"The least D that the site of tile 3 can have from stop 0 is {near_of((0, 0), 3)}, at (-3,-2), and there it"
+        f" ranks behind {place(LISTS[0][1])}. From stop 1 its least D is {near_of((6, 2), 3)}.",
         f"For the site of tile 4 it is {near_of((0, 0), 4)} from stop 0 and {near_of((6, 2), 4)} from stop 1, for that"
         f" of tile 5 it is {near_of((0, 0), 5)} and {near_of((6, 2), 5)}.",
     ]  # fmt: skip

@@ -250,7 +250,8 @@ pub fn run(rng: &mut Rng, tally: &mut Tally) -> Result<String, Failure> {
     let refused = together(rng, tally)?;
     Ok(format!(
         "{} runs with {} stops against the literal run and the full search ({} tiles opened, {} struck, \
-         {} neither; {} places unused, {} tied with the one before); {} at the ends of k, n and lengths; {} refusals by one fault or several at once",
+         {} neither; {} places unused, {} tied with the one before); {} at the ends of k, n and lengths; \
+         {} refusals by one fault or several at once",
         count(seen.joins),
         count(seen.stops),
         count(seen.opened),
