@@ -31,7 +31,7 @@ loop-holds c =
 stop-at-requires : tie.Need-stop-at-requires Inv-loop μ-loop
 stop-at-requires c κs =
     let s : tie.Start Inv-loop μ-loop = search in
-    (c .loop-test .taken, rw (s .pre .0) (c .loop-test .taken))
+    (omega (arith, c .loop-test .taken), omega (arith, s .pre .0, c .loop-test .taken))
 
 mul-t5 : tie.Need-mul-t5 Inv-loop μ-loop
 mul-t5 c =
