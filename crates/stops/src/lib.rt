@@ -1,4 +1,4 @@
-// The stops of a run: their points, the tests of a call's arguments, and the smallest box around the stops.
+// The stops of a run: the tests of a call's arguments, the smallest box around them, and the stops gathered as points.
 pub mod arguments;
 pub mod around;
 pub mod stop;
