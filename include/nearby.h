@@ -1,16 +1,20 @@
 /* Violetjoist for hosts in C: the k nearest sound sites of each stop, from a town's file.
  *
  * Link with libnearby.a or libnearby.so: `make lib` puts them into target/lib, and after `make install` pkg-config
- * knows them as nearby. Every function here is proved against its definition in crates/host/specs; this header says the
- * same in words, and docs/PROOF.md, "What is assumed", says which of them are proved and which tested or measured.
+ * knows them as nearby. They are for x86-64 Linux. Every function here is proved against a definition (docs/PROOF.md,
+ * "The calls for C"); this header says the same in words, and docs/PROOF.md, "What is assumed", says which of them are
+ * proved and which tested or measured.
  *
  * For all functions:
  * - A slice is a pointer and the number of its elements. The pointer is not NULL, not even for 0 elements, and has that
  *   many elements behind it. Slices that are written do not overlap any other.
  * - Whatever the slices and numbers hold, a call returns, reads and writes nothing outside the slices, keeps no pointer
- *   and allocates nothing. Calls on different slices may run at the same time. A call takes less than 128 KiB of stack.
- * - A file is the blocks of a town, as nearby_write makes them. A coordinate is a whole number of centimetres from
- *   -1,000,000 to 1,000,000. Distances are squared.
+ *   and allocates nothing. Calls may run at the same time, also on the same file, if no slice written by one is used by
+ *   another. A call takes less than 128 KiB of stack.
+ * - A file is the blocks of a town, as nearby_write makes them: of T tiles, first d directory blocks, d = T/24 rounded
+ *   up, then the block of each tile. It is one slice, whole, and must not change during the call. It may be mapped:
+ *   nearby_join reads the directory and the blocks of the tiles that it has to open, nearby_prune the directory alone.
+ * - A coordinate is a whole number of centimetres from -1,000,000 to 1,000,000. Distances are squared.
  */
 #ifndef NEARBY_H
 #define NEARBY_H
@@ -36,7 +40,7 @@ enum {
                             T + d blocks in the file */
     NEARBY_ENTRIES = 7,  /* bytes 4-5; due: in directory block p the smaller of 24 and T - 24 * p; in a tile's block the
                             count that the directory has for the tile */
-    NEARBY_PADDING = 8,  /* a byte that is not 0; due to be 0: each that the format has no use for */
+    NEARBY_PADDING = 8,  /* a byte that the format does not use; due: 0 */
     NEARBY_BOX = 9,      /* an entry of the directory; due: coordinates within the limits, no low end above its high
                             end, at most 40 sites */
     NEARBY_STRAY = 10,   /* a site of the tile; due: inside the box that the directory has for the tile */
@@ -45,16 +49,18 @@ enum {
     NEARBY_STOPS = 12,   /* due: 1 to 256 stops, as many y as x */
     NEARBY_SPOT = 13,    /* a stop; due: both coordinates within the limits */
     NEARBY_SHORT = 14,   /* an output slice; due: as many elements as the function needs, or more */
-    NEARBY_SUPPLY = 15   /* the writer's lists; due: four numbers a tile in boxes, a site for each that counts says */
+    NEARBY_SUPPLY = 15   /* the writer's lists; due: four numbers a tile in boxes, as many x, y and cues as the counts
+                            add up to */
 };
 
 /* Where. With the number goes a block: the position in the file of the block refused, from 0. It is 0 for
- * NEARBY_LENGTH, for NEARBY_K to NEARBY_SUPPLY, for the box of nearby_prune, and for every refusal by nearby_write.
- * A file has d directory blocks, d = T/24 rounded up, then the block of each tile. A refusal does not say T, but the
- * length says d: (file_len / 512 + 24) / 25 in whole numbers. A block below d belongs to the directory: block p has the
- * entries of tiles 24 * p to 24 * p + 23, as far as there are any. Any other block is that of tile block - d. So block
- * 12 is that of tile 11 in a file of 25 blocks, where d is 1, and a directory block in one of 400, where d is 16. The
- * whole directory is tested before a tile is opened: where a tile is refused, T and all boxes and counts are good.
+ * NEARBY_LENGTH, for NEARBY_K to NEARBY_SUPPLY, for the box of nearby_prune, and for every refusal by nearby_write; and
+ * it is 0 when the number is NEARBY_OK.
+ * A refusal does not say T, but the length says d: (file_len / 512 + 24) / 25 in whole numbers. A block below d belongs
+ * to the directory: block p has the entries of tiles 24 * p to 24 * p + 23, as far as there are any. Any other block is
+ * that of tile block - d. So block 12 is that of tile 11 in a file of 25 blocks, where d is 1, and a directory block in
+ * one of 400, where d is 16. The whole directory is tested before a tile is opened: where a tile is refused, T and all
+ * boxes and counts are good.
  *
  * What to do.
  * - The caller's mistake, and the same call would be refused again: NEARBY_K to NEARBY_SUPPLY, NEARBY_BOX for the box
@@ -97,7 +103,7 @@ struct nearby_joined {
     uint32_t block;
     uint32_t used;   /* places used for each stop: the smaller of k and the number of all sites */
     uint32_t tiles;  /* T, the tiles of the file */
-    uint32_t opened; /* tiles whose block was read: as many marks are 2 */
+    uint32_t opened; /* tiles opened, whose block was read and passed its tests: as many marks are 2 */
     uint32_t pruned; /* tiles struck: as many marks are 1 */
 };
 
@@ -106,7 +112,8 @@ struct nearby_joined {
  * marks has a byte for each tile: 2 opened, 1 struck as by nearby_prune for the smallest box around the stops,
  * 0 neither.
  *
- * Needs n * k elements in dist, site and cue, and T in marks. Elements past these never change.
+ * Needs n * k elements in dist, site and cue, where n, the number of stops, is x_len, and T in marks. Elements past
+ * these never change.
  * Refuses, first that applies: NEARBY_LENGTH; of each directory block NEARBY_SYNC to NEARBY_BOX; NEARBY_K,
  * NEARBY_STOPS, NEARBY_SPOT, NEARBY_SHORT: all four slices are as they were. Then, of a tile that had to be opened,
  * NEARBY_SYNC, NEARBY_CHECK, NEARBY_KIND, NEARBY_POSITION, NEARBY_ENTRIES, NEARBY_PADDING, NEARBY_STRAY: the first
