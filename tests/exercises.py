@@ -216,11 +216,18 @@ def margins(engine, document):
         return [str(m), difference(0, box), difference(10, box), str(margin), yes(margin < 0)]
 
     same("the margins of exercise 1", by_m, [row(m) for m in (31, 29, 30)])
-    starts = range(11, 71)
+    starts = range(-20, 71)
     least = min(m for m in starts if engine.margin(o, e, (m, 0, 70, 0)) < 0)
     document.says(heading, f"The least m for which E is nearer is {least}.")
-    gains = [engine.margin((0, 0, 0, 0), e, (m, 0, 70, 0)) - engine.margin((10, 0, 10, 0), e, (m, 0, 70, 0))
-             for m in starts]
+    ends = [[engine.margin((at, 0, at, 0), e, (m, 0, 70, 0)) for at in (0, 10)] for m in starts]
+    gains = [low - high for low, high in ends]
+    for m, found in zip(starts, ends):
+        line = [900 - m * m + 2 * (m - 30) * at for at in (0, 10)]
+        same(f"the formula of exercise 1 for m = {m}", found == line, m >= 10)
+        same(f"below 10, m = {m}", found[0] > 800 and found[1] == 400, m < 10)
+    document.says(heading, "For m of 10 or more, the difference at a point o is (30 - o)² - (m - o)² = 900 - m² +"
+                  " 2 × (m - 30) × o: a straight line in o")
+    document.says(heading, "Below 10, the high end gives 400 and the low end more than 800.")
     equal = starts[gains.index(0)]
     same("the ends of O in exercise 1", [gain > 0 for gain in gains], [m < equal for m in starts])
     document.says(heading, f"Below {equal} the low end gives more, above {equal} the high end, and at {equal} both")
