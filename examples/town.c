@@ -8,9 +8,10 @@
 
 #include <stdarg.h>
 #include <stdio.h>
+#include <stdlib.h>
 #include <string.h>
 
-enum { ALL_SITES = NEARBY_MAX_TILES * NEARBY_MAX_SITES };
+enum { ALL_SITES = NEARBY_MAX_TILES * NEARBY_MAX_SITES, MAX_LINE = 254, TOO_LONG = -1, NONE = -2 };
 
 static int32_t boxes[4 * NEARBY_MAX_TILES];
 static uint32_t counts[NEARBY_MAX_TILES];
@@ -41,51 +42,101 @@ static int fits(long long n) {
     return INT32_MIN <= n && n <= INT32_MAX;
 }
 
-/* Whether nothing but spaces follows. */
-static int ends(const char *rest) {
-    return rest[strspn(rest, " \t\r\n")] == 0;
+/* Reads a line without its end, LF or CR LF. Gives its length, TOO_LONG, or NONE at the end of the text. */
+static int next_line(char *text) {
+    int length = 0, c = getchar();
+    if (c == EOF) {
+        return NONE;
+    }
+    for (; c != EOF && c != '\n'; c = getchar()) {
+        if (length == MAX_LINE) {
+            return TOO_LONG;
+        }
+        text[length++] = (char)c;
+    }
+    if (c == '\n' && length > 0 && text[length - 1] == '\r') {
+        length--;
+    }
+    text[length] = 0;
+    return length;
+}
+
+static const char *past_spaces(const char *at) {
+    return at + strspn(at, " \t");
+}
+
+/* Reads spaces and a number, from *at on. Gives 0 if that is not there, -1 if the number has a minus, else 1. A number
+ * beyond 64 bits becomes the largest or the least of 64 bits, which is beyond 32 bits, too. */
+static int number(const char **at, long long *n) {
+    const char *start = past_spaces(*at), *digits = start + (*start == '-' || *start == '+');
+    size_t length = strspn(digits, "0123456789");
+    if (start == *at || length == 0) {
+        return 0;
+    }
+    *n = strtoll(start, NULL, 10);
+    *at = digits + length;
+    return *start == '-' ? -1 : 1;
+}
+
+/* Reads a word and so many numbers, which are all up to `end`. Gives 0 if that is not there, else what `number` gives
+ * for the last of them. */
+static int reads(const char *at, const char *end, const char *word, int count, long long *n) {
+    int sign = 1;
+    at = past_spaces(at);
+    if (strncmp(at, word, strlen(word)) != 0) {
+        return 0;
+    }
+    at += strlen(word);
+    for (int i = 0; i < count && sign != 0; i++) {
+        sign = number(&at, n + i);
+    }
+    return past_spaces(at) == end ? sign : 0;
 }
 
 int main(void) {
-    char text[256];
+    char text[MAX_LINE + 1];
     size_t tiles = 0, sites = 0;
-    for (int line = 1; fgets(text, sizeof text, stdin); line++) {
-        int whole = strchr(text, '\n') || feof(stdin);
-        text[strcspn(text, "#")] = 0;
-        long long a, b, c, d;
-        int used = 0;
-        if (!whole) {
+    int length, sign;
+    for (int line = 1; (length = next_line(text)) != NONE; line++) {
+        if (length == TOO_LONG) {
             return failed(line, "longer than 254 characters");
         }
-        if (ends(text)) {
+        char *end = memchr(text, '#', (size_t)length);
+        end = end ? end : text + length;
+        *end = 0;
+        long long n[4];
+        if (past_spaces(text) == end) {
             continue;
         }
-        if (sscanf(text, " tile%*[ \t]%lld%*[ \t]%lld%*[ \t]%lld%*[ \t]%lld%n", &a, &b, &c, &d, &used) == 4 &&
-            ends(text + used)) {
+        if (reads(text, end, "tile", 4, n)) {
             if (tiles == NEARBY_MAX_TILES) {
                 return failed(line, "more than 960 tiles");
             }
-            if (!fits(a) || !fits(b) || !fits(c) || !fits(d)) {
+            if (!fits(n[0]) || !fits(n[1]) || !fits(n[2]) || !fits(n[3])) {
                 return failed(line, "a number beyond 32 bits");
             }
             int32_t *box = boxes + 4 * tiles++;
-            box[0] = (int32_t)a, box[1] = (int32_t)b, box[2] = (int32_t)c, box[3] = (int32_t)d;
+            for (int i = 0; i < 4; i++) {
+                box[i] = (int32_t)n[i];
+            }
             if (alone(tiles - 1, 0, 0) == NEARBY_BOX) {
                 return failed(line, "tile %zu: a coordinate beyond 1,000,000, or a low end above its high end",
                               tiles - 1);
             }
-        } else if (sscanf(text, " site%*[ \t]%lld%*[ \t]%lld%*[ \t]%lld%n", &a, &b, &c, &used) == 3 &&
-                   ends(text + used)) {
+        } else if ((sign = reads(text, end, "site", 3, n)) != 0) {
             if (tiles == 0) {
                 return failed(line, "a site before the first tile");
             }
             if (counts[tiles - 1] == NEARBY_MAX_SITES) {
                 return failed(line, "tile %zu: more than 40 sites", tiles - 1);
             }
-            if (!fits(a) || !fits(b) || c < 0 || UINT32_MAX < c) {
+            if (sign < 0) {
+                return failed(line, "a cue with a minus");
+            }
+            if (!fits(n[0]) || !fits(n[1]) || UINT32_MAX < n[2]) {
                 return failed(line, "a number beyond 32 bits");
             }
-            x[sites] = (int32_t)a, y[sites] = (int32_t)b, cues[sites] = (uint32_t)c;
+            x[sites] = (int32_t)n[0], y[sites] = (int32_t)n[1], cues[sites] = (uint32_t)n[2];
             if (alone(tiles - 1, sites, 1) == NEARBY_STRAY) {
                 return failed(line, "tile %zu, slot %u: the site is outside the tile's box", tiles - 1,
                               counts[tiles - 1]);

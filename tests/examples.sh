@@ -33,6 +33,10 @@ with_cr() { sed 's/$/\r/' samples/riverside.txt | "$built/town"; }
 without_end() { printf %s "$(cat samples/riverside.txt)" | "$built/town"; }
 compare samples/riverside.town with_cr
 compare samples/riverside.town without_end
+# Zeros in front, signs, tabs, and anything in a comment.
+lines_to_town 'tile 0 0 1 1\nsite 1 0 7\n' >"$built/plain.town"
+odd="\t tile -$(printf '%0200d' 0) +0\t \t1 01\t#\\0\r\f\xff# tile\r\n#\r\n \t\r\nsite 1 -0 +07 #"
+compare "$built/plain.town" lines_to_town "$odd"
 
 # A standard input that cannot be read is no empty input.
 read_folder() { target/bin/nearby </; }
@@ -95,7 +99,16 @@ fails "line 2: neither a tile nor a site" '# a word and a number in one\ntile5 0
 fails "line 1: neither a tile nor a site" 'tile 0 0 9-1 9 # no space between two numbers\n'
 fails "line 2: neither a tile nor a site" 'tile 0 0 9 9\nsite 1 2+3\n'
 fails "line 1: a number beyond 32 bits" 'tile 0 0 1 4294967296\n'
-fails "line 2: a number beyond 32 bits" 'tile 0 0 1 1\nsite 0 0 -1\n'
+fails "line 2: a number beyond 32 bits" 'tile 0 0 1 1\nsite 0 0 4294967296\n'
+fails "line 1: a number beyond 32 bits" "tile 0 -1$(printf '%050d' 0) 1 1\n"
+fails "line 2: a cue with a minus" 'tile 0 0 1 1\nsite 0 0 -1\n'
+fails "line 2: a cue with a minus" 'tile 0 0 1 1\nsite 0 0 -0\n'
+# What the grammar does not have: other spaces, a CR that ends no line, a byte order mark.
+for text in 'tile\f0 0 1 1\n' 'tile \f0 0 1 1\n' 'tile 0 0 1 1\v\n' 'tile 0 0 1 1\rsite 1 1 1\n' \
+    'tile 0 0 1 1\r\r\n' 'tile 0 0 1 1\r' 'tile 0 0 1 1\0\n' 'tile 0 0 1 1\0' '\xef\xbb\xbf# a town\n' \
+    'tile 0 0 1 +-1\n' 'tile 0 0 1 -\n'; do
+    fails "line 1: neither a tile nor a site" "$text"
+done
 fails "line 1: a site before the first tile" 'site 0 0 1\n'
 fails "line 3: tile 1, slot 0: the site is outside the tile's box" 'tile 0 0 1 1\ntile 0 0 1 1\nsite 2 1 1\n'
 fails "line 4: tile 0, slot 1: the site is outside the tile's box" 'tile 0 0 1 1\n\nsite 1 1 1\nsite 1 -1 1'

@@ -4,12 +4,14 @@
 From the document are taken its grammar, maps, tables, dumps, sums, orders of tests and pieces of C; each is compared
 with the bytes of samples/riverside.town, with what the engine answers, or with examples/reader.c. The reader is built
 with every warning an error, and run on good and on damaged files: its number and block have to be those of
-nearby_validate, and the text that it prints has to give the same file by nearby_write. Failures are printed; the status
+nearby_validate, and the text that it prints has to give the same file by nearby_write. The tool and examples/town.c
+have to take a drawn line of text exactly when it is one of the grammar and of a town. Failures are printed; the status
 is 1 if there is one.
 
 use: format.py
 """
 import itertools
+import random
 import re
 import struct
 import subprocess
@@ -668,6 +670,65 @@ def check_block_12(document, engine, reader):
         expect(f"{blocks} blocks", lengths.get(blocks), None if blocks % 25 == 1 else blocks - d)
 
 
+# The text of a town
+
+# The grammar of part 5, once more: what a line may be.
+SPACE, NUMBER = rb"[ \t]+", rb"[-+]?[0-9]+"
+TILE_LINE = rb"tile" + (SPACE + NUMBER) * 4
+SITE_LINE = rb"site" + (SPACE + NUMBER) * 2 + SPACE + rb"\+?[0-9]+"
+LINE = re.compile(rb"[ \t]*(?:" + TILE_LINE + rb"|" + SITE_LINE + rb")?[ \t]*(?:#.*)?", re.S)
+PIECES = [b"tile", b"site", b" ", b" ", b" ", b"\t", b"0", b"1", b"-0", b"+1", b"-", b"+", b"00", b"0" * 60, b"x", b"#",
+          b"\f", b"\v", b"\r", b"\0", b"\xff", b"\xc2\xa0", b"\xef\xbb\xbf", b"\xd9\xa1"]
+
+
+def drawn_line(rng):
+    """A line of the grammar, mostly with a piece put in, taken out or exchanged."""
+    words = [b"tile", b"0", b"0", b"1", b"1"] if rng.random() < 0.5 else [b"site", b"1", b"0", b"7"]
+    pieces = [b""] + list(itertools.chain(*((word, b" ") for word in words)))
+    for _ in range(rng.choice([0, 1, 1, 2, 3])):
+        at = rng.randrange(len(pieces))
+        pieces[at:at + rng.choice([0, 1])] = [rng.choice(PIECES)] if rng.random() < 0.9 else []
+        pieces = pieces or [b""]
+    return b"".join(pieces)
+
+
+def good_line(line):
+    """Whether a line is one of the grammar, and one of a town if the tile above it has the box 0 0 1 1."""
+    if not LINE.fullmatch(line):
+        return False
+    word, *given = line.partition(b"#")[0].split() or [b""]
+    n = [int(part) for part in given]
+    if word == b"site":
+        return 0 <= n[0] <= 1 and 0 <= n[1] <= 1 and n[2] < 2 ** 32
+    return word == b"" or (-10 ** 6 <= n[0] <= n[2] <= 10 ** 6 and -10 ** 6 <= n[1] <= n[3] <= 10 ** 6)
+
+
+def check_text(document, engine):
+    """The tool and examples/town.c take the lines of the grammar and no others, and make the same file of them."""
+    program = ROOT / "target/examples/town-of-format"
+    flags = ["-std=c11", "-O2", "-Wall", "-Wextra", "-Werror", "-I", ROOT / "include"]
+    sources = ROOT / "examples/town.c", ROOT / "target/lib/libnearby.a"
+    subprocess.run(["gcc", *flags, *sources, "-o", program], check=True)
+    grammar = [line for part, _, lines in document.fences if part.startswith("5.") for line in lines]
+    for rule in (r'tile    = "tile" low-x low-y high-x high-y', r'site    = "site" x y cue',
+                 'low-x, low-y, high-x, high-y, x, y = [ "-" | "+" ] digit { digit }',
+                 'cue                                = [ "+" ] digit { digit }'):
+        expect(f"the grammar has {rule}", sum(line.startswith(rule) for line in grammar), 1)
+    rng, taken = random.Random(6), 0
+    for _ in range(1500):
+        end = rng.choice([b"\n", b"\r\n"])
+        text = b"tile 0 0 1 1" + end + drawn_line(rng) + rng.choice([b"", end])
+        *ended, last = text.split(b"\n")
+        due = all(map(good_line, [line.removesuffix(b"\r") for line in ended] + [last]))
+        file = file_of(engine, text.decode("utf-8", "replace"))
+        ran = subprocess.run([program], input=text, capture_output=True)
+        expect(f"the tool takes {text!r}", bool(file), due)
+        expect(f"examples/town.c takes {text!r}", ran.returncode == 0, due)
+        expect(f"the same file of {text!r}", ran.stdout == file, True)
+        taken += due
+    expect("some lines are taken, some are not", 300 < taken < 1200, True)
+
+
 # The reader
 
 class Reader:
@@ -748,6 +809,7 @@ def main():
     check_orders_of_calls(document, engine)
     check_block_12(document, engine, reader)
     check_reader(document, engine, reader, sample)
+    check_text(document, engine)
     for failure in failures[:20]:
         print("format:", failure)
     if failures:

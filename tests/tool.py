@@ -113,6 +113,13 @@ def texts():
         target.unlink()
         same(run("make", "-", target, given=given.encode())[0], 0, "make of lines with other ends")
         same(target.read_bytes(), SAMPLE.read_bytes(), "lines with other ends give the same file")
+    # Zeros in front, signs, tabs, and anything in a comment.
+    zeros = b"0" * 5000
+    odd = b"\t tile -" + zeros + b" +0\t \t1 " + zeros + b"1\t#\0\r\f\xff\xef\xbb\xbf# tile\r\n"
+    odd += b"#\r\n \t\r\nsite 1 -0 +07 #"
+    same(run("make", "-", target, given=odd)[0], 0, "make of an odd text")
+    same(run("show", target), (0, "# 1 tile, 1 site\ntile 0 0 1 1  # tile 0\nsite 1 0 7  # site 0, slot 0\n", ""),
+         "an odd text as it is meant")
 
 
 def round_trips(engine, rng):
@@ -159,6 +166,27 @@ def faulty(engine):
         (b"tile 0 0 1 1 # \xe2\x80\xa8 one line\r\nsite 5 1 1\r\n",
          ["line 2: tile 0 slot 0: the site at (5, 1) is outside its box, x 0..1, y 0..1"]),
         (b"tile \xff 0 1 1\n", ["line 1: tile 0: LOW_X is `\ufffd`, not a whole number"]),
+        # What the grammar of docs/FORMAT.md does not have: a cue with a minus, other spaces, a CR that ends no line, a
+        # byte order mark.
+        (b"tile 0 0 1 1\nsite 1 1 -0\n", ["line 2: tile 0 slot 0: the cue is -0, not a number from 0 to 4294967295"]),
+        (b"tile 0 0 1 1\ntile\f0 0 1 1\n", ["line 2: `tile\\x0c0` is neither `tile` nor `site`"]),
+        (b"tile 0 0 1\v 1\n", ["line 1: tile 0: HIGH_X is `1\\x0b`, not a whole number"]),
+        (b"tile 0 0 1 1\nsite 1 1\xc2\xa01\n",
+         ["line 2: tile 0 slot 0: `site` takes 3 numbers, X Y CUE; here are 2"]),
+        (b"tile 0 0 1 1\rsite 1 1 1\n",
+         ["line 1: tile 0: `tile` takes 4 numbers, LOW_X LOW_Y HIGH_X HIGH_Y; here are 7"]),
+        (b"tile 0 0 1 1\r\r\n", ["line 1: tile 0: HIGH_Y is `1\\r`, not a whole number"]),
+        (b"tile 0 0 1 1\r", ["line 1: tile 0: HIGH_Y is `1\\r`, not a whole number"]),
+        (b"tile 0 0 1 1\0\n", ["line 1: tile 0: HIGH_Y is `1\\x00`, not a whole number"]),
+        (b"\xef\xbb\xbf# a town\ntile 0 0 1 1\n", ["line 1: `\\ufeff` is neither `tile` nor `site`"]),
+        # Numbers of any length are in it.
+        (b"tile 0 0 1 1" + b"0" * 5000 + b"\n", ["line 1: tile 0: HIGH_Y has 5001 digits, beyond the limits"]),
+        (b"tile 0 0 1 1\nsite 1 1 1" + b"0" * 30 + b"\n",
+         ["line 2: tile 0 slot 0: CUE has 31 digits, beyond the limits"]),
+        (b"tile 0 0 1 -1" + b"0" * 29 + b"\n",
+         [f"line 1: tile 0: high y is -1{'0' * 29}, beyond the limits, -1000000 to 1000000",
+          f"line 1: tile 0: low y 0 is above high y -1{'0' * 29}"]),
+        (b"tile 0 0 1 1\n" + b"#" * 2**24, ["a text has at most 16777216 bytes"]),
     ]
     target = WORK / "none.town"
     for given, due in cases:

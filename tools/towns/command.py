@@ -128,11 +128,13 @@ def _question(arguments):
 
 def make(arguments):
     source, target = arguments
-    content = sys.stdin.buffer.read(MAX_TEXT) if source == "-" else _content(source, MAX_TEXT)
+    given = "standard input" if source == "-" else source
+    content = sys.stdin.buffer.read(MAX_TEXT + 1) if source == "-" else _content(source, MAX_TEXT + 1)
+    if len(content) > MAX_TEXT:
+        raise Wrong(f"{given}: a text has at most {MAX_TEXT} bytes")
     try:
         tiles, file = text.make(Engine(), content.decode("utf-8", "replace"))
     except text.Faulty as faulty:
-        given = "standard input" if source == "-" else source
         lines = [f"{given}: {fault}" for fault in faulty.faults]
         more = [f"{len(lines) - SHOWN} more like these"] if len(lines) > SHOWN else []
         raise Wrong(*lines[:SHOWN], *more) from None

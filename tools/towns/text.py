@@ -2,6 +2,7 @@
 
 A line is `tile LOW_X LOW_Y HIGH_X HIGH_Y`, or `site X Y CUE` for a site of the tile above it, in centimetres; what
 follows a # is left out. Tiles are numbered from 0 in their order, and the sites of a tile from slot 0.
+docs/FORMAT.md, part 5, has the grammar; a line that does not follow it is a fault.
 """
 import re
 from typing import NamedTuple, Optional
@@ -11,7 +12,9 @@ from .town import Tile, number, size
 
 FORMS = {"tile": ("LOW_X", "LOW_Y", "HIGH_X", "HIGH_Y"), "site": ("X", "Y", "CUE")}
 MAX_CUE = 2**32 - 1
-WHOLE = re.compile(r"[+-]?[0-9]{1,30}")
+WHOLE = re.compile(r"[+-]?[0-9]+")
+SPACES = re.compile(r"[ \t]+")
+MOST_DIGITS = 30  # without zeros in front; a number of more is not computed
 
 
 class Fault(NamedTuple):
@@ -43,6 +46,17 @@ class Source(NamedTuple):
     site_lines: list
 
 
+def _shown(part):
+    """A part of a line for a message: cut, and with characters that cannot be seen as escapes."""
+    return "".join(c if c.isprintable() else c.encode("unicode_escape").decode() for c in part[:40])
+
+
+def _whole(part):
+    """The value of a number. (`int` takes no more than 4300 digits, and counts zeros in front.)"""
+    value = int(part.lstrip("+-0") or "0")
+    return -value if part[0] == "-" else value
+
+
 def _numbers(word, given):
     """The numbers after `tile` or `site`, or what is wrong with them."""
     names = FORMS[word]
@@ -50,20 +64,25 @@ def _numbers(word, given):
         return None, f"`{word}` takes {len(names)} numbers, {' '.join(names)}; here are {len(given)}"
     for name, part in zip(names, given):
         if not WHOLE.fullmatch(part):
-            return None, f"{name} is `{part[:40]}`, not a whole number"
-    return [int(part) for part in given], None
+            return None, f"{name} is `{_shown(part)}`, not a whole number"
+        if (digits := len(part.lstrip("+-0"))) > MOST_DIGITS:
+            return None, f"{name} has {digits} digits, beyond the limits"
+        if name == "CUE" and part[0] == "-":
+            return None, f"the cue is {part[:40]}, not a number from 0 to {MAX_CUE}"
+    return [_whole(part) for part in given], None
 
 
 def parse(text):
     """The source, and the faults of lines that cannot be read at all."""
     source, faults = Source([], [], []), []
-    for line, content in enumerate(text.split("\n"), 1):
-        word, *given = content.split("#")[0].split() or [""]
+    *ended, last = text.split("\n")
+    for line, content in enumerate([whole.removesuffix("\r") for whole in ended] + [last], 1):
+        word, *given = SPACES.split(content.split("#")[0].strip(" \t"))
         if not word:
             continue
         here = len(source.tiles) - 1 if word == "site" and source.tiles else None
         if word not in FORMS:
-            faults.append(Fault(line, None, None, f"`{word[:40]}` is neither `tile` nor `site`"))
+            faults.append(Fault(line, None, None, f"`{_shown(word)}` is neither `tile` nor `site`"))
             continue
         numbers, wrong = _numbers(word, given)
         if word == "tile":
