@@ -20,6 +20,7 @@ use places::tile::Target;
 use places::tile::add_tile;
 use plan::measure::NONE;
 use plan::region::Stop;
+use plan::region::stop_in;
 use queue::gather::gather;
 use queue::keys::fill_keys;
 use queue::keys::next_key;
@@ -141,7 +142,7 @@ fn serve_all(
     let mut at: usize = 0;
     let mut used: usize = 0;
     while i < stops.len() {
-        let stop = stops[i];
+        let stop = stop_in(stops, i);
         let target = Target { stop, at, k };
         let answer = serve_stop(f, h, &order[..m], target, &mut keys, dist, site, cue, marks);
         let Serving::Served(n) = answer else {

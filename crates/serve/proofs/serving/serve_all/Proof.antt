@@ -63,11 +63,13 @@ few-gathered g =
     let s = start g in
     omega (arith, waiting-gathered g .0, tiles-few (s .args .f .now) (s .args .h) (s .pre .dir))
 
-mul-stop : tie.Need-mul-stop Inv-loop μ-loop
-mul-stop c = search needs
-
-shared-slice-copy-out-stop : tie.Need-shared-slice-copy-out-stop Inv-loop μ-loop
-shared-slice-copy-out-stop c = search needs
+stop-in-requires : tie.Need-stop-in-requires Inv-loop μ-loop
+stop-in-requires c κs =
+    let b : tie.In-loop Inv-loop μ-loop = search in
+    let l : tie.At-loop Inv-loop μ-loop = search in
+    let s = start (gathering l) in
+    let below = b .loop-test .taken in
+    (below, all-getD ValidStop (s .args .stops .now) (l .loop .i) [] below (s .pre .valid))
 
 array-share-prefix-order : tie.Need-array-share-prefix-order Inv-loop μ-loop
 array-share-prefix-order c =
@@ -91,6 +93,7 @@ slice-aggregate-serve-stop-2 c = search needs
 serve-stop-requires : tie.Need-serve-stop-requires Inv-loop μ-loop
 serve-stop-requires c κs =
     let b : tie.In-loop Inv-loop μ-loop = search in
+    let p : tie.After-stop-in Inv-loop μ-loop = search in
     let l : tie.At-loop Inv-loop μ-loop = search in
     let g = gathering l in
     let s = start g in
@@ -102,7 +105,8 @@ serve-stop-requires c κs =
       dir = s .pre .dir;
       tiles = rw (w .1) (waiting-tiles waits′ (s .args .h .tiles));
       rise = rw (w .1) (waiting-rise waits′ (s .args .h .tiles));
-      stop = all-getD ValidStop (a .stops .now) (l .loop .i) [] (b .loop-test .taken) (s .pre .valid);
+      stop = rw (p .stop-in .ensures)
+          (all-getD ValidStop (a .stops .now) (l .loop .i) [] (b .loop-test .taken) (s .pre .valid));
       list = turn-ready t (b .loop-test .taken) (s .pre .some) (s .pre .long);
       room =
           omega (arith, few-gathered g, l .loop .inv .0, length-take (g .gather .result) (g .gather .last .1 .1 .1 .0));
@@ -145,11 +149,12 @@ served : (x : tie.After-serve-stop Inv-loop μ-loop) →
     (lent (x .serve-stop .last .1 .1 .1 .1 .1 .0) (x .serve-stop .last .1 .1 .1 .1 .1 .1 .0)
     (x .serve-stop .last .1 .1 .1 .1 .1 .1 .1 .0) (x .serve-stop .last .1 .1 .1 .1 .1 .1 .1 .1 .0))
 served x =
-    let l = head (turned x) in
-    let g = gathering l in
+    let p : tie.After-stop-in Inv-loop μ-loop = search in
+    let g = gathering (head (turned x)) in
     let a = start g .args in
-    let stop = getD (a .stops .now) (l .loop .i) [] in
-    let same = ap (λ order. walkOf (a .f .now) (a .h) order stop (a .k)) (waiting-gathered g .1) in
+    let tiles = waiting (a .f .now) (a .h) (a .marks .now) in
+    let same = ap (λ order. walkOf (a .f .now) (a .h) order (p .stop-in .result) (a .k)) (waiting-gathered g .1)
+    ∙ ap (λ stop. walkOf (a .f .now) (a .h) tiles stop (a .k)) (p .stop-in .ensures) in
     rw same at (x .serve-stop .ensures)
 
 returns : tie.Need-returns Inv-loop μ-loop
@@ -205,7 +210,7 @@ returns-2 c =
     turn-ends (l .loop .inv .1) (omega (arith, c .loop-test .left))
 
 pub serve-all-spec : {M : Type 1} → statement M
-serve-all-spec = tie.close (tie.spec Inv-loop μ-loop slice-aggregate-gather gather-requires loop-holds mul-stop
-    shared-slice-copy-out-stop array-share-prefix-order slice-aggregate-serve-stop slice-aggregate-serve-stop-2 serve-stop-requires
+serve-all-spec = tie.close (tie.spec Inv-loop μ-loop slice-aggregate-gather gather-requires loop-holds
+    stop-in-requires array-share-prefix-order slice-aggregate-serve-stop slice-aggregate-serve-stop-2 serve-stop-requires
     enum-known-answer enum-told same-length same-length-2 same-length-3 same-length-4 returns add-i add-at loop-less
     loop-again same-length-5 same-length-6 same-length-7 same-length-8 returns-2)
