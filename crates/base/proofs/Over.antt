@@ -34,7 +34,8 @@ pub over-nil : {A : Type 0} (l : List A) (i : ℕ) → over l i [] ≡ l
 unfolding over
 over-nil l i = refl
 
-pub over-cons : {A : Type 0} (l : List A) (i : ℕ) (v : A) (vs : List A) → over l i (v ∷ vs) ≡ over (set l i v) (suc i) vs
+pub over-cons : {A : Type 0} (l : List A) (i : ℕ) (v : A) (vs : List A)
+    → over l i (v ∷ vs) ≡ over (set l i v) (suc i) vs
 unfolding over
 over-cons l i v vs = refl
 

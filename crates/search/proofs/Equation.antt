@@ -187,7 +187,8 @@ module _ {G : Geometry} (E : Directory G) (O : G .Box) (k : ℕ) where
         let l : enough E k p t (placesOf G p g pre) ≡ false = sym (same-enough p home pre t ts u e o h) ∙ n in
         let ih = serve-walk s home (pre ++ t ∷ []) (step pre t ts (queue E O k p) e) o (more-passed t pre u h m) in
         let f = a .0 in
-        rw (walk-opens (enough E k p) (foundAdds E k p) read t ts (placesOf G p g pre) f l (a .1), grown p pre t f (a .1))
+        let opens = walk-opens (enough E k p) (foundAdds E k p) read t ts (placesOf G p g pre) f l (a .1) in
+        rw (opens, grown p pre t f (a .1))
         (record { outcome = ih .outcome; openings = rw m (ih .openings) })
     serve-walk {p} (opens {t = t} {ts = ts} {opened = u} {f = f} n m a s) home pre e o h =
         let l : enough E k p t (placesOf G p g pre) ≡ false = sym (same-enough p home pre t ts u e o h) ∙ n in

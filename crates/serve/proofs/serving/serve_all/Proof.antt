@@ -210,7 +210,7 @@ returns-2 c =
     turn-ends (l .loop .inv .1) (omega (arith, c .loop-test .left))
 
 pub serve-all-spec : {M : Type 1} → statement M
-serve-all-spec = tie.close (tie.spec Inv-loop μ-loop slice-aggregate-gather gather-requires loop-holds
-    stop-in-requires array-share-prefix-order slice-aggregate-serve-stop slice-aggregate-serve-stop-2 serve-stop-requires
+serve-all-spec = tie.close (tie.spec Inv-loop μ-loop slice-aggregate-gather gather-requires loop-holds stop-in-requires
+    array-share-prefix-order slice-aggregate-serve-stop slice-aggregate-serve-stop-2 serve-stop-requires
     enum-known-answer enum-told same-length same-length-2 same-length-3 same-length-4 returns add-i add-at loop-less
     loop-again same-length-5 same-length-6 same-length-7 same-length-8 returns-2)
