@@ -1,5 +1,4 @@
 pub mod Running
 pub mod Calling
-pub mod Alike
-pub mod Past
+pub mod Writes
 pub mod Theorems

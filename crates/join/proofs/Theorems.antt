@@ -56,11 +56,11 @@ use Rattle.tiles.proofs.Theorems.{opening-refused, validate-exactly}
 use Rattle.join.specs.Claims.{fullRunFor, SameAnswer, RefusedRun, PrunesAlike, opened, left, Agreeing, Demand2}
 use Rattle.join.specs.Claims.{Demand3, UnlikeStruck, PastStays}
 use Rattle.join.specs.Inner.Running.{RunReady}
-use Rattle.join.specs.Join.{Result, End, runFor, lengthsOf, tests, filled, ended, runEnd, joinFrom, joinEnd}
-use Rattle.join.proofs.Alike.{outcome-alike, answer-alike}
+use Rattle.join.specs.Join.{Result, End, runFor, lengthsOf, tests, filled, resultOf, ended, runEnd, joinFrom}
+use Rattle.join.specs.Join.{joinEnd}
 use Rattle.join.proofs.Calling.{tests-pass, run-ready}
-use Rattle.join.proofs.Past.{past}
 use Rattle.join.proofs.Running.{smallest, lawful}
+use Rattle.join.proofs.Writes.{past, outcome-alike, answer-alike}
 
 first-stop : (P : List ℤ → Type 0) (ps : List (List ℤ)) → 0 < length ps → All P ps → (p : List ℤ) × P p
 first-stop P [] h a = absurd (omega arith)
@@ -190,12 +190,7 @@ module _ (f : List ℕ) (cols : List (List ℤ)) (k : ℕ) (out : Slices) where
     dir : directory f ≡ accepted h
     ls : List (List Place)
     lists : runFor f h cols k .outcome ≡ accepted ls
-    result : r ≡ record {
-      used = placesUsed (entries f h) k;
-      tiles = h .tiles;
-      opened = length (runFor f h cols k .openings);
-      pruned = prunedCount (entries f h) (around cols) k;
-    }
+    result : r ≡ resultOf f h cols k (runFor f h cols k .openings)
     slices-are : joinEnd f cols k out .slices
         ≡ filled (inRows k ls) (marks (entries f h) (around cols) k (runFor f h cols k .openings)) out
 
@@ -412,12 +407,7 @@ module _ (f : List ℕ) (cols : List (List ℤ)) (k : ℕ) (out : Slices) where
     demand-2-places b h v a =
         let good = validate-exactly f h .0 v in
         let d = directory-exactly f h .1 (good .directory) in
-        let r : Result = record {
-          used = placesUsed (entries f h) k;
-          tiles = h .tiles;
-          opened = length (runFor f h cols k .openings);
-          pruned = prunedCount (entries f h) (around cols) k;
-        } in
+        let r = resultOf f h cols k (runFor f h cols k .openings) in
         let e : joinEnd f cols k out .outcome ≡ accepted r = ap (λ (z : End). z .outcome) (demand-2 b h v a) in
         let own : Agreeing f cols k out h (townOf f h) = record {
           directory = good-agrees f h good b;

@@ -1,10 +1,11 @@
 -- Document 01, "The join": what the call comes to, and what it leaves in the four slices.
 --
---   Result, joinOutcome    what the answer carries
---   runFor                 the run of the search on a file
---   tests                  tests 1 to 14
---   filled, ended, runEnd  the end of a run
---   End, joinEnd           what the call comes to, and the slices at its end
+--   Result, joinOutcome      what the answer carries
+--   runFor                   the run of the search on a file
+--   tests                    tests 1 to 14
+--   filled, resultOf         what a run writes, and its result
+--   ended, runEnd            the end of a run
+--   End, joinEnd             what the call comes to, and the slices at its end
 use Prim.Native.Nat.{ℕ, _*_}
 use mathlib.Core.List.{List}
 use lib.IntN.{ℤ}
@@ -65,16 +66,20 @@ tests f cols k out =
 unfoldable pub filled : List Place → List ℕ → Slices → Slices
 filled l m out = record { lists = lay (out .lists) 0 l; marks = over (out .marks) 0 m }
 
+-- the result of a run with these openings
+abbrev pub resultOf : List ℕ → Header → List (List ℤ) → ℕ → List ℕ → Result
+resultOf f h cols k opened = record {
+  used = placesUsed (entries f h) k;
+  tiles = h .tiles;
+  opened = length opened;
+  pruned = prunedCount (entries f h) (around cols) k;
+}
+
 -- the end of a run: its lists, marks and counts, or its refusal. "A refusal by an opening, the first included, leaves
 -- the first n × k places and T marks zero"
 unfoldable pub ended : List ℕ → Header → List (List ℤ) → ℕ → List ℕ → Slices → Outcome (List (List Place)) → End
 ended f h cols k opened out (accepted ls) = record {
-  outcome = accepted (record {
-    used = placesUsed (entries f h) k;
-    tiles = h .tiles;
-    opened = length opened;
-    pruned = prunedCount (entries f h) (around cols) k;
-  });
+  outcome = accepted (resultOf f h cols k opened);
   slices = filled (inRows k ls) (marks (entries f h) (around cols) k opened) out;
 }
 ended f h cols k opened out (refused number block) =
