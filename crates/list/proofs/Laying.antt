@@ -148,17 +148,28 @@ put-lay o i n a y e =
         ≡ over (set l n (show y)) i (map show a)
     later show l = let m = length-map a show in set-over l i n (show y) (map show a) (omega arith)
 
+-- no slice gets longer or shorter
+pub record SameLengths (o o′ : Lists) : Type 0 where
+  pub dist : length (o .dist) ≡ length (o′ .dist)
+  pub site : length (o .site) ≡ length (o′ .site)
+  pub cue : length (o .cue) ≡ length (o′ .cue)
+
+pub same-lengths : (o : Lists) → SameLengths o o
+same-lengths o = record { dist = refl; site = refl; cue = refl }
+
 module _ (o : Lists) (at : ℕ) (l : List Place) where
-  pub lay-lengths : (length (lay o at l .dist) ≡ length (o .dist))
-      × ((length (lay o at l .site) ≡ length (o .site)) × (length (lay o at l .cue) ≡ length (o .cue)))
+  pub lay-lengths : {o′ : Lists} → SameLengths o o′ → SameLengths (lay o at l) o′
   unfolding lay
-  lay-lengths = (
-    length-over (o .dist) at (dists l),
-    (length-over (o .site) at (sites l), length-over (o .cue) at (cues l)),
-  )
+  lay-lengths s = record {
+    dist = length-over (o .dist) at (dists l) ∙ s .dist;
+    site = length-over (o .site) at (sites l) ∙ s .site;
+    cue = length-over (o .cue) at (cues l) ∙ s .cue;
+  }
 
   pub lay-long : (m : ℕ) → Long o m → Long (lay o at l) m
-  lay-long m h = let n = lay-lengths in (omega arith, (omega arith, omega arith))
+  lay-long m h =
+      let s = lay-lengths (same-lengths o) in
+      (omega (arith, s .dist), (omega (arith, s .site), omega (arith, s .cue)))
 
   pub lay-place : Long o (at + length l) → (i : ℕ) → i < length l → placeAt (lay o at l) (at + i) ≡ getD l i noPlace
   unfolding lay

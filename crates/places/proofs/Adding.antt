@@ -20,7 +20,7 @@ use Rattle.search.specs.declared.Place.{Place}
 use Rattle.base.proofs.Tests.{by-test}
 use Rattle.list.proofs.Added.{added-list, added-ready, added-laid}
 use Rattle.list.proofs.Full.{put-none}
-use Rattle.list.proofs.Laying.{places-length, lay-self, lay-lengths}
+use Rattle.list.proofs.Laying.{places-length, lay-self, SameLengths, same-lengths, lay-lengths}
 use Rattle.search.proofs.Pairs.{lex-less}
 use Rattle.places.specs.Inner.Adding.{Farther, Skipped}
 use Rattle.places.specs.declared.tile.Target.{Target}
@@ -62,14 +62,8 @@ module _ (s : List ℕ) (n first : ℕ) (target : Target) where
 
 module _ {s : List ℕ} {n first : ℕ} {target : Target} {o₀ : Lists} {used : ℕ} {o : Lists} {m slot : ℕ}
     (a : Adding s n first target o₀ used o m slot) where
-  pub adding-lengths : (length (o .dist) ≡ length (o₀ .dist))
-      × ((length (o .site) ≡ length (o₀ .site)) × (length (o .cue) ≡ length (o₀ .cue)))
-  adding-lengths =
-      let l = lay-lengths o₀ (target .at) (places o (target .at) m) in
-      let e = a .laid in (
-        ap (λ z. length (z .dist)) e ∙ l .0,
-        (ap (λ z. length (z .site)) e ∙ l .1 .0, ap (λ z. length (z .cue)) e ∙ l .1 .1),
-      )
+  pub adding-lengths : SameLengths o o₀
+  adding-lengths = rw (a .laid) (lay-lengths o₀ (target .at) (places o (target .at) m) (same-lengths o₀))
 
   pub adding-turn : slot < n → (x : Place) → x ≡ sitePlace (target .stop) (first + slot) (siteIn s slot)
       → {r : ℕ} {o′ : Lists} → Adds o (target .at) m (target .k) (x ∷ []) r o′

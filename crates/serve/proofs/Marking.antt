@@ -18,6 +18,7 @@ use Rattle.base.proofs.Over.{length-over, getD-after}
 use Rattle.base.proofs.Tests.{by-test}
 use Rattle.plan.proofs.Tables.{filled-at, table-length}
 use Rattle.search.proofs.Equation.{withNew, withNew-member}
+use Rattle.search.proofs.Lists.{all-map}
 use Rattle.serve.specs.Inner.Marks.{markAll}
 
 pub length-mark-all : (ms ts : List ℕ) → length (markAll ms ts) ≡ length ms
@@ -35,16 +36,12 @@ mark-all-at : (ms ts : List ℕ) → All (λ t. t < length ms) ts → (i : ℕ)
 unfolding markAll member
 mark-all-at ms [] h i = refl
 mark-all-at ms (t ∷ ts) h i =
-    mark-all-at (set ms t 2) ts (longer ts (h .1)) i
+    mark-all-at (set ms t 2) ts (all-map ts (λ u a. let n = length-set ms t 2 in omega (arith, a)) (h .1)) i
     ∙ by-test (eqb i t)
     (λ e. let q = eqb-true i t e in
     rw (e, q, getD-set-same ms t 2 0 (h .0)) (same (member t ts)))
     (λ e. rw (e, getD-set-other ms t i 2 0 (eqb-false i t e)))
   where
-    longer : (l : List ℕ) → All (λ u. u < length ms) l → All (λ u. u < length (set ms t 2)) l
-    longer [] a = tt
-    longer (u ∷ l) a = let n = length-set ms t 2 in (omega (arith, a .0), longer l (a .1))
-
     same : (b : Bool) → _≡_ {A = ℕ} (cond b 2 2) 2
     same true = refl
     same false = refl
@@ -63,17 +60,14 @@ module _ {G : Geometry} (E : Directory G) (O : G .Box) (k : ℕ) (asked : List �
       ext-getD 0 (markAll ms asked) (over m 0 (map (mark E O k (withNew [] asked)) (range 0 (E .tiles))))
       (length-mark-all ms asked ∙ length-over m 0 pruning
       ∙ sym (length-over m 0 (map (mark E O k (withNew [] asked)) (range 0 (E .tiles)))))
-      (λ i l. mark-all-at ms asked (wider asked a) i ∙ go i (decLt i (E .tiles)))
+      (λ i l. mark-all-at ms asked (all-map asked (λ t b. let n = length-over m 0 pruning in omega (arith, b)) a) i
+      ∙ go i (decLt i (E .tiles)))
     where
       pruning : List ℕ
       pruning = map (λ t. bit (pruned E O k t)) (range 0 (E .tiles))
 
       ms : List ℕ
       ms = over m 0 pruning
-
-      wider : (l : List ℕ) → All (λ t. t < E .tiles) l → All (λ t. t < length ms) l
-      wider [] a = tt
-      wider (t ∷ l) a = let n = length-over m 0 pruning in (omega (arith, a .0), wider l (a .1))
 
       outside : (i : ℕ) → E .tiles ≤ i → (l : List ℕ) → All (λ t. t < E .tiles) l → member i l ≡ false
       outside i b [] a = refl

@@ -1,5 +1,5 @@
 -- The loop over the stops: what holds at each turn, and how it starts, goes on and ends.
-use Prim.Native.Nat.{ℕ, suc, _+_, _*_, _-_, _<_, _≤_}
+use Prim.Native.Nat.{ℕ, suc, _+_, _*_, _<_, _≤_}
 use mathlib.Core.List.{List, [], _∷_, _++_}
 use mathlib.Core.Path.{_≡_, refl, sym, ap, _∙_}
 use native.Mathlib.Nat.{suc-mul, mul-le-mul-right}
@@ -19,7 +19,7 @@ use Rattle.search.specs.Inner.Walk.{Trace, cutWalks}
 use Rattle.search.specs.Run.{noPlace, noMark, inOrder, inRows}
 use Rattle.search.specs.declared.Place.{Place}
 use Rattle.base.proofs.Outcomes.{andThen-accepted, andThen-refused, accepted-injective, accepted-refused}
-use Rattle.list.proofs.Laying.{lay-nil, lay-under, lay-lengths}
+use Rattle.list.proofs.Laying.{lay-nil, lay-under, SameLengths, same-lengths, lay-lengths}
 use Rattle.list.proofs.Padding.{Clear, clear-kept, stop-laid}
 use Rattle.search.proofs.Walk.{walks-none, walks-refused, walks-next}
 use Rattle.serve.specs.Inner.Marks.{markAll, OpenedOpen}
@@ -47,10 +47,8 @@ module _ (f : List ℕ) (h : Header) (order : List ℕ) (ps : List (List ℤ)) (
   pub record StopTurn (o : Slices) (i at used : ℕ) : Type 0 where
     pub bound : i ≤ length ps
     pub place : at ≡ i * k
-    pub d : length (o .lists .dist) ≡ length (o₀ .lists .dist)
-    pub s : length (o .lists .site) ≡ length (o₀ .lists .site)
-    pub c : length (o .lists .cue) ≡ length (o₀ .lists .cue)
-    pub m : length (o .marks) ≡ length (o₀ .marks)
+    pub lengths : SameLengths (o .lists) (o₀ .lists)
+    pub long : length (o .marks) ≡ length (o₀ .marks)
     pub clear : Clear (o .lists) at allPlaces
     pub opens : OpenedOpen f h (o .marks)
     pub fine : (ls : List (List Place)) → rest i .out ≡ accepted ls → Ends o at used ls
@@ -62,10 +60,8 @@ module _ (f : List ℕ) (h : Header) (order : List ℕ) (ps : List (List ℤ)) (
   turn-starts clear opens = record {
     bound = omega arith;
     place = omega arith;
-    d = refl;
-    s = refl;
-    c = refl;
-    m = refl;
+    lengths = same-lengths (o₀ .lists);
+    long = refl;
     clear = clear;
     opens = opens;
     fine = λ ls e. record { all = ls; out = e; laid = refl; last = refl };
@@ -135,8 +131,8 @@ module _ {f : List ℕ} {h : Header} {order : List ℕ} {ps : List (List ℤ)} {
           some = some;
           few = omega arith;
           long = (
-            omega (arith, turn .d, long .0),
-            (omega (arith, turn .s, long .1 .0), omega (arith, turn .c, long .1 .1)),
+            omega (arith, turn .lengths .dist, long .0),
+            (omega (arith, turn .lengths .site, long .1 .0), omega (arith, turn .lengths .cue, long .1 .1)),
           );
           sorted = tt;
         }
@@ -210,7 +206,6 @@ module _ {f : List ℕ} {h : Header} {order : List ℕ} {ps : List (List ℤ)} {
 
         pub turn-next : StopTurn f h order ps k o₀ o′ (i + 1) (at + k) n
         turn-next =
-            let q = lay-lengths (o .lists) at list in
             let u = suc-mul i k in
             let v : (i + 1) * k ≡ suc i * k = ap (λ (j : ℕ). j * k) (add-one i) in
             let w = fits in
@@ -218,10 +213,8 @@ module _ {f : List ℕ} {h : Header} {order : List ℕ} {ps : List (List ℤ)} {
             record {
               bound = omega arith;
               place = omega (arith, turn .place);
-              d = ap (λ z. length (z .dist)) lists-are ∙ q .0 ∙ turn .d;
-              s = ap (λ z. length (z .site)) lists-are ∙ q .1 .0 ∙ turn .s;
-              c = ap (λ z. length (z .cue)) lists-are ∙ q .1 .1 ∙ turn .c;
-              m = ap length marks-are ∙ length-mark-all (o .marks) (stop .asked) ∙ turn .m;
+              lengths = rw lists-are (lay-lengths (o .lists) at list (turn .lengths));
+              long = ap length marks-are ∙ length-mark-all (o .marks) (stop .asked) ∙ turn .long;
               clear = rw lists-are
                   (clear-kept (o .lists) at list at (at + k) N (omega arith) (omega arith) (turn .clear));
               opens = x .opens list came;

@@ -28,7 +28,7 @@ use Rattle.base.proofs.Outcomes.{accepted-injective, accepted-refused}
 use Rattle.base.proofs.Over.{over-set}
 use Rattle.base.proofs.Tests.{by-test}
 use Rattle.list.proofs.Added.{added-list, added-ready, added-laid}
-use Rattle.list.proofs.Laying.{places-length, lay-self, lay-under}
+use Rattle.list.proofs.Laying.{places-length, lay-self, lay-under, SameLengths, same-lengths, lay-lengths}
 use Rattle.plan.proofs.Theorems.{opens-own-town}
 use Rattle.queue.proofs.Scanning.{least-here}
 use Rattle.queue.proofs.Waiting.{Keyed, living, living-none, living-next, keyed-next}
@@ -54,6 +54,7 @@ module _ (f : List ℕ) (h : Header) (order : List ℕ) (g : Target) (o₀ : Sli
     pub laid : o .lists ≡ lay (o₀ .lists) (g .at) (found o used)
     pub keyed : Keyed (entries f h) (g .stop) order keys
     pub opens : OpenedOpen f h (o .marks)
+    pub lengths : SameLengths (o .lists) (o₀ .lists)
     pub long : length (o .marks) ≡ length (o₀ .marks)
     pub out : whole .out ≡ rest keys (found o used) .out
     pub asked : markAll (o₀ .marks) (whole .asked) ≡ markAll (o .marks) (rest keys (found o used) .asked)
@@ -71,6 +72,7 @@ module _ (f : List ℕ) (h : Header) (order : List ℕ) (g : Target) (o₀ : Sli
         laid = sym (lay-self (o₀ .lists) (g .at) 0);
         keyed = keyed;
         opens = opens;
+        lengths = same-lengths (o₀ .lists);
         long = refl;
         out = ap (λ z. z .out) (sym w);
         asked = ap (λ z. markAll (o₀ .marks) (z .asked)) (sym w);
@@ -209,6 +211,7 @@ module _ {f : List ℕ} {h : Header} {order : List ℕ} {g : Target} {o₀ : Sli
                 laid = added-laid (turn .ready) added (o₀ .lists) (turn .laid);
                 keyed = keyed-next (turn .keyed) r s below;
                 opens = opens-next;
+                lengths = lay-lengths (o .lists) (g .at) (withSites tile g used l (o .lists)) (turn .lengths);
                 long = length-set (o .marks) tile openedMark ∙ turn .long;
                 out = turn .out ∙ ap (λ w. w .out) walk-is;
                 asked = turn .asked ∙ ap (λ w. markAll (o .marks) (w .asked)) walk-is;

@@ -63,13 +63,13 @@ loop-again c =
     (c .next-slot2 .ensures)
 
 same-length : tie.Need-same-length Inv-loop μ-loop
-same-length c = adding-lengths (c .before .loop .inv) .0
+same-length c = adding-lengths (c .before .loop .inv) .dist
 
 same-length-2 : tie.Need-same-length-2 Inv-loop μ-loop
-same-length-2 c = adding-lengths (c .before .loop .inv) .1 .0
+same-length-2 c = adding-lengths (c .before .loop .inv) .site
 
 same-length-3 : tie.Need-same-length-3 Inv-loop μ-loop
-same-length-3 c = adding-lengths (c .before .loop .inv) .1 .1
+same-length-3 c = adding-lengths (c .before .loop .inv) .cue
 
 returns : tie.Need-returns Inv-loop μ-loop
 returns c = adding-done (c .before .loop .inv) (c .loop-test .left)

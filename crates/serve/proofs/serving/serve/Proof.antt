@@ -65,22 +65,6 @@ returns-2 c =
     record { outcome = served .outcome; left = left-served (rw (e .enum-told .given .1) at served) }
 
 pub serve-spec : {M : Type 1} → statement M
-serve-spec =
-    tie.close
-    (tie.spec
-    serve-all-requires
-    enum-told
-    enum-told-2
-    mul-clear-places
-    clear-places-requires
-    clear8-requires
-    same-length
-    same-length-2
-    same-length-3
-    same-length-4
-    returns
-    same-length-5
-    same-length-6
-    same-length-7
-    same-length-8
-    returns-2)
+serve-spec = tie.close (tie.spec serve-all-requires enum-told enum-told-2 mul-clear-places clear-places-requires
+    clear8-requires same-length same-length-2 same-length-3 same-length-4 returns same-length-5 same-length-6
+    same-length-7 same-length-8 returns-2)

@@ -110,7 +110,7 @@ serve-stop-requires c κs =
       list = turn-ready t (b .loop-test .taken) (s .pre .some) (s .pre .long);
       room =
           omega (arith, few-gathered g, l .loop .inv .0, length-take (g .gather .result) (g .gather .last .1 .1 .1 .0));
-      marks = omega (arith, s .pre .marks, t .m);
+      marks = omega (arith, s .pre .marks, t .long);
       opens = t .opens;
     }
 

@@ -5,12 +5,11 @@ use native.Mathlib.Omega.{arith}
 use lib.ListN.{length, length-set, getD}
 use borrow.Author.Needs.{needs}
 use Rattle.list.specs.Inner.Keeping.{places}
-use Rattle.list.specs.Lists.{Lists, lists, lent}
+use Rattle.list.specs.Lists.{lists, lent}
 use Rattle.plan.specs.FilePlan.{openingOf}
 use Rattle.queue.specs.Inner.Keys.{none, Passed}
 use Rattle.search.specs.Inner.Cut.{lastAhead}
 use Rattle.base.proofs.Outcomes.{accepted-injective, andThen-accepted, andThen-refused, told}
-use Rattle.list.proofs.Laying.{lay-lengths}
 use Rattle.plan.proofs.Measures.{tiles-few}
 use Rattle.queue.proofs.Scanning.{passed-none, passed-next}
 use Rattle.queue.proofs.Waiting.{living, keyed-start, living-start, living-fewer, index-at, tile-at}
@@ -40,25 +39,6 @@ fill-keys-requires c κs =
 -- at the loop's head no slice has got longer or shorter
 abbrev start : tie.At-loop Inv-loop μ-loop → tie.Start Inv-loop μ-loop
 start l = search
-
-lengths : (l : tie.At-loop Inv-loop μ-loop) →
-    (length (l .loop .dist) ≡ length (start l .args .dist .now))
-    × (length (l .loop .site) ≡ length (start l .args .site .now))
-    × (length (l .loop .cue) ≡ length (start l .args .cue .now))
-    × (length (l .loop .marks) ≡ length (start l .args .marks .now))
-    × (length (l .loop .keys) ≡ length (start l .args .keys .now))
-lengths l =
-    let k : tie.After-fill-keys Inv-loop μ-loop = search in
-    let a = start l .args in
-    let t = l .loop .inv .1 in
-    let found = places (lists (l .loop .dist) (l .loop .site) (l .loop .cue)) (a .target .at) (l .loop .used) in
-    let e = lay-lengths (lists (a .dist .now) (a .site .now) (a .cue .now)) (a .target .at) found in (
-      ap (λ (z : Lists). length (z .dist)) (t .laid) ∙ e .0,
-      ap (λ (z : Lists). length (z .site)) (t .laid) ∙ e .1 .0,
-      ap (λ (z : Lists). length (z .cue)) (t .laid) ∙ e .1 .1,
-      t .long,
-      l .loop .inv .0 ∙ k .fill-keys .kept .1 .1 .1 .1 .0,
-    )
 
 loop-holds : tie.Need-loop-holds Inv-loop μ-loop
 loop-holds c =
@@ -101,19 +81,19 @@ tile-below c =
     (λ t. t < start (head c) .args .h .tiles) (start (head c) .pre .tiles)
 
 same-length : tie.Need-same-length Inv-loop μ-loop
-same-length c = let l : tie.At-loop Inv-loop μ-loop = search in lengths l .4
+same-length c = search needs
 
 same-length-2 : tie.Need-same-length-2 Inv-loop μ-loop
-same-length-2 c = let l : tie.At-loop Inv-loop μ-loop = search in lengths l .0
+same-length-2 c = search needs
 
 same-length-3 : tie.Need-same-length-3 Inv-loop μ-loop
-same-length-3 c = let l : tie.At-loop Inv-loop μ-loop = search in lengths l .1
+same-length-3 c = search needs
 
 same-length-4 : tie.Need-same-length-4 Inv-loop μ-loop
-same-length-4 c = let l : tie.At-loop Inv-loop μ-loop = search in lengths l .2
+same-length-4 c = search needs
 
 same-length-5 : tie.Need-same-length-5 Inv-loop μ-loop
-same-length-5 c = let l : tie.At-loop Inv-loop μ-loop = search in lengths l .3
+same-length-5 c = search needs
 
 returns : tie.Need-returns Inv-loop μ-loop
 returns c =
@@ -142,19 +122,19 @@ last-ahead-requires c κs =
     (ready .some, ready .few, ready .long .0, ready .long .1 .0)
 
 same-length-6 : tie.Need-same-length-6 Inv-loop μ-loop
-same-length-6 c = let l : tie.At-loop Inv-loop μ-loop = search in lengths l .4
+same-length-6 c = search needs
 
 same-length-7 : tie.Need-same-length-7 Inv-loop μ-loop
-same-length-7 c = let l : tie.At-loop Inv-loop μ-loop = search in lengths l .0
+same-length-7 c = search needs
 
 same-length-8 : tie.Need-same-length-8 Inv-loop μ-loop
-same-length-8 c = let l : tie.At-loop Inv-loop μ-loop = search in lengths l .1
+same-length-8 c = search needs
 
 same-length-9 : tie.Need-same-length-9 Inv-loop μ-loop
-same-length-9 c = let l : tie.At-loop Inv-loop μ-loop = search in lengths l .2
+same-length-9 c = search needs
 
 same-length-10 : tie.Need-same-length-10 Inv-loop μ-loop
-same-length-10 c = let l : tie.At-loop Inv-loop μ-loop = search in lengths l .3
+same-length-10 c = search needs
 
 -- the list is full ahead of the key
 returns-2 : tie.Need-returns-2 Inv-loop μ-loop
@@ -206,27 +186,19 @@ abbrev turned : tie.After-take-tile Inv-loop μ-loop → tie.At-loop Inv-loop μ
 turned c = head (kept-key (taken c))
 
 same-length-11 : tie.Need-same-length-11 Inv-loop μ-loop
-same-length-11 c = let x : tie.After-take-tile Inv-loop μ-loop = search in lengths (turned x) .4
+same-length-11 c = search needs
 
 same-length-12 : tie.Need-same-length-12 Inv-loop μ-loop
-same-length-12 c =
-    let x : tie.After-take-tile Inv-loop μ-loop = search in
-    x .take-tile .kept .1 .1 .1 .1 .1 .0 ∙ lengths (turned x) .0
+same-length-12 c = search needs
 
 same-length-13 : tie.Need-same-length-13 Inv-loop μ-loop
-same-length-13 c =
-    let x : tie.After-take-tile Inv-loop μ-loop = search in
-    x .take-tile .kept .1 .1 .1 .1 .1 .1 .0 ∙ lengths (turned x) .1
+same-length-13 c = search needs
 
 same-length-14 : tie.Need-same-length-14 Inv-loop μ-loop
-same-length-14 c =
-    let x : tie.After-take-tile Inv-loop μ-loop = search in
-    x .take-tile .kept .1 .1 .1 .1 .1 .1 .1 .0 ∙ lengths (turned x) .2
+same-length-14 c = search needs
 
 same-length-15 : tie.Need-same-length-15 Inv-loop μ-loop
-same-length-15 c =
-    let x : tie.After-take-tile Inv-loop μ-loop = search in
-    x .take-tile .kept .1 .1 .1 .1 .1 .1 .1 .1 .0 ∙ lengths (turned x) .3
+same-length-15 c = search needs
 
 -- what the tile made of the slices, and what it answered
 slices-taken : (x : tie.After-take-tile Inv-loop μ-loop) →
