@@ -1,10 +1,10 @@
 -- Laws of signed numbers. Assumes nothing.
 --
---   below, below-fits          -1 less a number, as the code has it
---   local-i32                  a number that passed through a local
---   bits-up, bits-down         the bits of a number from 0 on, and below 0, as the code has them
---   bits-small, signed-small   both are below their limits
---   signed-bits, bits-signed   bits and the number with these bits
+--   below-zero, below-zero-fits   -1 less a number, as the code has it
+--   local-i32                     a number that passed through a local
+--   bits-up, bits-down            the bits of a number from 0 on, and below 0, as the code has them
+--   bits-small, signed-small      both are below their limits
+--   signed-bits, bits-signed      bits and the number with these bits
 use Prim.Native.Nat.{ℕ, zero, suc, _-_, _<_}
 use mathlib.Core.Bool.{true, false}
 use mathlib.Core.Path.{_≡_, refl}
@@ -26,11 +26,11 @@ minus-one zero = refl
 minus-one (suc k) = simp zero-add
 
 -- -1 less a number below 2^31, as the code has it
-pub below : (k : ℕ) → k < limitSigned → negsuc 0 -ℤ toZ w32 k ≡ negsuc k
-below k h = rw (toZ-pos w32 h) (minus-one k)
+pub below-zero : (k : ℕ) → k < limitSigned → negsuc 0 -ℤ toZ w32 k ≡ negsuc k
+below-zero k h = rw (toZ-pos w32 h) (minus-one k)
 
-pub below-fits : (k : ℕ) → k < limitSigned → SFits w32 (negsuc 0 -ℤ toZ w32 k)
-below-fits k h = rw (below k h) (record { sfits = h })
+pub below-zero-fits : (k : ℕ) → k < limitSigned → SFits w32 (negsuc 0 -ℤ toZ w32 k)
+below-zero-fits k h = rw (below-zero k h) (record { sfits = h })
 
 -- a signed number that passed through a local, where it is held as bits
 pub local-i32 : (z : ℤ) → mag z < limitSigned → toZ w32 (ofZ w32 z) ≡ z

@@ -2,11 +2,11 @@
 --
 --   length-head, length-entry, length-site      the length of each part
 --   length-entries, length-sites                of several
---   length-body, length-block                   of a block
+--   length-body, length-blockBytes              of a block
 --   length-directory-block, length-tile-block   of a block of each kind
 --   due-few, due-within, blocks-few             how many entries and blocks there are
 --   tile-of                                     a tile's block, by what the code goes by
---   sums-byte, sums-body, lent                  the check: its sums, of a body, of the part that is lent
+--   sums-byte, sums-body, sums-part             the check: its sums, of a body, of the part that is lent
 --   head-row, box-row, entry-row, site-row, check-row, block-row   what each row of calls leaves
 use Prim.Native.Nat.{ℕ, _+_, _*_, _-_, _<_, _≤_}
 use mathlib.Core.List.{List, [], _∷_, _++_}
@@ -64,9 +64,9 @@ module _ (head payload : List ℕ) (h : length head ≡ reservedAt) (fits : payl
   unfolding bodyBytes
   length-body = simp (length-append, length-replicate) (omega arith)
 
-  pub length-block : length (blockBytes head payload) ≡ blockSize
+  pub length-blockBytes : length (blockBytes head payload) ≡ blockSize
   unfolding blockBytes checkBytes
-  length-block = simp (length-append, length-body)
+  length-blockBytes = simp (length-append, length-body)
 
 module _ (h : Header) where
   pub due-few : (p : ℕ) → entriesDue h p ≤ entriesPerBlock axes
@@ -86,7 +86,7 @@ pub length-directory-block : (boxes : List ℤ) (counts : List ℕ) (p : ℕ) �
 unfolding directoryBytes
 length-directory-block boxes counts p =
     let n = entriesDue (headerOf counts) p in
-    length-block (headBytes directoryKind p n (length counts))
+    length-blockBytes (headBytes directoryKind p n (length counts))
     (joined (entryBytes boxes counts) (entriesPerBlock axes * p) n)
     (length-head directoryKind p n (length counts))
     (omega (arith, length-entries boxes counts (entriesPerBlock axes * p) n, due-few (headerOf counts) p))
@@ -95,7 +95,7 @@ pub length-tile-block : (spots : List (List ℤ)) (cues : List ℕ) (p i n : ℕ
     length (tileBytes spots cues p i n) ≡ blockSize
 unfolding tileBytes
 length-tile-block spots cues p i n h =
-    length-block (headBytes tileKind p n 0) (joined (siteBytes spots cues) i n) (length-head tileKind p n 0)
+    length-blockBytes (headBytes tileKind p n 0) (joined (siteBytes spots cues) i n) (length-head tileKind p n 0)
     (omega (arith, length-sites spots cues i n))
 
 -- the block of tile t, by what the code goes by
@@ -121,9 +121,9 @@ sums-body s body h n l =
     sums-front s body (holds-front checkAt h n l ∙ sym (take-all checkAt body (omega arith)))
 
 -- the part of the slice that is lent to the check
-pub lent : (l : List ℕ) (at : ℕ) (r : Sums) → r ≡ sums (take (at + blockSize - at) (drop at l)) →
+pub sums-part : (l : List ℕ) (at : ℕ) (r : Sums) → r ≡ sums (take (at + blockSize - at) (drop at l)) →
     r ≡ sums (take blockSize (drop at l))
-lent l at r e = let k : at + blockSize - at ≡ blockSize = omega arith in rw k at e
+sums-part l at r e = let k : at + blockSize - at ≡ blockSize = omega arith in rw k at e
 
 -- ---- rows of calls
 module _ (l : List ℕ) (at : ℕ) where

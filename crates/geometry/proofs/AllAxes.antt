@@ -32,19 +32,20 @@ in-test none = refl
 in-test (more o i) = both-and (on-test o) (in-test i)
 
 -- a box and a point within the limits, with as many axes
-pub data Over : List (List ℤ) → List ℤ → Type 0 where
-  none : Over [] []
-  more : {s : List ℤ} {b : List (List ℤ)} {x : ℤ} {p : List ℤ} → Axis s → Limited x → Over b p → Over (s ∷ b) (x ∷ p)
+pub data Match : List (List ℤ) → List ℤ → Type 0 where
+  none : Match [] []
+  more : {s : List ℤ} {b : List (List ℤ)} {x : ℤ} {p : List ℤ} → Axis s → Limited x → Match b p → Match (s ∷ b) (x ∷ p)
 
-pub over : (b : List (List ℤ)) (p : List ℤ) → validBox b ≡ true → validPoint p ≡ true → length p ≡ length b → Over b p
+pub matches : (b : List (List ℤ)) (p : List ℤ) → validBox b ≡ true → validPoint p ≡ true → length p ≡ length b
+    → Match b p
 unfolding validBox validPoint
-over [] [] t u e = none
-over [] (x ∷ p) t u e = absurd (omega arith)
-over (s ∷ b) [] t u e = absurd (omega arith)
-over (s ∷ b) (x ∷ p) t u e =
+matches [] [] t u e = none
+matches [] (x ∷ p) t u e = absurd (omega arith)
+matches (s ∷ b) [] t u e = absurd (omega arith)
+matches (s ∷ b) (x ∷ p) t u e =
     let v = and-both (validAxis s) (validBox b) t in
     let w = and-both (withinLimits x) (validPoint p) u in
-    more (axis s (v .0)) (limited x (w .0)) (over b p (v .1) (w .1) (omega arith))
+    more (axis s (v .0)) (limited x (w .0)) (matches b p (v .1) (w .1) (omega arith))
 
 -- a valid box holds a point
 pub lowest-point : (b : List (List ℤ)) → validBox b ≡ true → (p : List ℤ) × In b p
@@ -56,43 +57,45 @@ lowest-point (s ∷ b) t =
     (lo s ∷ r .0, more (low-on (axis s (u .0))) (r .1))
 
 -- near
-pub closest-in : {b : List (List ℤ)} {p : List ℤ} → Over b p → In b (closestPoint b p)
+pub closest-in : {b : List (List ℤ)} {p : List ℤ} → Match b p → In b (closestPoint b p)
 unfolding closestPoint
 closest-in none = none
 closest-in (more {s} {x = x} a l r) = more (closest-on s x a l) (closest-in r)
 
-pub min-least : {b : List (List ℤ)} {p q : List ℤ} → Over b p → In b q → minDist b p ≤ D p q
+pub min-least : {b : List (List ℤ)} {p q : List ℤ} → Match b p → In b q → minDist b p ≤ D p q
 unfolding minDist closestPoint D
 min-least none none = omega arith
 min-least (more {s} {x = x} a l r) (more {x = y} o i) = omega (arith, closest-least s x a l y o, min-least r i)
 
 -- far
-pub farthest-in : {b : List (List ℤ)} {p : List ℤ} → Over b p → In b (farthestPoint b p)
+pub farthest-in : {b : List (List ℤ)} {p : List ℤ} → Match b p → In b (farthestPoint b p)
 unfolding farthestPoint
 farthest-in none = none
 farthest-in (more {s} {x = x} a l r) = more (farthest-on s x a l) (farthest-in r)
 
-pub max-largest : {b : List (List ℤ)} {p q : List ℤ} → Over b p → In b q → D p q ≤ maxDist b p
+pub max-largest : {b : List (List ℤ)} {p q : List ℤ} → Match b p → In b q → D p q ≤ maxDist b p
 unfolding maxDist farthestPoint D
 max-largest none none = omega arith
 max-largest (more {s} {x = x} a l r) (more {x = y} o i) = omega (arith, farthest-most s x a l y o, max-largest r i)
 
 -- every coordinate within the limits
-pub data Within : List ℤ → Type 0 where
-  none : Within []
-  more : {x : ℤ} {p : List ℤ} → Limited x → Within p → Within (x ∷ p)
+pub data AllLimited : List ℤ → Type 0 where
+  none : AllLimited []
+  more : {x : ℤ} {p : List ℤ} → Limited x → AllLimited p → AllLimited (x ∷ p)
 
-pub within : (p : List ℤ) → validPoint p ≡ true → Within p
+pub all-limited : (p : List ℤ) → validPoint p ≡ true → AllLimited p
 unfolding validPoint
-within [] t = none
-within (x ∷ p) t = let u = and-both (withinLimits x) (validPoint p) t in more (limited x (u .0)) (within p (u .1))
+all-limited [] t = none
+all-limited (x ∷ p) t =
+    let u = and-both (withinLimits x) (validPoint p) t in
+    more (limited x (u .0)) (all-limited p (u .1))
 
-pub within-box : {b : List (List ℤ)} {p : List ℤ} → In b p → validBox b ≡ true → Within p
+pub in-limited : {b : List (List ℤ)} {p : List ℤ} → In b p → validBox b ≡ true → AllLimited p
 unfolding validBox
-within-box none t = none
-within-box (more {s} {b} o i) t =
+in-limited none t = none
+in-limited (more {s} {b} o i) t =
     let u = and-both (validAxis s) (validBox b) t in
-    more (limited-on (axis s (u .0)) o) (within-box i (u .1))
+    more (limited-on (axis s (u .0)) o) (in-limited i (u .1))
 
 -- a point of a valid box is a valid point
 pub in-valid : {b : List (List ℤ)} {p : List ℤ} → In b p → validBox b ≡ true → validPoint p ≡ true
@@ -101,7 +104,7 @@ in-valid none t = refl
 in-valid (more {s} {b} o i) t =
     let u = and-both (validAxis s) (validBox b) t in both-and (valid-on (u .0) o) (in-valid i (u .1))
 
-pub distance-bound : {p q : List ℤ} → Within p → Within q → D p q ≤ axisBound * length p
+pub distance-bound : {p q : List ℤ} → AllLimited p → AllLimited q → D p q ≤ axisBound * length p
 unfolding D
 distance-bound none w = omega arith
 distance-bound (more l v) none = omega arith

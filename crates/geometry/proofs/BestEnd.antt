@@ -31,28 +31,28 @@ rises-signed x h e b lx lh le lb p q =
     (rises (shift x) (shift h) (shift e) (shift b) p q)
 
 -- from x: the square to the farther end of e, and to the closest point of b
-abbrev pub far : List ℤ → ℤ → ℕ
-far e x = square x (farthest e x)
+abbrev pub farOn : List ℤ → ℤ → ℕ
+farOn e x = square x (farthest e x)
 
-abbrev pub near : List ℤ → ℤ → ℕ
-near b x = square x (closest b x)
+abbrev pub nearOn : List ℤ → ℤ → ℕ
+nearOn b x = square x (closest b x)
 
 -- whether the high end of O is the better one, as the code tests it: differences of squares become sums
 abbrev pub better : List ℤ → List ℤ → List ℤ → Bool
-better o e b = ltb (far e (lo o) + near b (hi o)) (far e (hi o) + near b (lo o))
+better o e b = ltb (farOn e (lo o) + nearOn b (hi o)) (farOn e (hi o) + nearOn b (lo o))
 
 pub best-end-test : (o e b : List ℤ) → bestEnd o e b ≡ cond (better o e b) (hi o) (lo o)
 unfolding bestEnd gain
-best-end-test o e b = rw (less-sub (far e (lo o)) (near b (lo o)) (far e (hi o)) (near b (hi o)))
+best-end-test o e b = rw (less-sub (farOn e (lo o)) (nearOn b (lo o)) (farOn e (hi o)) (nearOn b (hi o)))
 
 best-end-ind : (o e b : List ℤ) (P : ℤ → Type 0) →
-    (far e (lo o) + near b (hi o) < far e (hi o) + near b (lo o) → P (hi o)) →
-    (far e (hi o) + near b (lo o) ≤ far e (lo o) + near b (hi o) → P (lo o)) → P (bestEnd o e b)
+    (farOn e (lo o) + nearOn b (hi o) < farOn e (hi o) + nearOn b (lo o) → P (hi o)) →
+    (farOn e (hi o) + nearOn b (lo o) ≤ farOn e (lo o) + nearOn b (hi o) → P (lo o)) → P (bestEnd o e b)
 best-end-ind o e b P f g =
     rw (best-end-test o e b)
     (cond-ind (better o e b) (hi o) (lo o) P
-    (λ t. f (ltb-true (far e (lo o) + near b (hi o)) (far e (hi o) + near b (lo o)) t))
-    (λ t. g (ltb-false (far e (lo o) + near b (hi o)) (far e (hi o) + near b (lo o)) t)))
+    (λ t. f (ltb-true (farOn e (lo o) + nearOn b (hi o)) (farOn e (hi o) + nearOn b (lo o)) t))
+    (λ t. g (ltb-false (farOn e (lo o) + nearOn b (hi o)) (farOn e (hi o) + nearOn b (lo o)) t)))
 
 module _ (o e b : List ℤ) (ao : Axis o) where
   pub best-end-on : On o (bestEnd o e b)
@@ -63,7 +63,7 @@ module _ (o e b : List ℤ) (ao : Axis o) where
 
   -- no three points of the axes have a larger difference
   pub best-end-most : Axis e → Axis b → (x y z : ℤ) → On o x → On e y → On b z →
-      square x y + near b (bestEnd o e b) ≤ far e (bestEnd o e b) + square x z
+      square x y + nearOn b (bestEnd o e b) ≤ farOn e (bestEnd o e b) + square x z
   best-end-most ae ab x y z px py pz =
       let lx : Limited x = limited-on ao px in
       let ly : Limited y = limited-on ae py in
@@ -76,11 +76,11 @@ module _ (o e b : List ℤ) (ao : Axis o) where
       (λ q.
       let up = at-most-shift x (hi o) (lx .small) (ao .high .small) (px .to) in
       let r = rises-signed x (hi o) y z lx (ao .high) ly lz up q in
-      best-end-ind o e b (λ w. square x y + near b w ≤ far e w + square x z) (λ t. omega arith) (λ t. omega arith))
+      best-end-ind o e b (λ w. square x y + nearOn b w ≤ farOn e w + square x z) (λ t. omega arith) (λ t. omega arith))
       (λ q.
       let up = at-most-shift (lo o) x (ao .low .small) (lx .small) (px .from) in
       let r = rises-signed (lo o) x z y (ao .low) lx lz ly up q in
-      best-end-ind o e b (λ w. square x y + near b w ≤ far e w + square x z) (λ t. omega arith) (λ t. omega arith))
+      best-end-ind o e b (λ w. square x y + nearOn b w ≤ farOn e w + square x z) (λ t. omega arith) (λ t. omega arith))
 
 -- the difference from the better end is the larger one
 pub best-gain : (o e b : List ℤ)
@@ -93,7 +93,8 @@ abbrev pub Valid : List ℤ → List ℤ → List ℤ → Type 0
 Valid o e b = (validAxis o ≡ true) × ((validAxis e ≡ true) × (validAxis b ≡ true))
 
 -- bounds, from any point of O
-pub square-bounds : (o e b : List ℤ) → Valid o e b → (x : ℤ) → On o x → (far e x ≤ axisBound) × (near b x ≤ axisBound)
+pub square-bounds : (o e b : List ℤ) → Valid o e b → (x : ℤ) → On o x
+    → (farOn e x ≤ axisBound) × (nearOn b x ≤ axisBound)
 square-bounds o e b v x p =
     let l = limited-on (axis o (v .0)) p in
     (farthest-bound e x (axis e (v .1 .0)) l, closest-bound b x (axis b (v .1 .1)) l)

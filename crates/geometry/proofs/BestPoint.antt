@@ -9,7 +9,7 @@ use lib.ListN.{length}
 use Rattle.base.proofs.Tests.{and-both}
 use Rattle.geometry.specs.Box.{validAxis, validBox}
 use Rattle.geometry.specs.Distance.{D, closestPoint, farthestPoint, minDist, maxDist}
-use Rattle.geometry.proofs.AllAxes.{In, none, more, Over}
+use Rattle.geometry.proofs.AllAxes.{In, none, more, Match}
 use Rattle.geometry.proofs.OneAxis.{Axis, axis, limited-on}
 use Rattle.geometry.specs.Margin.{bestPoint}
 use Rattle.geometry.proofs.BestEnd.{best-end-on, best-end-limited, best-end-most}
@@ -41,12 +41,12 @@ unfolding bestPoint
 best-in no-axis = none
 best-in (next-axis {o} {e} {b} ao ae ab r) = more (best-end-on o e b ao) (best-in r)
 
-pub best-over-e : {o e b : List (List ℤ)} → Three o e b → Over e (bestPoint o e b)
+pub best-over-e : {o e b : List (List ℤ)} → Three o e b → Match e (bestPoint o e b)
 unfolding bestPoint
 best-over-e no-axis = none
 best-over-e (next-axis {o} {e} {b} ao ae ab r) = more ae (best-end-limited o e b ao) (best-over-e r)
 
-pub best-over-b : {o e b : List (List ℤ)} → Three o e b → Over b (bestPoint o e b)
+pub best-over-b : {o e b : List (List ℤ)} → Three o e b → Match b (bestPoint o e b)
 unfolding bestPoint
 best-over-b no-axis = none
 best-over-b (next-axis {o} {e} {b} ao ae ab r) = more ab (best-end-limited o e b ao) (best-over-b r)
@@ -60,7 +60,7 @@ best-most (next-axis {o} {e} {b} ao ae ab r) (more {x = x} i is) (more {x = y} j
     omega (arith, best-end-most o e b ao ae ab x y z i j k, best-most r is js ks)
 
 -- from a point of O, E can be measured
-pub over-in : {o e b : List (List ℤ)} {x : List ℤ} → Three o e b → In o x → Over e x × Over b x
+pub over-in : {o e b : List (List ℤ)} {x : List ℤ} → Three o e b → In o x → Match e x × Match b x
 over-in no-axis none = (none, none)
 over-in (next-axis ao ae ab r) (more i is) =
     let l = limited-on ao i in

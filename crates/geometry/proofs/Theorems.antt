@@ -26,7 +26,8 @@ use Rattle.geometry.specs.Distance.{minDist, maxDist}
 use Rattle.geometry.specs.Margin.{bestPoint, difference, reachedFrom, reached, margin, closer}
 use Rattle.base.proofs.Every.{every-at, every-holds}
 use Rattle.base.proofs.Tests.{true-T, by-test, iff-eq}
-use Rattle.geometry.proofs.AllAxes.{in-box, in-test, in-valid, in-length, lowest-point, over, within, within-box}
+use Rattle.geometry.proofs.AllAxes.{in-box, in-test, in-valid, in-length, lowest-point, matches, all-limited}
+use Rattle.geometry.proofs.AllAxes.{in-limited}
 use Rattle.geometry.proofs.AllAxes.{closest-in, min-least, farthest-in, max-largest, distance-bound}
 use Rattle.geometry.proofs.Around.{all-rows, rows-at, around-axes, around-valid, around-holds, around-least}
 use Rattle.geometry.proofs.BestPoint.{Three, three, best-in, best-over-e, best-over-b, best-most, over-in}
@@ -48,7 +49,7 @@ module _ (b : List (List ℤ)) (p : List ℤ) (vb : validBox b ≡ true) (vp : v
   pub min-dist-exact : Least b p (minDist b p)
   unfolding minDist
   min-dist-exact =
-      let w = over b p vb vp same in
+      let w = matches b p vb vp same in
       record {
         point = closestPoint b p;
         point-inside = in-test (closest-in w);
@@ -60,7 +61,7 @@ module _ (b : List (List ℤ)) (p : List ℤ) (vb : validBox b ≡ true) (vp : v
   pub max-dist-exact : Largest b p (maxDist b p)
   unfolding maxDist
   max-dist-exact =
-      let w = over b p vb vp same in
+      let w = matches b p vb vp same in
       record {
         point = farthestPoint b p;
         point-inside = in-test (farthest-in w);
@@ -71,16 +72,16 @@ module _ (b : List (List ℤ)) (p : List ℤ) (vb : validBox b ≡ true) (vp : v
   -- near is at most far
   pub min-at-most-max : minDist b p ≤ maxDist b p
   unfolding maxDist
-  min-at-most-max = let w = over b p vb vp same in min-least w (farthest-in w)
+  min-at-most-max = let w = matches b p vb vp same in min-least w (farthest-in w)
 
   -- on n axes within the limits far is at most n × 4,000,000,000,000
   pub max-dist-bounded : maxDist b p ≤ axisBound * length p
   unfolding maxDist
-  max-dist-bounded = distance-bound (within p vp) (within-box (farthest-in (over b p vb vp same)) vb)
+  max-dist-bounded = distance-bound (all-limited p vp) (in-limited (farthest-in (matches b p vb vp same)) vb)
 
 -- on n axes within the limits no D is larger than n × 4,000,000,000,000
 pub distance-bounded : (p q : List ℤ) → validPoint p ≡ true → validPoint q ≡ true → D p q ≤ axisBound * length p
-distance-bounded p q vp vq = distance-bound (within p vp) (within q vq)
+distance-bounded p q vp vq = distance-bound (all-limited p vp) (all-limited q vq)
 
 -- ---- points of a box, and its corners
 
@@ -195,10 +196,10 @@ module _ (o e b : List (List ℤ)) (vo : validBox o ≡ true) (ve : validBox e �
   margin-bound =
       let w = three o e b vo ve vb se sb in
       let x = bestPoint o e b in
-      let wx = within-box (best-in w) vo in
+      let wx = in-limited (best-in w) vo in
       let n = in-length (best-in w) in
-      let f = distance-bound wx (within-box (farthest-in (best-over-e w)) ve) in
-      let c = distance-bound wx (within-box (closest-in (best-over-b w)) vb) in
+      let f = distance-bound wx (in-limited (farthest-in (best-over-e w)) ve) in
+      let c = distance-bound wx (in-limited (closest-in (best-over-b w)) vb) in
       let d = abs-difference (D x (farthestPoint e x)) (D x (closestPoint b x)) in
       let m : axisBound * length x ≡ axisBound * length o = ap (λ (k : ℕ). axisBound * k) n in
       omega arith

@@ -40,7 +40,7 @@ use Rattle.plan.proofs.Theorems.{plan-lawful, opening-checked}
 use Rattle.search.proofs.Cut.{join-cut}
 use Rattle.search.proofs.Equation.{Alike, withNew-member}
 use Rattle.search.proofs.Lists.{all-map, all-mem, mem-all, member-mem, mem-member, filter-same, range-below}
-use Rattle.search.proofs.Marks.{rows-length}
+use Rattle.search.proofs.Marks.{inRows-length}
 use Rattle.search.proofs.Walk.{walks-length}
 use Rattle.search.proofs.Theorems.{places-used, opened-count, only-tiles}
 use Rattle.serve.proofs.Marking.{marks-end}
@@ -100,13 +100,13 @@ module _ {f : List ℕ} {h : Header} {cols : List (List ℤ)} {k : ℕ} {out : S
   pub region : ValidRegion O
   region = record { valid = smallest .valid; axes = smallest .axes ∙ r .axes }
 
-  pub lawful : Lawful (entries f h) O
-  lawful = plan-lawful f h O (r .dir) (region .valid) (region .axes)
+  pub run-lawful : Lawful (entries f h) O
+  run-lawful = plan-lawful f h O (r .dir) (region .valid) (region .axes)
 
   alike : Bytes f → Alike [] (runFor f h cols k) (walksFor f h cols k .asked) (walksFor f h cols k .out)
   unfolding runFor
-  alike b = join-cut (entries f h) O k lawful (openingOf f h) (opening-checked f h b) (r .args .some-k) (stopsOf cols)
-      (smallest .holds)
+  alike b = join-cut (entries f h) O k run-lawful (openingOf f h) (opening-checked f h b) (r .args .some-k)
+      (stopsOf cols) (smallest .holds)
 
   -- ---- before the stops are served: places zero, tiles pruned
 
@@ -166,7 +166,7 @@ module _ {f : List ℕ} {h : Header} {cols : List (List ℤ)} {k : ℕ} {out : S
       → lay (started .lists) 0 (inRows k ls) ≡ lay (out .lists) 0 (inRows k ls)
   lists-cover ls e =
       let a = walks-length _ (stopsOf cols) ls e in
-      let b = rows-length k ls in
+      let b = inRows-length k ls in
       let q : length (inRows k ls) ≡ n = b ∙ ap (λ (m : ℕ). m * k) (a ∙ stops-length cols) in
       let z = length-replicate n noPlace in
       lay-under (out .lists) 0 0 (replicate n noPlace) (inRows k ls) (omega arith) (omega arith)
@@ -227,7 +227,7 @@ module _ {f : List ℕ} {h : Header} {cols : List (List ℤ)} {k : ℕ} {out : S
         let a = walks-length _ (stopsOf cols) ls e in
         let q = stops-length cols in
         last-of (placesUsed (entries f h) k) 0 ls (omega (arith, r .args .some))
-        (places-used (entries f h) O k lawful (openingOf f h) (opening-checked f h b) (stopsOf cols)
+        (places-used (entries f h) O k run-lawful (openingOf f h) (opening-checked f h b) (stopsOf cols)
         (smallest .holds) ls
         (alike b .outcome ∙ e))
 

@@ -45,7 +45,7 @@ use Rattle.plan.proofs.Theorems.{opening-checked, join-depends, pruned-count-de
 use Rattle.plan.proofs.Theorems.{good-opens, good-agrees}
 use Rattle.prune.proofs.Theorems.{prunes-exactly}
 use Rattle.search.proofs.Lists.{all-map, all-both}
-use Rattle.search.proofs.Marks.{rows-length, marks-at}
+use Rattle.search.proofs.Marks.{inRows-length, marks-at}
 use Rattle.search.proofs.Queue.{candidate-unpruned, candidate-some}
 use Rattle.search.proofs.Run.{join-refused}
 use Rattle.search.proofs.Theorems as run
@@ -53,13 +53,13 @@ use Rattle.stops.specs.Inner.Good.{GoodArguments}
 use Rattle.stops.proofs.ArgumentLaws.{arguments-good}
 use Rattle.stops.proofs.StopLaws.{stops-length}
 use Rattle.tiles.proofs.Theorems.{opening-refused, validate-exactly}
-use Rattle.join.specs.Claims.{fullRunFor, SameAnswer, RefusedRun, PrunesAlike, opened, left, Agreeing, Demand2}
-use Rattle.join.specs.Claims.{Demand3, UnlikeStruck, PastStays}
+use Rattle.join.specs.Claims.{fullRunFor, SameAnswer, RefusedRun, PrunesAlike, opened, slicesLeft, Agreeing}
+use Rattle.join.specs.Claims.{Demand2, Demand3, UnlikeStruck, PastStays}
 use Rattle.join.specs.Inner.Running.{RunReady}
 use Rattle.join.specs.Join.{Result, End, runFor, lengthsOf, tests, filled, resultOf, ended, runEnd, joinFrom}
 use Rattle.join.specs.Join.{joinEnd}
 use Rattle.join.proofs.Calling.{tests-pass, run-ready}
-use Rattle.join.proofs.Running.{smallest, lawful}
+use Rattle.join.proofs.Running.{smallest, run-lawful}
 use Rattle.join.proofs.Writes.{past, outcome-alike, answer-alike}
 
 first-stop : (P : List ℤ → Type 0) (ps : List (List ℤ)) → 0 < length ps → All P ps → (p : List ℤ) × P p
@@ -176,7 +176,7 @@ module _ (f : List ℕ) (cols : List (List ℤ)) (k : ℕ) (out : Slices) where
   unfolding runFor
   pruning-opens-alike axes b h d a =
       let w = run-ready f cols k out d a axes in
-      run.pruning-opens-alike (entries f h) (around cols) k (lawful w) (openingOf f h) (opening-checked f h b)
+      run.pruning-opens-alike (entries f h) (around cols) k (run-lawful w) (openingOf f h) (opening-checked f h b)
       (stopsOf cols) (smallest w .holds)
 
   -- ---- a call that answers
@@ -250,7 +250,7 @@ module _ (f : List ℕ) (cols : List (List ℤ)) (k : ℕ) (out : Slices) where
           (runFor f H cols k .openings)
       unfolding runFor
       demand =
-          run.demand-3 (entries f H) (around cols) k (lawful (a .ready axes)) (openingOf f H) (stopsOf cols)
+          run.demand-3 (entries f H) (around cols) k (run-lawful (a .ready axes)) (openingOf f H) (stopsOf cols)
           (smallest (a .ready axes) .holds) (a .ls) (a .lists)
 
       once-each : Distinct (runFor f H cols k .openings)
@@ -258,7 +258,7 @@ module _ (f : List ℕ) (cols : List (List ℤ)) (k : ℕ) (out : Slices) where
       once-each = run.opened-once (entries f H) (around cols) k (openingOf f H) (stopsOf cols)
 
       -- the mark of a tile, and all T marks
-      mark-left : (t : ℕ) → t < H .tiles → getD (left f cols k out H .marks) t 0
+      mark-left : (t : ℕ) → t < H .tiles → getD (slicesLeft f cols k out H .marks) t 0
           ≡ getD (marks (entries f H) (around cols) k (opened f cols k out H)) t 0
       unfolding filled marks
       mark-left t i =
@@ -266,7 +266,7 @@ module _ (f : List ℕ) (cols : List (List ℤ)) (k : ℕ) (out : Slices) where
           rw (a .slices-are) (filled-at m (out .marks) (H .tiles) t (a .ready axes .args .marks) i
           ∙ sym (marks-at (entries f H) (around cols) k (opened f cols k out H) t i))
 
-      marks-left : take (H .tiles) (left f cols k out H .marks)
+      marks-left : take (H .tiles) (slicesLeft f cols k out H .marks)
           ≡ marks (entries f H) (around cols) k (opened f cols k out H)
       unfolding filled marks
       marks-left =
@@ -275,11 +275,11 @@ module _ (f : List ℕ) (cols : List (List ℤ)) (k : ℕ) (out : Slices) where
 
       -- place j of the list of stop i
       place-left : length (a .ls) ≡ stopCount cols → (i j : ℕ) → i < stopCount cols → j < k
-          → placeAt (left f cols k out H .lists) (i * k + j) ≡ getD (inRows k (a .ls)) (i * k + j) noPlace
+          → placeAt (slicesLeft f cols k out H .lists) (i * k + j) ≡ getD (inRows k (a .ls)) (i * k + j) noPlace
       unfolding filled
       place-left e i j p q =
           let n = stopCount cols * k in
-          let c : length (inRows k (a .ls)) ≡ n = rows-length k (a .ls) ∙ rw e in
+          let c : length (inRows k (a .ls)) ≡ n = inRows-length k (a .ls) ∙ rw e in
           let m : suc i * k ≤ n = mul-le-mul {n₁ = suc i} {m₁ = k} {n₂ = stopCount cols} {m₂ = k} p (omega arith) in
           let w = a .ready axes .args in
           rw (a .slices-are)
@@ -303,7 +303,7 @@ module _ (f : List ℕ) (cols : List (List ℤ)) (k : ℕ) (out : Slices) where
                 ∙ ap length (d .lists town g)
                 ∙ length-map (stopsOf cols) (λ p. fullSearch (entries f h) k p town) ∙ n in
                 place-left r a m i j p q ∙ d .places town g [] i j (omega arith) q;
-            ranking = λ town g p. run.ranking-exactly (entries f h) (around cols) k (lawful (a .ready axes)) p town
+            ranking = λ town g p. run.ranking-exactly (entries f h) (around cols) k (run-lawful (a .ready axes)) p town
                 (g .directory);
             opened-exactly = d .opened-exactly;
             marked-opened = λ t l. rw (mark-left r a t l) (d .marked-opened t l);
@@ -367,7 +367,7 @@ module _ (f : List ℕ) (cols : List (List ℤ)) (k : ℕ) (out : Slices) where
           let p = first-stop (λ p. inside (around cols) p ≡ true) (stopsOf cols)
           (omega (arith, a .ready axes .args .some))
           (s .holds) in
-          rw (← i) (run.town-exists (entries f (a .h)) (around cols) k (lawful (a .ready axes)) (openingOf f (a .h))
+          rw (← i) (run.town-exists (entries f (a .h)) (around cols) k (run-lawful (a .ready axes)) (openingOf f (a .h))
           (opening-checked f (a .h) b) (stopsOf cols) (a .ls) (a .lists) (p .0) (p .1))
 
       -- What a full search gives, as a reader would want it: the town's sites, each once, in their ranking, and every
@@ -378,7 +378,7 @@ module _ (f : List ℕ) (cols : List (List ℤ)) (k : ℕ) (out : Slices) where
           let a = answered r e in
           let i : a .h ≡ h = accepted-injective (sym (a .dir) ∙ d) in
           all-map (stopsOf cols)
-          (λ p home. run.full-search (entries f h) (around cols) k (rw i at (lawful (a .ready axes))) p home town
+          (λ p home. run.full-search (entries f h) (around cols) k (rw i at (run-lawful (a .ready axes))) p home town
           (g .directory)) (smallest (a .ready axes) .holds)
 
     -- ---- demand 2
@@ -394,7 +394,7 @@ module _ (f : List ℕ) (cols : List (List ℤ)) (k : ℕ) (out : Slices) where
         let good = validate-exactly f h .0 v in
         let d = directory-exactly f h .1 (good .directory) in
         let w = run-ready f cols k out d a axes in
-        let e = run.demand-2 (entries f h) (around cols) k (lawful w) (openingOf f h) (townOf f h)
+        let e = run.demand-2 (entries f h) (around cols) k (run-lawful w) (openingOf f h) (townOf f h)
         (good-agrees f h good b)
         (good-opens f h good) (stopsOf cols) (smallest w .holds) in
         tests-pass f cols k out d a
@@ -424,7 +424,7 @@ module _ (f : List ℕ) (cols : List (List ℤ)) (k : ℕ) (out : Slices) where
             lists = subst (λ x. Demand3 f cols k out x r) i (three .1) .lists (townOf f h) own;
             first = full-search r e h d (townOf f h) own;
             ranking = λ p. run.ranking-exactly (entries f h) (around cols) k
-                (lawful (run-ready f cols k out d a axes)) p (townOf f h) (own .directory);
+                (run-lawful (run-ready f cols k out d a axes)) p (townOf f h) (own .directory);
             agrees = own .directory;
           },
         )

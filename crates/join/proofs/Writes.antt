@@ -23,7 +23,7 @@ use Rattle.base.proofs.Outcomes.{by-outcome}
 use Rattle.base.proofs.Over.{getD-run, getD-after}
 use Rattle.list.proofs.Laying.{lay-place, lay-after}
 use Rattle.plan.proofs.Tables.{table-length}
-use Rattle.search.proofs.Marks.{rows-length}
+use Rattle.search.proofs.Marks.{inRows-length}
 use Rattle.search.proofs.Run.{join-length}
 use Rattle.stops.proofs.ArgumentLaws.{arguments-good}
 use Rattle.stops.proofs.StopLaws.{stops-length}
@@ -53,7 +53,7 @@ module _ (f : List ℕ) (cols : List (List ℤ)) (k : ℕ) where
         outcome = accepted (resultOf f h cols k opened);
         places = inRows k ls;
         marks = run.marks E O k opened;
-        all-places = rows-length k ls
+        all-places = inRows-length k ls
             ∙ ap (λ (m : ℕ). m * k) (join-length E O k (openingOf f h) (stopsOf cols) ls e ∙ stops-length cols);
         all-marks = table-length (mark E O k opened) 0 (h .tiles);
         ends = λ out. rw e;

@@ -86,8 +86,8 @@ module _ (f : List ℕ) (cols : List (List ℤ)) (k : ℕ) (out : Slices) (h : H
   abbrev pub opened : List ℕ
   opened = runFor f h cols k .openings
 
-  abbrev pub left : Slices
-  left = joinEnd f cols k out .slices
+  abbrev pub slicesLeft : Slices
+  slicesLeft = joinEnd f cols k out .slices
 
   -- "any town that agrees with the directory and the opened tiles, whatever its other tiles hold"
   abbrev pub Agreeing : Town plane → Type 0
@@ -101,7 +101,7 @@ module _ (f : List ℕ) (cols : List (List ℤ)) (k : ℕ) (out : Slices) (h : H
     pub used : r .used ≡ placesUsed (entries f h) k
     -- "each list is the first k sites of the whole town": place j of stop i is at i × k + j
     pub lists : (i j : ℕ) → i < stopCount cols → j < k
-        → placeAt (left .lists) (i * k + j)
+        → placeAt (slicesLeft .lists) (i * k + j)
         ≡ getD (fullSearch (entries f h) k (getD (stopsOf cols) i []) (townOf f h)) j noPlace
     -- what that is: the town's sites, each once, in their ranking, and every site left out behind every listed one
     pub first : All (λ p. FullSearch (entries f h) k p (townOf f h)) (stopsOf cols)
@@ -121,7 +121,7 @@ module _ (f : List ℕ) (cols : List (List ℤ)) (k : ℕ) (out : Slices) (h : H
     -- "For every stop, the join's list equals what a full search of that town gives: the same distance, site and cue at
     -- each place"
     pub lists : (town : Town plane) → Agreeing town → (i j : ℕ) → i < stopCount cols → j < k
-        → placeAt (left .lists) (i * k + j)
+        → placeAt (slicesLeft .lists) (i * k + j)
         ≡ getD (fullSearch (entries f h) k (getD (stopsOf cols) i []) town) j noPlace
     -- the order of such a town's sites: "by D from the stop, then tile, then slot"
     pub ranking : (town : Town plane) → Agreeing town → (p : List ℤ) (a b : Place)
@@ -132,19 +132,19 @@ module _ (f : List ℕ) (cols : List (List ℤ)) (k : ℕ) (out : Slices) (h : H
     pub opened-exactly : (town : Town plane) → Agreeing town → (t : ℕ)
         → (member t opened ≡ true) ↔ Changes (entries f h) k town (stopsOf cols) t
     -- "A tile is marked 2 exactly when it was opened and 1 exactly when it is struck"
-    pub marked-opened : (t : ℕ) → t < h .tiles → (getD (left .marks) t 0 ≡ openedMark) ↔ (member t opened ≡ true)
+    pub marked-opened : (t : ℕ) → t < h .tiles → (getD (slicesLeft .marks) t 0 ≡ openedMark) ↔ (member t opened ≡ true)
     pub marked-pruned : (t : ℕ) → t < h .tiles
-        → (getD (left .marks) t 0 ≡ prunedMark) ↔ (pruned (entries f h) (around cols) k t ≡ true)
+        → (getD (slicesLeft .marks) t 0 ≡ prunedMark) ↔ (pruned (entries f h) (around cols) k t ≡ true)
     -- "0 neither"
     pub marked-neither : (t : ℕ) → t < h .tiles
-        → (getD (left .marks) t 0 ≡ noMark)
+        → (getD (slicesLeft .marks) t 0 ≡ noMark)
         ↔ ((member t opened ≡ false) × (pruned (entries f h) (around cols) k t ≡ false))
     -- "no struck tile is opened", and each tile once
     pub none-pruned : All (λ t. pruned (entries f h) (around cols) k t ≡ false) opened
     pub once : Distinct opened
     -- "the counts are as the papers define them": those of the marks, and the places used
-    pub count-opened : r .opened ≡ count (λ m. eqb m openedMark) (take (h .tiles) (left .marks))
-    pub count-pruned : r .pruned ≡ count (λ m. eqb m prunedMark) (take (h .tiles) (left .marks))
+    pub count-opened : r .opened ≡ count (λ m. eqb m openedMark) (take (h .tiles) (slicesLeft .marks))
+    pub count-pruned : r .pruned ≡ count (λ m. eqb m prunedMark) (take (h .tiles) (slicesLeft .marks))
     pub count-used : r .used ≡ placesUsed (entries f h) k
     -- "Any file of the same length, equal to this one in every byte of the directory and of the opened tiles, gets an
     -- answer with the same lists, marks and counts for the same stops, k and output lengths, whatever bytes the other

@@ -1,7 +1,7 @@
 // The program of document 01: standard input to standard output. All that it computes is `console::answer::respond`;
 // here is only what an operating system can refuse.
 ghost use lib.ListN.{length};
-ghost use Rattle.nearby.specs.Inner.Input.{Within};
+ghost use Rattle.nearby.specs.Inner.Input.{InRoom};
 use console::answer::ROOM;
 use console::answer::respond;
 use console::request::MAX_INPUT;
@@ -17,7 +17,7 @@ enum Input {
 
 // One read.
 fn read_some(fd: i32, buf: &mut [u8]) -> Input
-    ensures { λ r. ⌜ Within r (length (now (buf .exit))) ⌝ }
+    ensures { λ r. ⌜ InRoom r (length (now (buf .exit))) ⌝ }
 {
     let got = libc::read(fd, buf);
     if got < 0 {
@@ -28,7 +28,7 @@ fn read_some(fd: i32, buf: &mut [u8]) -> Input
 
 // Reads until the end of the input, or until the buffer is full.
 fn read_all(fd: i32, buf: &mut [u8]) -> Input
-    ensures { λ r. ⌜ Within r (length (now (buf .exit))) ⌝ }
+    ensures { λ r. ⌜ InRoom r (length (now (buf .exit))) ⌝ }
 {
     let mut done: usize = 0;
     while done < buf.len() {

@@ -17,14 +17,14 @@ use Rattle.base.proofs.Over.{over-eq, over-nil, over-cons, getD-run}
 
 module _ (g : ℕ → ℕ) where
   -- what g gives for t stands at index i
-  pub fill-turn : (d : List ℕ) (i t n : ℕ) → t < n
+  pub table-turn : (d : List ℕ) (i t n : ℕ) → t < n
       → over (set d i (g t)) (i + 1) (map g (range (t + 1) (n - (t + 1)))) ≡ over d i (map g (range t (n - t)))
-  fill-turn d i t n h =
+  table-turn d i t n h =
       let e : n - t ≡ suc (n - (t + 1)) = omega arith in
       rw (e, add-one i) (sym (over-cons d i (g t) (map g (range (suc t) (n - (t + 1)))) ∙ rw (add-one t)))
 
-  pub fill-done : (d : List ℕ) (i t n : ℕ) → n ≤ t → d ≡ over d i (map g (range t (n - t)))
-  fill-done d i t n h = let e : n - t ≡ 0 = omega arith in rw e (sym (over-nil d i))
+  pub table-done : (d : List ℕ) (i t n : ℕ) → n ≤ t → d ≡ over d i (map g (range t (n - t)))
+  table-done d i t n h = let e : n - t ≡ 0 = omega arith in rw e (sym (over-nil d i))
 
   pub table-length : (a n : ℕ) → length (map g (range a n)) ≡ n
   table-length a n = length-map (range a n) g ∙ range-length a n

@@ -18,17 +18,17 @@ use Rattle.prune.specs.Prune.{Counts, pruneCall, marksAfter}
 
 module _ (f : List ℕ) (o : List (List ℤ)) (k : ℕ) (lent : List ℕ) where
   -- the marks at the end
-  abbrev pub left : List ℕ
-  left = marksAfter f o k lent (pruneCall f o k lent)
+  abbrev pub marksLeft : List ℕ
+  marksLeft = marksAfter f o k lent (pruneCall f o k lent)
 
   -- "Given a file, a box O and k", with the header h of the file's directory and the counts c of the answer
   pub record PrunesExactly (h : Header) (c : Counts) : Type 0 where
     pub header : directory f ≡ accepted h
     -- "Marks: 1 struck, 0 not."
-    pub marked : (t : ℕ) → t < h .tiles → (getD left t 0 ≡ prunedMark) ↔ (pruned (entries f h) o k t ≡ true)
-    pub unmarked : (t : ℕ) → t < h .tiles → (getD left t 0 ≡ noMark) ↔ (pruned (entries f h) o k t ≡ false)
+    pub marked : (t : ℕ) → t < h .tiles → (getD marksLeft t 0 ≡ prunedMark) ↔ (pruned (entries f h) o k t ≡ true)
+    pub unmarked : (t : ℕ) → t < h .tiles → (getD marksLeft t 0 ≡ noMark) ↔ (pruned (entries f h) o k t ≡ false)
     -- "The result carries T and the number struck": as many as there are marks of that sort
     pub tiles : c .tiles ≡ h .tiles
-    pub count-pruned : c .pruned ≡ count (λ m. eqb m prunedMark) (take (h .tiles) left)
+    pub count-pruned : c .pruned ≡ count (λ m. eqb m prunedMark) (take (h .tiles) marksLeft)
     -- "Elements past these never change."
-    pub past : (t : ℕ) → h .tiles ≤ t → getD left t 0 ≡ getD lent t 0
+    pub past : (t : ℕ) → h .tiles ≤ t → getD marksLeft t 0 ≡ getD lent t 0

@@ -9,11 +9,11 @@ use Rattle.base.specs.Over.{over}
 use Rattle.base.proofs.Over.{over-nil, over-cons}
 
 module _ (g : ℕ → ℕ) (order keys : List ℕ) (j : ℕ) where
-  pub fill-turn : j < length order
+  pub keys-turn : j < length order
       → over (set keys j (g (getD order j 0))) (j + 1) (map g (drop (j + 1) order)) ≡ over keys j (map g (drop j order))
-  fill-turn h =
+  keys-turn h =
       rw (add-one j, drop-cons order j 0 h)
       (sym (over-cons keys j (g (getD order j 0)) (map g (drop (suc j) order))))
 
-  pub fill-done : j ≡ length order → keys ≡ over keys j (map g (drop j order))
-  fill-done e = rw (e, drop-length order) (sym (over-nil keys (length order)))
+  pub keys-done : j ≡ length order → keys ≡ over keys j (map g (drop j order))
+  keys-done e = rw (e, drop-length order) (sym (over-nil keys (length order)))

@@ -48,9 +48,9 @@ module _ (w : ℕ → Bool) where
       (λ e. rw (e, add-one m) (sym (over-cons order m t (written (u ∷ l)))))
       (λ e. rw (e, add-zero m) (over-set order m m t (written (u ∷ l)) (omega arith) (omega (arith, some-written u l))))
 
-  count-turn : (t : ℕ) (l : List ℕ) → bit (w t) + length (filter w l) ≡ length (filter w (t ∷ l))
+  filter-turn : (t : ℕ) (l : List ℕ) → bit (w t) + length (filter w l) ≡ length (filter w (t ∷ l))
   unfolding filter
-  count-turn t l = by-test (w t) (λ e. rw e (omega arith)) (λ e. rw e (omega arith))
+  filter-turn t l = by-test (w t) (λ e. rw e (omega arith)) (λ e. rw e (omega arith))
 
 -- the loop: the tiles below t are gone through, and m of them wait
 pub record Gathering (w : ℕ → Bool) (n : ℕ) (order₀ order : List ℕ) (m t : ℕ) : Type 0 where
@@ -71,7 +71,7 @@ module _ {w : ℕ → Bool} {n : ℕ} {order₀ order : List ℕ} {m t : ℕ} (g
   gathering-turn h e =
       let l = range (suc t) (n - suc t) in
       let d : n - t ≡ suc (n - suc t) = omega arith in
-      let c = count-turn w t l in
+      let c = filter-turn w t l in
       let k = rw d at (g .number) in
       let small = bit-small (w t) in
       record {

@@ -7,7 +7,7 @@
 --   living-next    the first tile, and the rest
 --   keyed-next, living-fewer   and they go together again, one fewer
 --   living-none    no key is left: no tile waits
---   tile-at        what stands in the order is a tile
+--   tile-in-order  what stands in the order is a tile
 use Prim.Native.Nat.{ℕ, suc, _+_, _-_, _<_, _≤_}
 use mathlib.Core.Bool.{cond}
 use mathlib.Core.List.{List, [], _∷_, map}
@@ -34,7 +34,7 @@ use Rattle.base.proofs.Tests.{by-test}
 use Rattle.plan.proofs.Measures.{near-bounded}
 use Rattle.search.proofs.Lists.{all-getD, getD-map-lt}
 use Rattle.search.proofs.Pairs.{lex-less, lex-not-less}
-use Rattle.search.proofs.Sort.{sort-length, skip, stop}
+use Rattle.search.proofs.Sort.{sort-length, insert-skip, insert-stop}
 use Rattle.queue.specs.Inner.Keys.{none, leastKey}
 use Rattle.queue.specs.declared.keys.Least.{Least}
 use Rattle.queue.proofs.Scanning.{least-low, least-here}
@@ -42,60 +42,62 @@ use Rattle.queue.proofs.Scanning.{least-low, least-here}
 -- ---- the tiles that wait
 
 -- of tiles whose keys stand from index a on, those with a key
-unfoldable pub from : List ℕ → ℕ → List ℕ → List ℕ
-from keys a [] = []
-from keys a (t ∷ ts) = cond (ltb (getD keys a 0) none) (t ∷ from keys (suc a) ts) (from keys (suc a) ts)
+unfoldable pub livingAt : List ℕ → ℕ → List ℕ → List ℕ
+livingAt keys a [] = []
+livingAt keys a (t ∷ ts) = cond (ltb (getD keys a 0) none) (t ∷ livingAt keys (suc a) ts) (livingAt keys (suc a) ts)
 
 abbrev pub living : List ℕ → List ℕ → List ℕ
-living order keys = from keys 0 order
+living order keys = livingAt keys 0 order
 
-shift : (a i : ℕ) → a + suc i ≡ suc a + i
-shift a i = omega arith
+next-index : (a i : ℕ) → a + suc i ≡ suc a + i
+next-index a i = omega arith
 
 module _ (keys : List ℕ) where
-  from-all : (a : ℕ) (ts : List ℕ) → ((i : ℕ) → i < length ts → getD keys (a + i) 0 < none) → from keys a ts ≡ ts
-  unfolding from
+  from-all : (a : ℕ) (ts : List ℕ) → ((i : ℕ) → i < length ts → getD keys (a + i) 0 < none) → livingAt keys a ts ≡ ts
+  unfolding livingAt
   from-all a [] h = refl
   from-all a (t ∷ ts) h =
       let k : getD keys a 0 < none = rw add-zero at (h 0 (omega arith)) in
-      let ih = from-all (suc a) ts (λ i l. rw (shift a i) at (h (suc i) (omega arith))) in
+      let ih = from-all (suc a) ts (λ i l. rw (next-index a i) at (h (suc i) (omega arith))) in
       rw (lt-ltb (getD keys a 0) none k) (ap (λ l. t ∷ l) ih)
 
-  from-none : (a : ℕ) (ts : List ℕ) → ((i : ℕ) → i < length ts → none ≤ getD keys (a + i) 0) → from keys a ts ≡ []
-  unfolding from
+  from-none : (a : ℕ) (ts : List ℕ) → ((i : ℕ) → i < length ts → none ≤ getD keys (a + i) 0) → livingAt keys a ts ≡ []
+  unfolding livingAt
   from-none a [] h = refl
   from-none a (t ∷ ts) h =
       let k : none ≤ getD keys a 0 = rw add-zero at (h 0 (omega arith)) in
-      rw (le-ltb (getD keys a 0) none k) (from-none (suc a) ts (λ i l. rw (shift a i) at (h (suc i) (omega arith))))
+      let ih = from-none (suc a) ts (λ i l. rw (next-index a i) at (h (suc i) (omega arith))) in
+      rw (le-ltb (getD keys a 0) none k) ih
 
   -- a key before does not matter
-  from-later : (v i a : ℕ) (ts : List ℕ) → i < a → from (set keys i v) a ts ≡ from keys a ts
-  unfolding from
+  from-later : (v i a : ℕ) (ts : List ℕ) → i < a → livingAt (set keys i v) a ts ≡ livingAt keys a ts
+  unfolding livingAt
   from-later v i a [] h = refl
   from-later v i a (t ∷ ts) h =
       rw (getD-set-other keys i a v 0 (λ e. omega arith), from-later v i (suc a) ts (omega arith))
 
 -- the first tile has a key, or none
 module _ (keys : List ℕ) (a t : ℕ) (ts : List ℕ) where
-  from-on : getD keys a 0 < none → from keys a (t ∷ ts) ≡ t ∷ from keys (suc a) ts
-  unfolding from
+  from-on : getD keys a 0 < none → livingAt keys a (t ∷ ts) ≡ t ∷ livingAt keys (suc a) ts
+  unfolding livingAt
   from-on h = rw (lt-ltb (getD keys a 0) none h)
 
-  from-off : none ≤ getD keys a 0 → from keys a (t ∷ ts) ≡ from keys (suc a) ts
-  unfolding from
+  from-off : none ≤ getD keys a 0 → livingAt keys a (t ∷ ts) ≡ livingAt keys (suc a) ts
+  unfolding livingAt
   from-off h = rw (le-ltb (getD keys a 0) none h)
 
 -- ---- by key
 
 module _ {G : Geometry} (E : Directory G) (p : G .Stop) where
   -- each key is that of its tile, or none
-  abbrev Own : List ℕ → ℕ → List ℕ → Type 0
-  Own keys a ts = (i : ℕ) → i < length ts → getD keys (a + i) 0 < none → getD keys (a + i) 0 ≡ near E p (getD ts i 0)
+  abbrev OwnKeys : List ℕ → ℕ → List ℕ → Type 0
+  OwnKeys keys a ts =
+      (i : ℕ) → i < length ts → getD keys (a + i) 0 < none → getD keys (a + i) 0 ≡ near E p (getD ts i 0)
 
   -- the first tile, and the rest
   abbrev First : List ℕ → ℕ → List ℕ → Least → Type 0
   First keys a ts r =
-      inOrder E (from keys a ts) p ≡ getD ts (r .at - a) 0 ∷ inOrder E (from (set keys (r .at) none) a ts) p
+      inOrder E (livingAt keys a ts) p ≡ getD ts (r .at - a) 0 ∷ inOrder E (livingAt (set keys (r .at) none) a ts) p
 
   sort-cons : (t : ℕ) (l : List ℕ) → inOrder E (t ∷ l) p ≡ insert (byKey E p) t (inOrder E l p)
   unfolding sort
@@ -107,7 +109,7 @@ module _ {G : Geometry} (E : Directory G) (p : G .Stop) where
 
   -- one tile more
   module _ (keys : List ℕ) (a t : ℕ) (ts : List ℕ) (long : a + suc (length ts) ≤ length keys)
-      (own : Own keys a (t ∷ ts)) (rise : Strict ltb (t ∷ ts)) where
+      (own : OwnKeys keys a (t ∷ ts)) (rise : Strict ltb (t ∷ ts)) where
     abbrev rest : Least
     rest = leastKey keys (suc a) (length ts)
 
@@ -131,7 +133,7 @@ module _ {G : Geometry} (E : Directory G) (p : G .Stop) where
         → First keys a (t ∷ ts) (record { at = a; key = getD keys a 0 })
     unfolding byKey
     stay-first low h ih =
-        let l = from keys (suc a) ts in
+        let l = livingAt keys (suc a) ts in
         let z : a - a ≡ 0 = omega arith in
         let off = from-off (set keys a none) a t ts (omega (arith, getD-set-same keys a none 0 (omega arith)))
         ∙ from-later keys none a (suc a) ts (omega arith) in
@@ -142,7 +144,7 @@ module _ {G : Geometry} (E : Directory G) (p : G .Stop) where
         let k = own-key h in
         let far : near E p t ≤ near E p next = omega (arith, n .0) in
         let later : t ≤ next = omega (arith, n .1) in
-        rw (ih some) (stop (byKey E p) t next _ (lex-not-less far later)))
+        rw (ih some) (insert-stop (byKey E p) t next _ (lex-not-less far later)))
         (λ e.
         let none-left : l ≡ [] = from-none keys (suc a) ts (λ i b. omega (
           arith,
@@ -167,20 +169,20 @@ module _ {G : Geometry} (E : Directory G) (p : G .Stop) where
         let k = own-key on in
         let ahead = lex-less {a = near E p next} {c = near E p t} next t (omega (arith, n .0)) in
         rw (from-on keys a t ts on, from-on keys′ a t ts (omega arith), d)
-        (sort-cons t (from keys (suc a) ts) ∙ ap (insert (byKey E p) t) ih ∙ skip (byKey E p) t next _ ahead
-        ∙ ap (λ l. next ∷ l) (sym (sort-cons t (from keys′ (suc a) ts)))))
+        (sort-cons t (livingAt keys (suc a) ts) ∙ ap (insert (byKey E p) t) ih ∙ insert-skip (byKey E p) t next _ ahead
+        ∙ ap (λ l. next ∷ l) (sym (sort-cons t (livingAt keys′ (suc a) ts)))))
         (λ e.
         let off = ltb-false (getD keys a 0) none e in
         rw (from-off keys a t ts off, from-off keys′ a t ts (omega arith), d) ih)
 
-  from-first : (keys : List ℕ) (a : ℕ) (ts : List ℕ) → a + length ts ≤ length keys → Own keys a ts → Strict ltb ts
+  from-first : (keys : List ℕ) (a : ℕ) (ts : List ℕ) → a + length ts ≤ length keys → OwnKeys keys a ts → Strict ltb ts
       → leastKey keys a (length ts) .key < none → First keys a ts (leastKey keys a (length ts))
   unfolding leastKey
   from-first keys a [] long own rise h = absurd (omega arith)
   from-first keys a (t ∷ ts) long own rise h =
       let r = leastKey keys (suc a) (length ts) in
       let ih : r .key < none → First keys (suc a) ts r =
-      from-first keys (suc a) ts (omega arith) (λ i l. rw (shift a i) at (own (suc i) (omega arith))) (rise .1) in
+      from-first keys (suc a) ts (omega arith) (λ i l. rw (next-index a i) at (own (suc i) (omega arith))) (rise .1) in
       let k = getD keys a 0 in
       by-test (leb k (r .key))
       (λ e. rw e (stay-first keys a t ts long own rise (leb-true k (r .key) e) (rw e at h) ih))
@@ -236,31 +238,31 @@ module _ {G : Geometry} {E : Directory G} {p : G .Stop} {order keys : List ℕ} 
   pub index-at : r .at < length order
   index-at = let here = rw (← e) at (least-here keys 0 (length order) (rw e at h)) in omega (arith, here .1)
 
-  pub tile-at : (P : ℕ → Type 0) → All P order → P (getD order (r .at) 0)
-  tile-at P a = all-getD P order (r .at) 0 index-at a
+  pub tile-in-order : (P : ℕ → Type 0) → All P order → P (getD order (r .at) 0)
+  tile-in-order P a = all-getD P order (r .at) 0 index-at a
 
 -- keys just filled
 module _ (f : List ℕ) (h : Header) (dir : directory f ≡ accepted h) {p : List ℤ} (v : ValidStop p) (order : List ℕ)
     (tiles : All (λ t. t < h .tiles) order) (keys : List ℕ) (long : length order ≤ length keys) where
-  abbrev filled : List ℕ
-  filled = over keys 0 (map (near (entries f h) p) order)
+  abbrev newKeys : List ℕ
+  newKeys = over keys 0 (map (near (entries f h) p) order)
 
-  filled-at : (j : ℕ) → j < length order → getD filled j 0 ≡ near (entries f h) p (getD order j 0)
-  filled-at j l =
+  newKeys-at : (j : ℕ) → j < length order → getD newKeys j 0 ≡ near (entries f h) p (getD order j 0)
+  newKeys-at j l =
       let g = near (entries f h) p in
       let n = length-map order g in
       let z : 0 + j ≡ j = omega arith in
       rw z at (getD-run keys 0 j (map g order) (omega arith) (omega arith)) ∙ getD-map-lt g order j 0 0 l
 
-  pub keyed-start : Strict ltb order → Keyed (entries f h) p order filled
+  pub keyed-start : Strict ltb order → Keyed (entries f h) p order newKeys
   keyed-start rise = record {
     long = let n = length-over keys 0 (map (near (entries f h) p) order) in omega arith;
-    own = λ j l b. filled-at j l;
+    own = λ j l b. newKeys-at j l;
     rise = rise;
   }
 
   -- all tiles wait
-  pub living-start : living order filled ≡ order
-  living-start = from-all filled 0 order
-      (λ i l. rw (zero-add i) (let e = filled-at i l in
+  pub living-start : living order newKeys ≡ order
+  living-start = from-all newKeys 0 order
+      (λ i l. rw (zero-add i) (let e = newKeys-at i l in
       omega (arith, near-bounded f h dir v (getD order i 0) (all-getD _ order i 0 l tiles))))

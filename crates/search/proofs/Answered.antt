@@ -23,15 +23,15 @@ use Rattle.search.proofs.Equation.{withNew, withNew-member, join-walks}
 use Rattle.search.proofs.Exact.{asked-differs}
 use Rattle.search.proofs.Fillings.{some-filling, refill-there}
 use Rattle.search.proofs.Lists.{all-map, all-mem, mem-all, member-mem, mem-member, getD-map-lt}
-use Rattle.search.proofs.Marks.{unpad, rows-at}
+use Rattle.search.proofs.Marks.{unpad, inRows-at}
 use Rattle.search.proofs.Ranking.{first-length, first-short}
 use Rattle.search.proofs.Run.{join-same, join-good}
 use Rattle.search.proofs.Sound.{walk-first}
 use Rattle.search.proofs.Walk.{walk, cut, walks, Walked, walked}
 
-map-same : {A B : Type 0} (f h : A → B) {l : List A} {x : A} → map f l ≡ map h l → List·Memᴰ x l → f x ≡ h x
-map-same f h e (List·Memᴰ·head i) = rw i (head-eq-of-cons-eq e)
-map-same f h e (List·Memᴰ·tail m) = map-same f h (tail-eq-of-cons-eq e) m
+map-at : {A B : Type 0} (f h : A → B) {l : List A} {x : A} → map f l ≡ map h l → List·Memᴰ x l → f x ≡ h x
+map-at f h e (List·Memᴰ·head i) = rw i (head-eq-of-cons-eq e)
+map-at f h e (List·Memᴰ·tail m) = map-at f h (tail-eq-of-cons-eq e) m
 
 module _ {G : Geometry} {E : Directory G} {O : G .Box} (L : Lawful E O) (k : ℕ) where
   open Geometry G using (Site, Stop, Within)
@@ -132,7 +132,7 @@ module _ {G : Geometry} {E : Directory G} {O : G .Box} (L : Lawful E O) (k : ℕ
     unfolding fullSearch
     answer-places g f p i j hi hj =
         let n : i < length (map (λ p. firstOf E k p g) ps) = rw (length-map ps (λ p. firstOf E k p g)) hi in
-        rw (answer-lists g f) (rows-at k (map (λ p. firstOf E k p g) ps) i j noPlace n hj
+        rw (answer-lists g f) (inRows-at k (map (λ p. firstOf E k p g) ps) i j noPlace n hj
         ∙ rw (getD-map-lt (λ p. firstOf E k p g) ps i [] p hi))
 
     pub answer-used : (g : Town G) → Fits E read opened g → All (λ l. length l ≡ placesUsed E k) ls
@@ -185,5 +185,5 @@ module _ {G : Geometry} {E : Directory G} {O : G .Box} (L : Lawful E O) (k : ℕ
 
         same : member t opened ≡ false → firstOf E k (c .stop) g′ ≡ firstOf E k (c .stop) g
         same e =
-            map-same (λ p. firstOf E k p g′) (λ p. firstOf E k p g) (sym (answer-lists g′ (fits e)) ∙ answer-lists g f)
+            map-at (λ p. firstOf E k p g′) (λ p. firstOf E k p g) (sym (answer-lists g′ (fits e)) ∙ answer-lists g f)
             (c .served)

@@ -167,8 +167,8 @@ module _ {G : Geometry} (E : Directory G) (O : G .Box) (k : ℕ) where
       good = all-append (OpensIn E k read) opened (t ∷ []) (o .good) ((f, a), tt);
     }
 
-    pub step : (pre : List ℕ) (t : ℕ) (ts l : List ℕ) → l ≡ pre ++ t ∷ ts → l ≡ (pre ++ t ∷ []) ++ ts
-    step pre t ts l e = e ∙ sym (append-assoc pre (t ∷ []) ts)
+    pub pass-one : (pre : List ℕ) (t : ℕ) (ts l : List ℕ) → l ≡ pre ++ t ∷ ts → l ≡ (pre ++ t ∷ []) ++ ts
+    pass-one pre t ts l e = e ∙ sym (append-assoc pre (t ∷ []) ts)
 
     serve-walk : {p : Stop} {ts opened : List ℕ} {r : Run (List Place)} → Served E k read p ts opened r → Within O p
         → (pre : List ℕ) → queue E O k p ≡ pre ++ ts
@@ -185,14 +185,14 @@ module _ {G : Geometry} (E : Directory G) (O : G .Box) (k : ℕ) where
     serve-walk {p} (again {t = t} {ts = ts} {opened = u} n m s) home pre e o h =
         let a = all-mem (OpensIn E k read) (o .good) (member-mem t u m) in
         let l : enough E k p t (placesOf G p g pre) ≡ false = sym (same-enough p home pre t ts u e o h) ∙ n in
-        let ih = serve-walk s home (pre ++ t ∷ []) (step pre t ts (queue E O k p) e) o (more-passed t pre u h m) in
+        let ih = serve-walk s home (pre ++ t ∷ []) (pass-one pre t ts (queue E O k p) e) o (more-passed t pre u h m) in
         let f = a .0 in
         let opens = walk-opens (enough E k p) (foundAdds E k p) read t ts (placesOf G p g pre) f l (a .1) in
         rw (opens, grown p pre t f (a .1))
         (record { outcome = ih .outcome; openings = rw m (ih .openings) })
     serve-walk {p} (opens {t = t} {ts = ts} {opened = u} {f = f} n m a s) home pre e o h =
         let l : enough E k p t (placesOf G p g pre) ≡ false = sym (same-enough p home pre t ts u e o h) ∙ n in
-        let ih = serve-walk s home (pre ++ t ∷ []) (step pre t ts (queue E O k p) e) (new-open p pre t ts u f e o m a)
+        let ih = serve-walk s home (pre ++ t ∷ []) (pass-one pre t ts _ e) (new-open p pre t ts u f e o m a)
         (new-passed t pre u h) in
         rw (walk-opens (enough E k p) (foundAdds E k p) read t ts (placesOf G p g pre) f l a, grown p pre t f a)
         (record { outcome = ih .outcome; openings = rw m (ih .openings) })

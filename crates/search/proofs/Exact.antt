@@ -27,10 +27,10 @@ use Rattle.search.proofs.Lists.{count-le, count-none, count-perm, range
 use Rattle.search.proofs.Pairs.{Ahead, lex-ahead, lex-less, lex-same, lex-not-less, lex-coarse}
 use Rattle.search.proofs.Places.{rank-order, by-key-order, placesOf-append, placesOf-perm, Known, known}
 use Rattle.search.proofs.Places.{listing-from, placeOf, Own, own-tight, own-places, later-none}
-use Rattle.search.proofs.Pruning.{below}
+use Rattle.search.proofs.Pruning.{tiles-below}
 use Rattle.search.proofs.Queue.{queue-tiles, queue-sorted, Chosen, queue-chosen, candidate-some}
 use Rattle.search.proofs.Sort.{sort-is-perm, sorted-right, order-irrefl, listed}
-use Rattle.search.proofs.Sound.{filled, others, tiles-perm, pruned-behind, others-places}
+use Rattle.search.proofs.Sound.{agrees-filled, others, tiles-perm, pruned-behind, others-places}
 use Rattle.search.proofs.Walk.{foundAdds, walk, walk-ends, walk-opens, asked-all}
 
 at-seam : {A : Type 0} (a : List A) (x : A) (b : List A) → getElem? (a ++ x ∷ b) (length a) ≡ some x
@@ -80,7 +80,7 @@ module _ {G : Geometry} (E : Directory G) (O : G .Box) (k : ℕ) where
     short-queue : (t : ℕ) (u v : List ℕ) → queue E O k p ≡ u ++ t ∷ v → count (ahead E p t) (placesOf G p g u) < k
         → count (ahead E p t) (placesOf G p g (queue E O k p)) < k
     short-queue t u v e h =
-        let hq = filled E g ag (t ∷ v) (all-right _ u (t ∷ v) (rw e at (queue-tiles E O k p))) in
+        let hq = agrees-filled E g ag (t ∷ v) (all-right _ u (t ∷ v) (rw e at (queue-tiles E O k p))) in
         let sq = sorted-right (byKey E p) u (t ∷ v) (rw e at (queue-sorted E O k p)) in
         let i = order-irrefl (byKey E p) (by-key-order E p) t in
         let n = count-none (ahead E p t) (placesOf G p g (t ∷ v)) (later-none E L p home g t (t ∷ v) hq (i, sq .0)) in
@@ -252,10 +252,10 @@ module _ {G : Geometry} (E : Directory G) (O : G .Box) (k : ℕ) where
     now-listed : List·Memᴰ now (firstOf E k p g′)
     unfolding firstOf nearest now g′ fresh slot q
     now-listed = listed rank rank-order (Own E p g′) (own-tight E p g′) k now (placesOf G p g′ (range 0 tiles))
-        (own-places E L p home g′ (range 0 tiles) (filled E g′ ag′ (range 0 tiles) (below E)))
+        (own-places E L p home g′ (range 0 tiles) (agrees-filled E g′ ag′ (range 0 tiles) (tiles-below E)))
         (first-listed p g′ t (b .earlier) q (b .later) (range 0 tiles) (refill-here E g t fresh) (b .silent) (other .4)
         (range-mem t 0 tiles (omega arith) (omega arith)))
-        (let c = few (range 0 tiles) (below E) in omega arith)
+        (let c = few (range 0 tiles) (tiles-below E) in omega arith)
 
     -- in the town as it was, the place of that number has another cue
     now-new : List·Memᴰ now (firstOf E k p g) → ⊥
@@ -264,7 +264,7 @@ module _ {G : Geometry} (E : Directory G) (O : G .Box) (k : ℕ) where
         let l = placesOf G p g (range 0 tiles) in
         let h = all-take (Own E p g) k (sort rank l)
         (all-perm (Own E p g) (Permᴰ·symm (sort-is-perm rank l))
-        (own-places E L p home g (range 0 tiles) (filled E g ag (range 0 tiles) (below E)))) in
+        (own-places E L p home g (range 0 tiles) (agrees-filled E g ag (range 0 tiles) (tiles-below E)))) in
         let e : placeOf E p g (t * slots + slot) ≡ some now = all-mem (Own E p g) h m in
         let c = slot-small in
         let d : (t * slots + slot) / slots ≡ t = omega arith in

@@ -18,16 +18,17 @@ use Rattle.search.specs.Pruning.{pruned}
 use Rattle.search.specs.Run.{Reading, Place, Checked, placesOf, contents, candidate, byKey, queue}
 use Rattle.search.specs.Run.{fullQueue, ahead, aheadOf, enough, answer, opening, serve, follow, run, join}
 use Rattle.search.proofs.Answered.{filling-for}
-use Rattle.search.proofs.Equation.{Open, extra, open-perm, more-passed, new-passed, new-open, step, still-open}
+use Rattle.search.proofs.Equation.{Open, extra, open-perm, more-passed, new-passed, new-open, pass-one}
+use Rattle.search.proofs.Equation.{still-open}
 use Rattle.search.proofs.Lists.{all-map, all-any, all-right, count-append, count-le, count-none, count-perm}
 use Rattle.search.proofs.Lists.{all-perm, filter-all, filter-filter}
 use Rattle.search.proofs.Pairs.{lex-less, lex-trans}
 use Rattle.search.proofs.Places.{by-key-order, placesOf-append, placesOf-perm, placesOf-same, Known, later-none}
-use Rattle.search.proofs.Pruning.{below, closerThan}
+use Rattle.search.proofs.Pruning.{tiles-below, closerThan}
 use Rattle.search.proofs.Queue.{queue-tiles}
 use Rattle.search.proofs.Run.{contents-accepted, enoughFor}
 use Rattle.search.proofs.Sort.{sort-is-perm, sort-sorted, sort-filter, order-irrefl}
-use Rattle.search.proofs.Sound.{filled, pruned-passes}
+use Rattle.search.proofs.Sound.{agrees-filled, pruned-passes}
 
 module _ {G : Geometry} (E : Directory G) (O : G .Box) (k : ℕ) where
   open Geometry G using (Site, Stop, Within)
@@ -51,11 +52,11 @@ module _ {G : Geometry} (E : Directory G) (O : G .Box) (k : ℕ) where
   unfolding fullQueue
   full-tiles p =
       all-perm (λ t. t < tiles) (Permᴰ·symm (sort-is-perm (byKey E p) _))
-      (filter-all (λ t. t < tiles) (λ t. ltb 0 (ranked E t)) (range 0 tiles) (below E))
+      (filter-all (λ t. t < tiles) (λ t. ltb 0 (ranked E t)) (range 0 tiles) (tiles-below E))
 
   module _ (L : Lawful E O) (read : Reading G) (checked : Checked E read) where
-    abbrev Passed : List ℕ → List ℕ → Type 0
-    Passed opened pre = All (λ t. member t opened ≡ true) pre
+    abbrev PassedOpen : List ℕ → List ℕ → Type 0
+    PassedOpen opened pre = All (λ t. member t opened ≡ true) pre
 
     module _ (p : Stop) (home : Within O p) where
       -- a place of a tile closer than b is ahead of b's key
@@ -76,7 +77,7 @@ module _ {G : Geometry} (E : Directory G) (O : G .Box) (k : ℕ) where
       -- k sites of open tiles are ahead of the key of a pruned tile, where the tiles passed are open and all that wait
       -- come later
       pruned-ahead : (pre ts opened : List ℕ) → queue E O k p ≡ pre ++ ts → Open E O k L read checked opened
-          → Passed opened pre → (b : ℕ) → b < tiles → pruned E O k b ≡ true → All (λ u. byKey E p u b ≡ false) ts
+          → PassedOpen opened pre → (b : ℕ) → b < tiles → pruned E O k b ≡ true → All (λ u. byKey E p u b ≡ false) ts
           → k ≤ count (ahead E p b) (placesOf G p (contents G read) opened)
       pruned-ahead pre ts opened e o h b hb s late =
           let fill = filling-for L k read checked p home in
@@ -90,7 +91,7 @@ module _ {G : Geometry} (E : Directory G) (O : G .Box) (k : ℕ) where
           let split = ap (λ l. count r (placesOf G p g l)) e ∙ ap (count r) (placesOf-append E p g pre ts)
           ∙ count-append r (placesOf G p g pre) (placesOf G p g ts) in
           let wait = count-none r (placesOf G p g ts) (later-none E L p home g b ts
-          (filled E g ag ts (all-right _ pre ts (rw e at (queue-tiles E O k p)))) late) in
+          (agrees-filled E g ag ts (all-right _ pre ts (rw e at (queue-tiles E O k p)))) late) in
           let found = count-perm r (placesOf-perm E p g (open-perm E O k L read checked p pre ts opened e o h))
           ∙ ap (count r) (placesOf-append E p g pre x)
           ∙ count-append r (placesOf G p g pre) (placesOf G p g x) in
@@ -122,7 +123,7 @@ module _ {G : Geometry} (E : Directory G) (O : G .Box) (k : ℕ) where
 
       -- the tiles that wait, with the pruned ones and without
       serve-alike : (pre ts opened : List ℕ) → queue E O k p ≡ pre ++ filter free ts → Sorted (byKey E p) ts
-          → All (λ t. t < tiles) ts → Open E O k L read checked opened → Passed opened pre
+          → All (λ t. t < tiles) ts → Open E O k L read checked opened → PassedOpen opened pre
           → serve E k read p ts opened ≡ serve E k read p (filter free ts) opened
       unfolding filter
       serve-alike pre [] opened e s b o h = refl
@@ -134,7 +135,7 @@ module _ {G : Geometry} (E : Directory G) (O : G .Box) (k : ℕ) where
           ∙ sym (ends-before t (filter free ts) opened late n)))
           (λ c.
           let i : queue E O k p ≡ pre ++ t ∷ filter free ts = rw c at e in
-          let next = step E O k L read checked pre t (filter free ts) (queue E O k p) i in
+          let next = pass-one E O k L read checked pre t (filter free ts) (queue E O k p) i in
           rw c (serve-cons t ts (filter free ts) opened
           (λ m. serve-alike (pre ++ t ∷ []) ts opened next (s .1) (b .1) o
           (more-passed E O k L read checked t pre opened h m))

@@ -135,25 +135,25 @@ module _ (k : ℕ) where
   unpad a b l h e = same-front a b (replicate k _) (replicate k _) k l h e
 
   -- place j of stop i
-  pub rows-at : (ls : List (List Place)) (i j : ℕ) (d : Place) → i < length ls → j < k
+  pub inRows-at : (ls : List (List Place)) (i j : ℕ) (d : Place) → i < length ls → j < k
       → getD (inRows k ls) (i * k + j) d ≡ getD (padded k (getD ls i [])) j d
   unfolding inRows
-  rows-at [] i j d h g = absurd (omega arith)
-  rows-at (l ∷ ls) zero j d h g =
+  inRows-at [] i j d h g = absurd (omega arith)
+  inRows-at (l ∷ ls) zero j d h g =
       let e : 0 * k + j ≡ j = ap (λ (n : ℕ). n + j) (zero-mul k) ∙ zero-add j in
       let f = padded-length l in
       rw e (List·getD-append (padded k l) (inRows k ls) d j (omega arith))
-  rows-at (l ∷ ls) (suc i) j d h g =
+  inRows-at (l ∷ ls) (suc i) j d h g =
       let f = padded-length l in
       let m = suc-mul i k in
       let e : suc i * k + j ≡ length (padded k l) + (i * k + j) = omega arith in
-      rw e (getD-append-add (padded k l) (inRows k ls) (i * k + j) d ∙ rows-at ls i j d (omega arith) g)
+      rw e (getD-append-add (padded k l) (inRows k ls) (i * k + j) d ∙ inRows-at ls i j d (omega arith) g)
 
-  pub rows-length : (ls : List (List Place)) → length (inRows k ls) ≡ length ls * k
+  pub inRows-length : (ls : List (List Place)) → length (inRows k ls) ≡ length ls * k
   unfolding inRows
-  rows-length [] = sym (zero-mul k)
-  rows-length (l ∷ ls) =
-      let ih = rows-length ls in
+  inRows-length [] = sym (zero-mul k)
+  inRows-length (l ∷ ls) =
+      let ih = inRows-length ls in
       let f = padded-length l in
       let m = suc-mul (length ls) k in
       let e = length-append (padded k l) (inRows k ls) in

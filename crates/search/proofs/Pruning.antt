@@ -26,8 +26,8 @@ module _ {G : Geometry} (E : Directory G) where
   abbrev pub allTiles : List ℕ
   allTiles = range 0 tiles
 
-  pub below : All (λ t. t < tiles) allTiles
-  below = range-below 0 tiles tiles (omega arith)
+  pub tiles-below : All (λ t. t < tiles) allTiles
+  tiles-below = range-below 0 tiles tiles (omega arith)
 
 module _ {G : Geometry} (E : Directory G) (O : G .Box) (k : ℕ) where
   open Geometry G using (closer)
@@ -44,7 +44,7 @@ module _ {G : Geometry} (E : Directory G) (O : G .Box) (k : ℕ) where
     -- what is closer than c is closer than b, if c is
     deeper : (c b : ℕ) → c < tiles → b < tiles → closerThan b c ≡ true
         → All (λ e. closerThan c e ≡ true → closerThan b e ≡ true) (allTiles E)
-    deeper c b hc hb n = all-map (allTiles E) (λ e he f. L .closer-trans e c b he hc hb f n) (below E)
+    deeper c b hc hb n = all-map (allTiles E) (λ e he f. L .closer-trans e c b he hc hb f n) (tiles-below E)
 
     step : (b : ℕ) → b < tiles → pruned E O k b ≡ true
         → ((c : ℕ) → c < tiles → count (closerThan c) (allTiles E) < count (closerThan b) (allTiles E)
@@ -59,7 +59,7 @@ module _ {G : Geometry} (E : Directory G) (O : G .Box) (k : ℕ) where
         go (inl f) =
             let c = f .0 in
             let both = and-both (pruned E O k c) (closerThan b c) (f .2) in
-            let hc : c < tiles = all-mem (λ t. t < tiles) (below E) (f .1) in
+            let hc : c < tiles = all-mem (λ t. t < tiles) (tiles-below E) (f .1) in
             let d = deeper c b hc hb (both .1) in
             let r = rec c hc (count-lt (closerThan c) (closerThan b) d (f .1) (L .closer-irrefl c hc) (both .1))
             (both .0) in

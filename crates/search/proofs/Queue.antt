@@ -15,7 +15,7 @@ use Rattle.search.specs.Run.{candidate, byKey, queue}
 use Rattle.search.proofs.Lists.{all-both, all-perm, mem-perm, filter-all, filter-passes, filter-mem}
 use Rattle.search.proofs.Lists.{filter-distinct, range-mem, range-distinct, distinct-perm}
 use Rattle.search.proofs.Places.{by-key-order}
-use Rattle.search.proofs.Pruning.{below}
+use Rattle.search.proofs.Pruning.{tiles-below}
 use Rattle.search.proofs.Sort.{sort-is-perm, sort-sorted}
 
 module _ {G : Geometry} (E : Directory G) (O : G .Box) (k : ℕ) where
@@ -43,7 +43,8 @@ module _ {G : Geometry} (E : Directory G) (O : G .Box) (k : ℕ) where
     queue-candidates = queue-all (λ t. candidate E O k t ≡ true) (filter-passes (candidate E O k) (range 0 tiles))
 
     pub queue-tiles : All (λ t. t < tiles) (queue E O k p)
-    queue-tiles = queue-all (λ t. t < tiles) (filter-all (λ t. t < tiles) (candidate E O k) (range 0 tiles) (below E))
+    queue-tiles =
+        queue-all (λ t. t < tiles) (filter-all (λ t. t < tiles) (candidate E O k) (range 0 tiles) (tiles-below E))
 
     pub queue-chosen : All Chosen (queue E O k p)
     queue-chosen =

@@ -21,9 +21,9 @@ use Rattle.search.proofs.Lists.{range-above, range-mem, distinct-perm}
 use Rattle.search.proofs.Pairs.{lex-tile-slot}
 use Rattle.search.proofs.Places.{rank-order, placesOf-all, placesOf-length, known, listing-from, placesOf-known}
 use Rattle.search.proofs.Places.{placeOf, Own, own-tight, own-places}
-use Rattle.search.proofs.Pruning.{below}
+use Rattle.search.proofs.Pruning.{tiles-below}
 use Rattle.search.proofs.Sort.{sort-is-perm, sort-sorted, sort-length, order-irrefl, strictly}
-use Rattle.search.proofs.Sound.{filled}
+use Rattle.search.proofs.Sound.{agrees-filled}
 
 distinct-append : {A : Type 0} (l m : List A) → Distinct l → Distinct m → All (λ x. All (λ y. y ≡ x → ⊥) m) l
     → Distinct (l ++ m)
@@ -95,7 +95,7 @@ module _ {G : Geometry} (E : Directory G) (k : ℕ) where
     places-sites : All (SiteOf E p g) (placesOf G p g (range 0 tiles))
     places-sites = placesOf-all E (SiteOf E p g) p g (range 0 tiles)
         (all-map (range 0 tiles) (λ t ht. listing-sites t 0 (t * slots) (g t) ht (omega arith)
-        (λ i. ap (getElem? (g t)) (zero-add i))) (below E))
+        (λ i. ap (getElem? (g t)) (zero-add i))) (tiles-below E))
 
     pub first-short : length (firstOf E k p g) ≤ k
     unfolding firstOf nearest
@@ -144,7 +144,7 @@ module _ {G : Geometry} (E : Directory G) (k : ℕ) where
     later-tiles : (a n : ℕ) → a + n ≤ tiles → All (λ y. a ≤ y .site / slots) (placesOf G p g (range a n))
     later-tiles a n h =
         placesOf-known E L p home g (λ y. a ≤ y .site / slots) (λ t. a ≤ t) (range a n)
-        (filled E g ag (range a n) (range-below a n tiles h))
+        (agrees-filled E g ag (range a n) (range-below a n tiles h))
         (range-above a n a (omega arith)) (λ t y l i. let e = i .tile in omega arith)
 
     places-distinct : (a n : ℕ) → a + n ≤ tiles → Distinct (placesOf G p g (range a n))
@@ -170,7 +170,7 @@ module _ {G : Geometry} (E : Directory G) (k : ℕ) where
 
     sorted-own : All (Own E p g) sorted
     sorted-own = all-perm (Own E p g) (Permᴰ·symm (sort-is-perm rank (placesOf G p g (range 0 tiles))))
-        (own-places E L p home g (range 0 tiles) (filled E g ag (range 0 tiles) (below E)))
+        (own-places E L p home g (range 0 tiles) (agrees-filled E g ag (range 0 tiles) (tiles-below E)))
 
     sorted-strict : Strict rank sorted
     sorted-strict = strictly rank rank-order (Own E p g) (own-tight E p g) sorted sorted-own
@@ -228,4 +228,4 @@ module _ {G : Geometry} (E : Directory G) (k : ℕ) where
     first-length =
         length-take k sorted
         ∙ ap (min k) (sort-length rank (placesOf G p g (range 0 tiles))
-        ∙ placesOf-length E p g (range 0 tiles) (filled E g ag (range 0 tiles) (below E)))
+        ∙ placesOf-length E p g (range 0 tiles) (agrees-filled E g ag (range 0 tiles) (tiles-below E)))

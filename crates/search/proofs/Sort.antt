@@ -162,13 +162,13 @@ module _ {A : Type 0} (lt : A → A → Bool) (o : Order lt) where
   between x y z e f = by-test (lt y x) (λ g. g) (λ g. clash e (o .negtrans z y x f g))
 
 module _ {A : Type 0} (lt : A → A → Bool) where
-  pub skip : (x y : A) (l : List A) → lt y x ≡ true → insert lt x (y ∷ l) ≡ y ∷ insert lt x l
+  pub insert-skip : (x y : A) (l : List A) → lt y x ≡ true → insert lt x (y ∷ l) ≡ y ∷ insert lt x l
   unfolding insert
-  skip x y l e = rw e
+  insert-skip x y l e = rw e
 
-  pub stop : (x y : A) (l : List A) → lt y x ≡ false → insert lt x (y ∷ l) ≡ x ∷ y ∷ l
+  pub insert-stop : (x y : A) (l : List A) → lt y x ≡ false → insert lt x (y ∷ l) ≡ x ∷ y ∷ l
   unfolding insert
-  stop x y l e = rw e
+  insert-stop x y l e = rw e
 
   tip : (x : A) → insert lt x [] ≡ x ∷ []
   unfolding insert
@@ -179,18 +179,18 @@ module _ {A : Type 0} (lt : A → A → Bool) (o : Order lt) (P : A → Type 0) 
   two : (x y : A) (m : List A) → P x → P y → insert lt x m ≡ x ∷ m → insert lt y m ≡ y ∷ m
       → insert lt x (y ∷ m) ≡ insert lt y (x ∷ m)
   two x y m px py p q = by-test (lt y x)
-      (λ g. let a = o .asym y x g in simp (skip, stop, p))
-      (λ g. by-test (lt x y) (λ a. simp (skip, stop, q)) (λ a. rw (tight x y px py a g)))
+      (λ g. let a = o .asym y x g in simp (insert-skip, insert-stop, p))
+      (λ g. by-test (lt x y) (λ a. simp (insert-skip, insert-stop, q)) (λ a. rw (tight x y px py a g)))
 
   insert-comm : (x y : A) (l : List A) → P x → P y → insert lt x (insert lt y l) ≡ insert lt y (insert lt x l)
   insert-comm x y [] px py = simp tip (two x y [] px py (tip lt x) (tip lt y))
   insert-comm x y (z ∷ l) px py = by-test (lt z x)
       (λ e. by-test (lt z y)
-      (λ f. simp (skip, insert-comm x y l px py))
-      (λ f. let g = between lt o x y z e f in simp (skip, stop)))
+      (λ f. simp (insert-skip, insert-comm x y l px py))
+      (λ f. let g = between lt o x y z e f in simp (insert-skip, insert-stop)))
       (λ e. by-test (lt z y)
-      (λ f. let g = between lt o y x z f e in simp (skip, stop))
-      (λ f. simp stop (two x y (z ∷ l) px py (stop lt x z l e) (stop lt y z l f))))
+      (λ f. let g = between lt o y x z f e in simp (insert-skip, insert-stop))
+      (λ f. simp insert-stop (two x y (z ∷ l) px py (insert-stop lt x z l e) (insert-stop lt y z l f))))
 
   -- the order of the list to be sorted does not matter
   pub sort-perm : {l m : List A} → List·Permᴰ l m → All P l → sort lt l ≡ sort lt m

@@ -21,7 +21,7 @@ use Rattle.search.proofs.Lists.{filter-all, filter-passes, filter-split
 use Rattle.search.proofs.Pairs.{lex-less}
 use Rattle.search.proofs.Places.{by-key-order, placesOf-perm, placesOf-all, Filled, tile-length, Known, known}
 use Rattle.search.proofs.Places.{later-behind, nearest-front}
-use Rattle.search.proofs.Pruning.{allTiles, below, closerThan, freeCloser, pruned-by-free}
+use Rattle.search.proofs.Pruning.{allTiles, tiles-below, closerThan, freeCloser, pruned-by-free}
 use Rattle.search.proofs.Queue.{queue-tiles, queue-sorted}
 use Rattle.search.proofs.Sort.{sort-is-perm, sorted-right, order-irrefl}
 use Rattle.search.proofs.Walk.{Enough, Walked}
@@ -29,8 +29,8 @@ use Rattle.search.proofs.Walk.{Enough, Walked}
 module _ {G : Geometry} (E : Directory G) where
   open Directory E using (tiles)
 
-  pub filled : (g : Town G) → Agrees E g → (ts : List ℕ) → All (λ t. t < tiles) ts → All (Filled E g) ts
-  filled g ag ts h = all-map ts (λ t ht. (ht, ag t ht)) h
+  pub agrees-filled : (g : Town G) → Agrees E g → (ts : List ℕ) → All (λ t. t < tiles) ts → All (Filled E g) ts
+  agrees-filled g ag ts h = all-map ts (λ t ht. (ht, ag t ht)) h
 
 module _ {G : Geometry} (E : Directory G) (O : G .Box) (k : ℕ) where
   open Geometry G using (Stop, Within)
@@ -42,7 +42,7 @@ module _ {G : Geometry} (E : Directory G) (O : G .Box) (k : ℕ) where
 
   others-tiles : All (λ t. t < tiles) others
   unfolding others
-  others-tiles = filter-all (λ t. t < tiles) (λ t. not (candidate E O k t)) (range 0 tiles) (below E)
+  others-tiles = filter-all (λ t. t < tiles) (λ t. not (candidate E O k t)) (range 0 tiles) (tiles-below E)
 
   others-not : All (λ t. not (candidate E O k t) ≡ true) others
   unfolding others
@@ -92,7 +92,7 @@ module _ {G : Geometry} (E : Directory G) (O : G .Box) (k : ℕ) where
     unfolding queue
     pruned-passes r b hb s f =
         let w = pruned-by-free E O k L b hb s in
-        let c = total-count r b (allTiles E) (below E)
+        let c = total-count r b (allTiles E) (tiles-below E)
         (λ t ht m. all-map (tilePlaces G p t (g t)) (λ x j. f t x ht m j) (known E L p home g t (ht, ag t ht))) in
         let q = count-perm r (placesOf-perm E p g
         (sort-is-perm (byKey E p) (filter (candidate E O k) (range 0 tiles)))) in
@@ -129,15 +129,15 @@ module _ {G : Geometry} (E : Directory G) (O : G .Box) (k : ℕ) where
     unfolding placesOf
     rest-behind [] l s h e = tt
     rest-behind (t ∷ ts) l s h e =
-        later-behind E L p home g k t (t ∷ ts) l (filled E g ag (t ∷ ts) h)
+        later-behind E L p home g k t (t ∷ ts) l (agrees-filled E g ag (t ∷ ts) h)
         (order-irrefl (byKey E p) (by-key-order E p) t, s .0) e
 
     -- neither the pruned and the empty tiles nor those left unread change the first k
     pub walk-first : (w : Walked E k p g (queue E O k p) []) → nearest G k p g (w .pre) ≡ firstOf E k p g
     unfolding firstOf
     walk-first w =
-        let all = filled E g ag (range 0 tiles) (below E) in
-        let hq = filled E g ag (queue E O k p) (queue-tiles E O k p) in
+        let all = agrees-filled E g ag (range 0 tiles) (tiles-below E) in
+        let hq = agrees-filled E g ag (queue E O k p) (queue-tiles E O k p) in
         let ht = all-right _ (w .pre) (w .rest) (rw (w .split) at (queue-tiles E O k p)) in
         let sq = sorted-right (byKey E p) (w .pre) (w .rest) (rw (w .split) at (queue-sorted E O k p)) in
         let others-behind = others-places _ (λ b y hb s i. pruned-behind b hb s y i) in

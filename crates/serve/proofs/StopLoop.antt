@@ -27,8 +27,8 @@ use Rattle.serve.specs.Inner.Serving.{walkOf, walksOf, lastLength, StopS
 use Rattle.serve.proofs.Marking.{length-mark-all, mark-all-append}
 
 module _ (f : List ℕ) (h : Header) (order : List ℕ) (ps : List (List ℤ)) (k : ℕ) (o₀ : Slices) where
-  abbrev pub whole : Trace (List (List Place))
-  whole = walksOf f h order ps k
+  abbrev pub wholeRun : Trace (List (List Place))
+  wholeRun = walksOf f h order ps k
 
   -- the stops from i on
   abbrev pub rest : ℕ → Trace (List (List Place))
@@ -40,7 +40,7 @@ module _ (f : List ℕ) (h : Header) (order : List ℕ) (ps : List (List ℤ)) (
   -- what the lists of the stops still to come make of the whole
   pub record Ends (o : Slices) (at used : ℕ) (ls : List (List Place)) : Type 0 where
     pub all : List (List Place)
-    pub out : whole .out ≡ accepted all
+    pub out : wholeRun .out ≡ accepted all
     pub laid : lay (o .lists) at (inRows k ls) ≡ lay (o₀ .lists) 0 (inRows k all)
     pub last : lastLength used ls ≡ lastLength 0 all
 
@@ -52,12 +52,12 @@ module _ (f : List ℕ) (h : Header) (order : List ℕ) (ps : List (List ℤ)) (
     pub clear : Clear (o .lists) at allPlaces
     pub opens : OpenedOpen f h (o .marks)
     pub fine : (ls : List (List Place)) → rest i .out ≡ accepted ls → Ends o at used ls
-    pub bad : (a b : ℕ) → rest i .out ≡ refused a b → whole .out ≡ refused a b
-    pub asked : markAll (o₀ .marks) (whole .asked) ≡ markAll (o .marks) (rest i .asked)
+    pub bad : (a b : ℕ) → rest i .out ≡ refused a b → wholeRun .out ≡ refused a b
+    pub asked : markAll (o₀ .marks) (wholeRun .asked) ≡ markAll (o .marks) (rest i .asked)
     pub under : cleared 0 allPlaces (h .tiles) o ≡ cleared 0 allPlaces (h .tiles) o₀
 
-  pub turn-starts : Clear (o₀ .lists) 0 allPlaces → OpenedOpen f h (o₀ .marks) → StopTurn o₀ 0 0 0
-  turn-starts clear opens = record {
+  pub stop-starts : Clear (o₀ .lists) 0 allPlaces → OpenedOpen f h (o₀ .marks) → StopTurn o₀ 0 0 0
+  stop-starts clear opens = record {
     bound = omega arith;
     place = omega arith;
     lengths = same-lengths (o₀ .lists);
@@ -89,7 +89,7 @@ module _ (f : List ℕ) (h : Header) (order : List ℕ) (ps : List (List ℤ)) (
 module _ {f : List ℕ} {h : Header} {order : List ℕ} {ps : List (List ℤ)} {k : ℕ} {o₀ o : Slices} {i at used : ℕ}
     (turn : StopTurn f h order ps k o₀ o i at used) where
   abbrev W : Trace (List (List Place))
-  W = whole f h order ps k o₀
+  W = wholeRun f h order ps k o₀
 
   abbrev R : ℕ → Trace (List (List Place))
   R j = rest f h order ps k o₀ j
@@ -98,9 +98,9 @@ module _ {f : List ℕ} {h : Header} {order : List ℕ} {ps : List (List ℤ)} {
   N = allPlaces f h order ps k o₀
 
   -- no stop is left
-  pub turn-ends : length ps ≤ i → StopsServed h W k N o₀ (accepted used) o
+  pub stop-ends : length ps ≤ i → StopsServed h W k N o₀ (accepted used) o
   unfolding markAll inRows
-  turn-ends l = record {
+  stop-ends l = record {
     outcome = rw (end .out) (ap accepted (end .last));
     answered = λ ls q. rw (← (accepted-injective (sym (end .out) ∙ q)), ← (end .laid), lay-nil (o .lists) at, marks);
     under = turn .under;
@@ -123,9 +123,9 @@ module _ {f : List ℕ} {h : Header} {order : List ℕ} {ps : List (List ℤ)} {
         let c = mul-le-mul-right {m = suc i} {n = length ps} k l in
         omega (arith, turn .place)
 
-    pub turn-ready : 0 < k → Long (o₀ .lists) N → Ready (o .lists) at 0 k
+    pub stop-ready : 0 < k → Long (o₀ .lists) N → Ready (o .lists) at 0 k
     unfolding places tabulate
-    turn-ready some long =
+    stop-ready some long =
         let w = fits in
         record {
           some = some;
@@ -145,8 +145,8 @@ module _ {f : List ℕ} {h : Header} {order : List ℕ} {ps : List (List ℤ)} {
       stops-are = rw (add-one i) (drop-cons ps i [] l)
 
       -- it is refused
-      pub turn-refused : (a b : ℕ) → r ≡ refused a b → StopsServed h W k N o₀ (refused a b) o′
-      turn-refused a b e =
+      pub stop-refused : (a b : ℕ) → r ≡ refused a b → StopsServed h W k N o₀ (refused a b) o′
+      stop-refused a b e =
           let q : stop .out ≡ refused a b = lengths (stop .out) (sym (x .outcome) ∙ e) in
           let w : W .out ≡ refused a b = turn .bad a b (rw stops-are
           (walks-refused _ (getD ps i []) _ a b q)) in
@@ -204,8 +204,8 @@ module _ {f : List ℕ} {h : Header} {order : List ℕ} {ps : List (List ℤ)} {
               last = ap (λ (y : ℕ). lastLength y ls) (sym number) ∙ p .last;
             }
 
-        pub turn-next : StopTurn f h order ps k o₀ o′ (i + 1) (at + k) n
-        turn-next =
+        pub stop-next : StopTurn f h order ps k o₀ o′ (i + 1) (at + k) n
+        stop-next =
             let u = suc-mul i k in
             let v : (i + 1) * k ≡ suc i * k = ap (λ (j : ℕ). j * k) (add-one i) in
             let w = fits in

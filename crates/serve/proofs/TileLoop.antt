@@ -38,8 +38,8 @@ use Rattle.serve.specs.Inner.Serving.{walkOf, withSites, afterTile, Stop
 
 module _ (f : List ℕ) (h : Header) (order : List ℕ) (g : Target) (o₀ : Slices) where
   -- the whole walk, and what is left of it
-  abbrev pub whole : Trace (List Place)
-  whole = walkOf f h order (g .stop) (g .k)
+  abbrev pub wholeWalk : Trace (List Place)
+  wholeWalk = walkOf f h order (g .stop) (g .k)
 
   abbrev pub rest : List ℕ → List Place → Trace (List Place)
   rest keys l =
@@ -56,16 +56,16 @@ module _ (f : List ℕ) (h : Header) (order : List ℕ) (g : Target) (o₀ : Sli
     pub opens : OpenedOpen f h (o .marks)
     pub lengths : SameLengths (o .lists) (o₀ .lists)
     pub long : length (o .marks) ≡ length (o₀ .marks)
-    pub out : whole .out ≡ rest keys (found o used) .out
-    pub asked : markAll (o₀ .marks) (whole .asked) ≡ markAll (o .marks) (rest keys (found o used) .asked)
+    pub out : wholeWalk .out ≡ rest keys (found o used) .out
+    pub asked : markAll (o₀ .marks) (wholeWalk .asked) ≡ markAll (o .marks) (rest keys (found o used) .asked)
     pub under : over (o .marks) 0 (replicate (h .tiles) 0) ≡ over (o₀ .marks) 0 (replicate (h .tiles) 0)
 
   -- at the start: all tiles wait, with their keys
-  pub turn-starts : {keys : List ℕ} → Ready (o₀ .lists) (g .at) 0 (g .k) → Keyed (entries f h) (g .stop) order keys
+  pub tile-starts : {keys : List ℕ} → Ready (o₀ .lists) (g .at) 0 (g .k) → Keyed (entries f h) (g .stop) order keys
       → living order keys ≡ order → OpenedOpen f h (o₀ .marks) → TileTurn keys o₀ 0
   unfolding places tabulate
-  turn-starts {keys} ready keyed all opens =
-      let w : rest keys [] ≡ whole =
+  tile-starts {keys} ready keyed all opens =
+      let w : rest keys [] ≡ wholeWalk =
       ap (λ z. cutWalk (entries f h) (g .k) (openingOf f h) (g .stop) (inOrder (entries f h) z (g .stop)) []) all in
       record {
         ready = ready;
@@ -83,7 +83,7 @@ module _ (f : List ℕ) (h : Header) (order : List ℕ) (g : Target) (o₀ : Sli
 module _ {f : List ℕ} {h : Header} {order : List ℕ} {g : Target} {o₀ : Slices} {keys : List ℕ} {o : Slices} {used : ℕ}
     (turn : TileTurn f h order g o₀ keys o used) where
   abbrev W : Trace (List Place)
-  W = whole f h order g o₀
+  W = wholeWalk f h order g o₀
 
   abbrev R : List ℕ → List Place → Trace (List Place)
   R ks l = rest f h order g o₀ ks l
@@ -111,10 +111,10 @@ module _ {f : List ℕ} {h : Header} {order : List ℕ} {g : Target} {o₀ : Sli
       rw (lists, turn .under)
 
   -- the walk ends here, with this list
-  turn-ends : R keys (F o used) ≡ record { asked = []; out = accepted (F o used) }
+  tile-ends : R keys (F o used) ≡ record { asked = []; out = accepted (F o used) }
       → StopServed f h W (g .k) (g .at) o₀ (accepted used) o
   unfolding markAll
-  turn-ends e =
+  tile-ends e =
       let n = places-length (o .lists) (g .at) used in
       let answer : W .out ≡ accepted (F o used) = turn .out ∙ ap (λ w. w .out) e in
       let same : (l : List Place) → W .out ≡ accepted l → F o used ≡ l =
@@ -132,43 +132,43 @@ module _ {f : List ℕ} {h : Header} {order : List ℕ} {g : Target} {o₀ : Sli
   -- the next key
   module _ (r : Least) (s : r ≡ leastKey keys 0 (length order)) where
     -- no tile waits
-    pub turn-none : none ≤ r .key → StopServed f h W (g .k) (g .at) o₀ (accepted used) o
+    pub tile-none : none ≤ r .key → StopServed f h W (g .k) (g .at) o₀ (accepted used) o
     unfolding sort
-    turn-none e = turn-ends (rw (living-none order keys (rw s at e))
+    tile-none e = tile-ends (rw (living-none order keys (rw s at e))
         (walk-none ends adds (openingOf f h) (F o used)))
 
     module _ (below : r .key < none) where
       abbrev tile : ℕ
       tile = getD order (r .at) 0
 
-      abbrev others : List ℕ
-      others = inOrder (entries f h) (living order (set keys (r .at) none)) (g .stop)
+      abbrev laterTiles : List ℕ
+      laterTiles = inOrder (entries f h) (living order (set keys (r .at) none)) (g .stop)
 
       key-is : r .key ≡ near (entries f h) (g .stop) tile
       key-is =
           let a = rw (← s) at (least-here keys 0 (length order) (rw s at below)) in
           sym (a .2) ∙ turn .keyed .own (r .at) (omega (arith, a .1)) (omega (arith, a .2))
 
-      waits : inOrder (entries f h) (living order keys) (g .stop) ≡ tile ∷ others
-      waits = living-next (turn .keyed) r s below
+      waits-first : inOrder (entries f h) (living order keys) (g .stop) ≡ tile ∷ laterTiles
+      waits-first = living-next (turn .keyed) r s below
 
       -- the list is full ahead of the next key
-      pub turn-full : lastAhead (g .k) (F o used) (r .key) tile ≡ true
+      pub tile-full : lastAhead (g .k) (F o used) (r .key) tile ≡ true
           → StopServed f h W (g .k) (g .at) o₀ (accepted used) o
-      turn-full e = turn-ends (rw waits
-          (walk-ends ends adds (openingOf f h) tile others (F o used) (rw (← key-is) e)))
+      tile-full e = tile-ends (rw waits-first
+          (walk-ends ends adds (openingOf f h) tile laterTiles (F o used) (rw (← key-is) e)))
 
       module _ (free : lastAhead (g .k) (F o used) (r .key) tile ≡ false) where
-        not-full : lastAhead (g .k) (F o used) (near (entries f h) (g .stop) tile) tile ≡ false
-        not-full = rw (← key-is) free
+        near-not-full : lastAhead (g .k) (F o used) (near (entries f h) (g .stop) tile) tile ≡ false
+        near-not-full = rw (← key-is) free
 
         -- its opening is refused
-        pub turn-refused : (n b : ℕ) → openingOf f h tile ≡ refused n b
+        pub tile-refused : (n b : ℕ) → openingOf f h tile ≡ refused n b
             → StopServed f h W (g .k) (g .at) o₀ (refused n b) o
-        turn-refused n b e =
-            let q : W .out ≡ refused n b = turn .out ∙ rw waits
+        tile-refused n b e =
+            let q : W .out ≡ refused n b = turn .out ∙ rw waits-first
             (ap (λ w. w .out)
-            (walk-refused ends adds (openingOf f h) tile others (F o used) n b not-full e)) in
+            (walk-refused ends adds (openingOf f h) tile laterTiles (F o used) n b near-not-full e)) in
             record {
               outcome = rw q;
               few = λ l w. accepted-refused w q;
@@ -194,17 +194,17 @@ module _ {f : List ℕ} {h : Header} {order : List ℕ} {g : Target} {o₀ : Sli
             asked = tile ∷ R (set keys (r .at) none) (F next n) .asked;
             out = R (set keys (r .at) none) (F next n) .out;
           }
-          walk-is = rw (waits, list-is)
-              (walk-opens ends adds (openingOf f h) tile others (F o used) l not-full e)
+          walk-is = rw (waits-first, list-is)
+              (walk-opens ends adds (openingOf f h) tile laterTiles (F o used) l near-not-full e)
 
           opens-next : OpenedOpen f h (set (o .marks) tile openedMark)
           opens-next t i q = by-test (eqb t tile)
               (λ z. rw (eqb-true t tile z, ← (opens-own-town f h tile e)) e)
               (λ z. turn .opens t i (sym (getD-set-other (o .marks) tile t openedMark 0 (eqb-false t tile z)) ∙ q))
 
-          pub turn-next : TileTurn f h order g o₀ (set keys (r .at) none) next n
+          pub tile-next : TileTurn f h order g o₀ (set keys (r .at) none) next n
           unfolding markAll
-          turn-next =
+          tile-next =
               let z = length-replicate {A = ℕ} (h .tiles) 0 in
               record {
                 ready = added-ready (turn .ready) added;

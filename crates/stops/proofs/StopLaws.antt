@@ -51,25 +51,25 @@ stops-length cols = points-length cols (stopCount cols)
 -- ---- the stops gathered as points: the loop's start, a turn, its end, and what is gathered
 
 module _ (cols : List (List ℤ)) where
-  pub gathering-starts : (l : List (List ℤ)) → over l 0 (rows cols 0 (stopCount cols - 0)) ≡ over l 0 (stopsOf cols)
-  gathering-starts l =
+  pub points-start : (l : List (List ℤ)) → over l 0 (rows cols 0 (stopCount cols - 0)) ≡ over l 0 (stopsOf cols)
+  points-start l =
       let e : stopCount cols - 0 ≡ stopCount cols = omega arith in
       rw (e, points-rows cols (stopCount cols))
 
-  pub gathering-turn : (l : List (List ℤ)) (i n : ℕ) → i < n
+  pub points-turn : (l : List (List ℤ)) (i n : ℕ) → i < n
       → over (set l i (stopAt cols i)) (i + 1) (rows cols (i + 1) (n - (i + 1))) ≡ over l i (rows cols i (n - i))
-  gathering-turn l i n h =
+  points-turn l i n h =
       let e : n - i ≡ suc (n - (i + 1)) = omega arith in
       rw (e, rows-next cols i (n - (i + 1)), over-cons l i (stopAt cols i) (rows cols (i + 1) (n - (i + 1))), add-one i)
 
-  pub gathering-done : (l : List (List ℤ)) (i n : ℕ) → n ≤ i → l ≡ over l i (rows cols i (n - i))
-  gathering-done l i n h =
+  pub points-done : (l : List (List ℤ)) (i n : ℕ) → n ≤ i → l ≡ over l i (rows cols i (n - i))
+  points-done l i n h =
       let e : n - i ≡ 0 = omega arith in
       rw (e, rows-none cols i, over-nil l i)
 
   -- they stand at the front
-  pub gathered : (l : List (List ℤ)) {m : List (List ℤ)} → m ≡ over l 0 (stopsOf cols) → stopCount cols ≤ length l
-      → take (stopCount cols) m ≡ stopsOf cols
-  gathered l e h =
+  pub points-gathered : (l : List (List ℤ)) {m : List (List ℤ)} → m ≡ over l 0 (stopsOf cols)
+      → stopCount cols ≤ length l → take (stopCount cols) m ≡ stopsOf cols
+  points-gathered l e h =
       let n = stops-length cols in
       rw (e, over-eq l 0 (stopsOf cols) (omega arith)) (take-at (stopsOf cols) _ (stopCount cols) n)

@@ -29,15 +29,15 @@ use Rattle.writer.specs.Write.{tilesFit, entryFits, listsFit, sitesFit, 
 use Rattle.writer.specs.Write.{writeExit}
 
 -- ---- test by test
-pub tiles-good : (t : ℕ) → tilesFit t ≡ true → (1 ≤ t) × (t ≤ maxTiles)
+pub tilesFit-good : (t : ℕ) → tilesFit t ≡ true → (1 ≤ t) × (t ≤ maxTiles)
 unfolding tilesFit
-tiles-good t e = let h = and-both _ _ e in (leb-true 1 t (h .0), leb-true t maxTiles (h .1))
+tilesFit-good t e = let h = and-both _ _ e in (leb-true 1 t (h .0), leb-true t maxTiles (h .1))
 
-pub entry-good : (boxes : List ℤ) (counts : List ℕ) (t : ℕ) → entryFits boxes counts t ≡ true →
+pub entryFits-good : (boxes : List ℤ) (counts : List ℕ) (t : ℕ) → entryFits boxes counts t ≡ true →
     (validBox (boxOf boxes t) ≡ true)
     × (countOf counts t ≤ maxSites axes)
 unfolding entryFits
-entry-good boxes counts t e = let h = and-both _ _ e in (h .0, leb-true (countOf counts t) (maxSites axes) (h .1))
+entryFits-good boxes counts t e = let h = and-both _ _ e in (h .0, leb-true (countOf counts t) (maxSites axes) (h .1))
 
 pub lists-good : (sum : ℕ) (spots : List (List ℤ)) (cues : List ℕ) → listsFit sum spots cues ≡ true →
     All (λ c. length c ≡ sum) spots × (length cues ≡ sum)
@@ -46,10 +46,11 @@ lists-good sum spots cues e =
     let h = and-both _ _ e in
     (columns-equal sum spots (h .0), eqb-true (length cues) sum (h .1))
 
-tile-good : (boxes : List ℤ) (counts : List ℕ) (spots : List (List ℤ)) (t : ℕ) → tileFits boxes counts spots t ≡ true →
-    (slot : ℕ) → slot < countOf counts t → inside (boxOf boxes t) (row spots (offset counts t + slot)) ≡ true
+tileFits-good : (boxes : List ℤ) (counts : List ℕ) (spots : List (List ℤ)) (t : ℕ)
+    → tileFits boxes counts spots t ≡ true → (slot : ℕ) → slot < countOf counts t
+    → inside (boxOf boxes t) (row spots (offset counts t + slot)) ≡ true
 unfolding tileFits sitesFit
-tile-good boxes counts spots t e slot l =
+tileFits-good boxes counts spots t e slot l =
     every-at (λ i. inside (boxOf boxes t) (row spots (offset counts t + i))) (countOf counts t) slot e l
 
 -- test 10 of tile t, by what the code goes by
@@ -71,11 +72,11 @@ module _ (s : Supply) (room : ℕ) where
       let d = require-accepted _ _ _ _ (c .1) in
       let g = require-accepted _ _ _ _ (d .1) in
       let h = require-accepted _ _ _ _ (g .1) in
-      let t = tiles-good (tilesOf s) (a .0) in
+      let t = tilesFit-good (tilesOf s) (a .0) in
       let l = lists-good (siteTotal (s .counts)) (s .spots) (s .cues) (d .0) in
       let v : (t : ℕ) → t < tilesOf s →
       (validBox (boxOf (s .boxes) t) ≡ true) × (countOf (s .counts) t ≤ maxSites axes) =
-      λ t k. entry-good (s .boxes) (s .counts) t
+      λ t k. entryFits-good (s .boxes) (s .counts) t
       (every-at (entryFits (s .boxes) (s .counts)) (tilesOf s) t (c .0) k) in (
         record {
           least = t .0;
@@ -85,7 +86,7 @@ module _ (s : Supply) (room : ℕ) where
           counts = λ t k. v t k .1;
           spots = l .0;
           cues = l .1;
-          inside = λ t slot k m. tile-good (s .boxes) (s .counts) (s .spots) t
+          inside = λ t slot k m. tileFits-good (s .boxes) (s .counts) (s .spots) t
               (every-at (tileFits (s .boxes) (s .counts) (s .spots)) (tilesOf s) t (g .0) k) slot m;
         },
         leb-true (fileLength (headerOf (s .counts))) room (h .0),

@@ -4,6 +4,6 @@ use Rattle.nearby.specs.declared.Input.{Input}
 use Rattle.nearby.specs.declared.Input.the-variants.{Bytes, Failed}
 
 -- as many bytes as the buffer holds, at most
-abbrev pub Within : Input → ℕ → Type 0
-Within (Bytes n) room = n ≤ room
-Within Failed room = Unit
+abbrev pub InRoom : Input → ℕ → Type 0
+InRoom (Bytes n) room = n ≤ room
+InRoom Failed room = Unit

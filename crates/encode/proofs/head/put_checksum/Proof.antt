@@ -4,7 +4,7 @@ use lib.ListN.{take, drop}
 use borrow.Author.Needs.{needs}
 use Rattle.blocks.specs.Layout.{blockSize, checkAt}
 use Rattle.blocks.specs.declared.checksum.Sums.{Sums}
-use Rattle.encode.proofs.EncodeLaws.{sums-byte, lent, check-row}
+use Rattle.encode.proofs.EncodeLaws.{sums-byte, sums-part, check-row}
 use Rattle.encode.proofs.head.put_checksum.Statement.{statement}
 use Rattle.encode.proofs.head.put_checksum.Tie as tie
 
@@ -54,7 +54,7 @@ returns c =
     let x : tie.After-put-u8 = search in
     let y : tie.After-put-u82 = search in
     let a = s .args in
-    let e = lent (a .d .now) (a .at) (t .sums-of .result) (t .sums-of .ensures) in
+    let e = sums-part (a .d .now) (a .at) (t .sums-of .result) (t .sums-of .ensures) in
     check-row (a .d .now) (a .at + checkAt) (take blockSize (drop (a .at) (a .d .now)))
     (x .before .low .ensures ∙ ap (λ (q : Sums). q .a) e) (y .before .low2 .ensures ∙ ap (λ (q : Sums). q .c) e)
     (x .put-u8 .ensures) (y .put-u82 .ensures)

@@ -10,7 +10,7 @@ use Rattle.geometry.specs.Box.{lo, hi, withinLimits}
 use Rattle.geometry.proofs.OneAxis.{Axis, axis, low-on, high-on, valid-on}
 use Rattle.geometry.proofs.Subtracting.{limited-fits}
 use Rattle.geometry.specs.Margin.{gain}
-use Rattle.geometry.proofs.BestEnd.{far, near, square-bounds}
+use Rattle.geometry.proofs.BestEnd.{farOn, nearOn, square-bounds}
 use Rattle.geometry.proofs.gains.gains_at_ends.Statement.{statement}
 use Rattle.geometry.proofs.gains.gains_at_ends.Tie as tie
 
@@ -42,8 +42,8 @@ module _ (c : tie.After-min-square) where
   start-low : tie.Start
   start-low = search
 
-  squares-low : (c .before .max-square .result ≡ far (start-low .args .e) (lo (start-low .args .t1)))
-      × (c .min-square .result ≡ near (start-low .args .b) (lo (start-low .args .t1)))
+  squares-low : (c .before .max-square .result ≡ farOn (start-low .args .e) (lo (start-low .args .t1)))
+      × (c .min-square .result ≡ nearOn (start-low .args .b) (lo (start-low .args .t1)))
   unfolding start-low
   squares-low =
       let fits = limited-fits (over start-low .low) in
@@ -68,8 +68,8 @@ module _ (c : tie.After-min-square2) where
   start-high : tie.Start
   start-high = search
 
-  squares-high : (c .before .max-square2 .result ≡ far (start-high .args .e) (hi (start-high .args .t1)))
-      × (c .min-square2 .result ≡ near (start-high .args .b) (hi (start-high .args .t1)))
+  squares-high : (c .before .max-square2 .result ≡ farOn (start-high .args .e) (hi (start-high .args .t1)))
+      × (c .min-square2 .result ≡ nearOn (start-high .args .b) (hi (start-high .args .t1)))
   unfolding start-high
   squares-high =
       let fits = limited-fits (over start-high .high) in

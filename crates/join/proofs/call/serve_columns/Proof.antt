@@ -5,7 +5,7 @@ use lib.IntN.{ℤ}
 use lib.ListN.{length, take, length-take}
 use borrow.Author.Needs.{needs}
 use Rattle.stops.specs.Stops.{stopsOf}
-use Rattle.stops.proofs.StopLaws.{gathered}
+use Rattle.stops.proofs.StopLaws.{points-gathered}
 use Rattle.join.proofs.call.serve_columns.Statement.{statement}
 use Rattle.join.proofs.call.serve_columns.Tie as tie
 
@@ -24,7 +24,7 @@ cols g = start g .args .xs .now ∷ start g .args .ys .now ∷ []
 -- what was gathered: the stops as points
 points : (g : tie.After-gather-stops)
     → take (length (start g .args .xs .now)) (g .gather-stops .last .1 .1 .0) ≡ stopsOf (cols g)
-points g = gathered (cols g) _ (g .gather-stops .ensures) (start g .pre .0 .1)
+points g = points-gathered (cols g) _ (g .gather-stops .ensures) (start g .pre .0 .1)
 
 array-share-prefix-stops : tie.Need-array-share-prefix-stops
 array-share-prefix-stops c = search needs

@@ -11,7 +11,7 @@ use Rattle.plan.specs.FilePlan.{entries}
 use Rattle.search.specs.Lists.{bit, range}
 use Rattle.search.specs.Lists as lists
 use Rattle.search.specs.Pruning.{pruned, prunedCount}
-use Rattle.plan.proofs.Tables.{fill-turn, fill-done, bit-small}
+use Rattle.plan.proofs.Tables.{table-turn, table-done, bit-small}
 use Rattle.prune.specs.Prune.{pruneMarks}
 use Rattle.plan.proofs.Measures.{tiles-few}
 use Rattle.prune.proofs.Summing.{count-turn, count-done}
@@ -86,7 +86,7 @@ loop-again c =
       omega (arith, x, bit-small (test s t)),
       length-set (l .loop .marks) t (c .prune-tile .result) ∙ i .2,
       omega (arith, x, q, i .3),
-      rw x (fill-turn (λ i. bit (test s i)) (l .loop .marks) t t (s .args .h .tiles) in-loop ∙ i .4),
+      rw x (table-turn (λ i. bit (test s i)) (l .loop .marks) t t (s .args .h .tiles) in-loop ∙ i .4),
     )
 
 same-length : tie.Need-same-length Inv-loop μ-loop
@@ -99,7 +99,7 @@ returns c =
     let past : s .args .h .tiles ≤ l .loop .t = search needs in
     let q = count-done (test s) (l .loop .t) (s .args .h .tiles) past in (
       (omega (arith, q, l .loop .inv .3), omega arith),
-      fill-done (λ i. bit (test s i)) (l .loop .marks) (l .loop .t) (l .loop .t) (s .args .h .tiles) past
+      table-done (λ i. bit (test s i)) (l .loop .marks) (l .loop .t) (l .loop .t) (s .args .h .tiles) past
           ∙ l .loop .inv .4,
     )
 

@@ -10,7 +10,7 @@ use Rattle.plan.specs.Inner.Seam as seam
 use Rattle.search.specs.Lists.{range}
 use Rattle.prune.specs.Inner.Tables.{fars}
 use Rattle.plan.proofs.Measures.{tiles-few}
-use Rattle.plan.proofs.Tables.{fill-turn, fill-done}
+use Rattle.plan.proofs.Tables.{table-turn, table-done}
 use Rattle.prune.proofs.tables.fill_far.Statement.{statement}
 use Rattle.prune.proofs.tables.fill_far.Tie as tie
 
@@ -64,7 +64,7 @@ loop-again c =
     let next : first + (l .loop .t + 1) ≡ first + l .loop .t + 1 = omega arith in (
       search needs,
       length-set (l .loop .far) (first + l .loop .t) (c .far .result) ∙ l .loop .inv .1,
-      rw (next, c .far .ensures) (fill-turn g (l .loop .far) (first + l .loop .t) (l .loop .t) (s .args .h .tiles)
+      rw (next, c .far .ensures) (table-turn g (l .loop .far) (first + l .loop .t) (l .loop .t) (s .args .h .tiles)
           (search needs) ∙ l .loop .inv .2),
     )
 
@@ -76,7 +76,7 @@ returns c =
     let s : tie.Start Inv-loop μ-loop = search in
     let l : tie.At-loop Inv-loop μ-loop = search in
     let g = seam.far (s .args .f .now) (s .args .p) in
-    fill-done g (l .loop .far) (s .args .c * maxTiles + l .loop .t) (l .loop .t) (s .args .h .tiles) (search needs)
+    table-done g (l .loop .far) (s .args .c * maxTiles + l .loop .t) (l .loop .t) (s .args .h .tiles) (search needs)
     ∙ l .loop .inv .2
 
 pub fill-far-spec : {M : Type 1} → statement M

@@ -8,7 +8,7 @@ use Rattle.plan.specs.FilePlan.{entries}
 use Rattle.plan.specs.Inner.Seam.{cornerOf, cornerCount}
 use Rattle.search.specs.Lists.{range}
 use Rattle.search.specs.Plan as plan
-use Rattle.plan.proofs.Tables.{fill-turn, fill-done}
+use Rattle.plan.proofs.Tables.{table-turn, table-done}
 use Rattle.prune.specs.Inner.Tables.{nears}
 use Rattle.prune.proofs.tables.near_from.Statement.{statement}
 use Rattle.prune.proofs.tables.near_from.Tie as tie
@@ -52,7 +52,7 @@ loop-again c =
       search needs,
       length-set (l .loop .near) (l .loop .c) (c .near .result) ∙ l .loop .inv .1,
       rw (c .near .ensures, p .corner-of .ensures .0)
-          (fill-turn g (l .loop .near) (l .loop .c) (l .loop .c) cornerCount (search needs) ∙ l .loop .inv .2),
+          (table-turn g (l .loop .near) (l .loop .c) (l .loop .c) cornerCount (search needs) ∙ l .loop .inv .2),
     )
 
 returns : tie.Need-returns Inv-loop μ-loop
@@ -60,7 +60,7 @@ returns c =
     let s : tie.Start Inv-loop μ-loop = search in
     let l : tie.At-loop Inv-loop μ-loop = search in
     let g : ℕ → ℕ = λ i. plan.near (entries (s .args .f .now) (s .args .h)) (cornerOf (s .args .o) i) (s .args .t) in
-    fill-done g (l .loop .near) (l .loop .c) (l .loop .c) cornerCount (search needs) ∙ l .loop .inv .2
+    table-done g (l .loop .near) (l .loop .c) (l .loop .c) cornerCount (search needs) ∙ l .loop .inv .2
 
 pub near-from-spec : {M : Type 1} → statement M
 near-from-spec = tie.close (tie.spec Inv-loop μ-loop loop-holds corner-of-requires near-requires mul-near

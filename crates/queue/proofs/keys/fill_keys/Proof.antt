@@ -8,7 +8,7 @@ use Rattle.base.specs.Over.{over}
 use Rattle.plan.specs.FilePlan.{entries}
 use Rattle.search.specs.Plan.{near}
 use Rattle.search.proofs.Lists.{all-getD}
-use Rattle.queue.proofs.Filling.{fill-turn, fill-done}
+use Rattle.queue.proofs.Filling.{keys-turn, keys-done}
 use Rattle.queue.proofs.keys.fill_keys.Statement.{statement}
 use Rattle.queue.proofs.keys.fill_keys.Tie as tie
 
@@ -56,7 +56,7 @@ loop-again c =
     let s : tie.Start Inv-loop μ-loop = search in
     let a = s .args in
     let g = near (entries (a .f .now) (a .h)) (a .p) in
-    let turn = fill-turn g (a .order .now) (l .loop .keys) (l .loop .j) (i .loop-test .taken) in
+    let turn = keys-turn g (a .order .now) (l .loop .keys) (l .loop .j) (i .loop-test .taken) in
     let n = length-set (l .loop .keys) (l .loop .j) (v .near .result) in
     (omega arith, n ∙ l .loop .inv .1, rw (v .near .ensures) (turn ∙ l .loop .inv .2))
 
@@ -69,7 +69,7 @@ returns c =
     let s : tie.Start Inv-loop μ-loop = search in
     let a = s .args in
     let g = near (entries (a .f .now) (a .h)) (a .p) in
-    fill-done g (a .order .now) (l .loop .keys) (l .loop .j) (omega arith) ∙ l .loop .inv .2
+    keys-done g (a .order .now) (l .loop .keys) (l .loop .j) (omega arith) ∙ l .loop .inv .2
 
 pub fill-keys-spec : {M : Type 1} → statement M
 fill-keys-spec = tie.close (tie.spec Inv-loop μ-loop loop-holds mul-near shared-slice-read-near near-requires mul-keys

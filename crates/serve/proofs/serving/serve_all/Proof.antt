@@ -13,7 +13,7 @@ use Rattle.queue.specs.Inner.Keys.{waits}
 use Rattle.search.proofs.Lists.{all-getD}
 use Rattle.queue.proofs.Gathering.{gathered, waiting-tiles, waiting-rise}
 use Rattle.serve.specs.Inner.Serving.{servingOutcome, waiting, walkOf, StopServed}
-use Rattle.serve.proofs.StopLoop.{StopTurn, turn-starts, turn-ends, turn-refused, turn-next, turn-ready}
+use Rattle.serve.proofs.StopLoop.{StopTurn, stop-starts, stop-ends, stop-refused, stop-next, stop-ready}
 use Rattle.serve.proofs.serving.serve_all.Statement.{statement}
 use Rattle.serve.proofs.serving.serve_all.Tie as tie
 
@@ -41,7 +41,7 @@ loop-holds c =
     let a = s .args in
     let o = lent (a .dist .now) (a .site .now) (a .cue .now) (a .marks .now) in
     let tiles = waiting (a .f .now) (a .h) (a .marks .now) in
-    (refl, turn-starts (a .f .now) (a .h) tiles (a .stops .now) (a .k) o (s .pre .clear) (s .pre .opens))
+    (refl, stop-starts (a .f .now) (a .h) tiles (a .stops .now) (a .k) o (s .pre .clear) (s .pre .opens))
 
 -- what was gathered: the waiting tiles, in their order
 abbrev start : tie.After-gather Inv-loop μ-loop → tie.Start Inv-loop μ-loop
@@ -107,7 +107,7 @@ serve-stop-requires c κs =
       rise = rw (w .1) (waiting-rise waits′ (s .args .h .tiles));
       stop = rw (p .stop-in .ensures)
           (all-getD ValidStop (a .stops .now) (l .loop .i) [] (b .loop-test .taken) (s .pre .valid));
-      list = turn-ready t (b .loop-test .taken) (s .pre .some) (s .pre .long);
+      list = stop-ready t (b .loop-test .taken) (s .pre .some) (s .pre .long);
       room =
           omega (arith, few-gathered g, l .loop .inv .0, length-take (g .gather .result) (g .gather .last .1 .1 .1 .0));
       marks = omega (arith, s .pre .marks, t .long);
@@ -162,7 +162,7 @@ returns c =
     let x : tie.After-serve-stop Inv-loop μ-loop = search in
     let b = turned x in
     let e = ap servingOutcome (c .enum-told .given .1) in
-    rw e (turn-refused (head b .loop .inv .1) (b .loop-test .taken) (served x) _ _ e)
+    rw e (stop-refused (head b .loop .inv .1) (b .loop-test .taken) (served x) _ _ e)
 
 add-i : tie.Need-add-i Inv-loop μ-loop
 add-i c =
@@ -176,7 +176,7 @@ add-at c =
     let x : tie.After-serve-stop Inv-loop μ-loop = search in
     let b = turned x in
     let s = start (gathering (head b)) in
-    let ready = turn-ready (head b .loop .inv .1) (b .loop-test .taken) (s .pre .some) (s .pre .long) in
+    let ready = stop-ready (head b .loop .inv .1) (b .loop-test .taken) (s .pre .some) (s .pre .long) in
     omega (arith, ready .long .0, s .good .1 .1 .1 .1 .1 .0 .0)
 
 loop-less : tie.Need-loop-less Inv-loop μ-loop
@@ -189,7 +189,7 @@ loop-again c =
     let b = turned x in
     let t = head b .loop .inv in (
       x .serve-stop .kept .1 .1 .1 .1 .0 ∙ t .0,
-      turn-next (t .1) (b .loop-test .taken) (served x) _ (ap servingOutcome (n .answer .given .1)),
+      stop-next (t .1) (b .loop-test .taken) (served x) _ (ap servingOutcome (n .answer .given .1)),
     )
 
 same-length-5 : tie.Need-same-length-5 Inv-loop μ-loop
@@ -207,7 +207,7 @@ same-length-8 c = search needs
 returns-2 : tie.Need-returns-2 Inv-loop μ-loop
 returns-2 c =
     let l : tie.At-loop Inv-loop μ-loop = search in
-    turn-ends (l .loop .inv .1) (omega (arith, c .loop-test .left))
+    stop-ends (l .loop .inv .1) (omega (arith, c .loop-test .left))
 
 pub serve-all-spec : {M : Type 1} → statement M
 serve-all-spec = tie.close (tie.spec Inv-loop μ-loop slice-aggregate-gather gather-requires loop-holds stop-in-requires

@@ -12,9 +12,9 @@ use Rattle.search.specs.Inner.Cut.{lastAhead}
 use Rattle.base.proofs.Outcomes.{accepted-injective, andThen-accepted, andThen-refused, told}
 use Rattle.plan.proofs.Measures.{tiles-few}
 use Rattle.queue.proofs.Scanning.{passed-none, passed-next}
-use Rattle.queue.proofs.Waiting.{living, keyed-start, living-start, living-fewer, index-at, tile-at}
+use Rattle.queue.proofs.Waiting.{living, keyed-start, living-start, living-fewer, index-at, tile-in-order}
 use Rattle.serve.specs.Inner.Serving.{servingOutcome, afterTile}
-use Rattle.serve.proofs.TileLoop.{TileTurn, turn-starts, turn-none, turn-full, turn-refused, turn-next}
+use Rattle.serve.proofs.TileLoop.{TileTurn, tile-starts, tile-none, tile-full, tile-refused, tile-next}
 use Rattle.serve.proofs.serving.serve_stop.Statement.{statement}
 use Rattle.serve.proofs.serving.serve_stop.Tie as tie
 
@@ -53,7 +53,7 @@ loop-holds c =
     let keyed = keyed-start f (a .h) (p .dir) (p .stop) order (p .tiles) (a .keys .now) (p .room) (p .rise) in
     let all = living-start f (a .h) (p .dir) (p .stop) order (p .tiles) (a .keys .now) (p .room) in (
       refl,
-      turn-starts f (a .h) order (a .target) o (p .list) (rw e keyed) (rw e all) (p .opens),
+      tile-starts f (a .h) order (a .target) o (p .list) (rw e keyed) (rw e all) (p .opens),
       passed-none _ (length order),
     )
 
@@ -77,8 +77,8 @@ index-below c =
 tile-below : (c : tie.Else1 Inv-loop μ-loop)
     → getD (start (head c) .args .order .now) (c .before .next-key .result .at) 0 < start (head c) .args .h .tiles
 tile-below c =
-    tile-at (head c .loop .inv .1 .keyed) (c .before .next-key .result) (c .before .next-key .ensures) (key-left c)
-    (λ t. t < start (head c) .args .h .tiles) (start (head c) .pre .tiles)
+    tile-in-order (head c .loop .inv .1 .keyed) (c .before .next-key .result) (c .before .next-key .ensures)
+    (key-left c) (λ t. t < start (head c) .args .h .tiles) (start (head c) .pre .tiles)
 
 same-length : tie.Need-same-length Inv-loop μ-loop
 same-length c = search needs
@@ -99,7 +99,7 @@ returns : tie.Need-returns Inv-loop μ-loop
 returns c =
     let n : tie.After-next-key Inv-loop μ-loop = search in
     let l : tie.At-loop Inv-loop μ-loop = search in
-    turn-none (l .loop .inv .1) (n .next-key .result) (n .next-key .ensures) (omega (arith, c .if1 .taken))
+    tile-none (l .loop .inv .1) (n .next-key .result) (n .next-key .ensures) (omega (arith, c .if1 .taken))
 
 mul-t : tie.Need-mul-t Inv-loop μ-loop
 mul-t c =
@@ -143,7 +143,7 @@ returns-2 c =
     let l = head i in
     let n = i .before .next-key in
     let full = sym (c .before .last-ahead .ensures (l .loop .cue)) ∙ c .if2 .taken in
-    turn-full (l .loop .inv .1) (n .result) (n .ensures) (key-left i) full
+    tile-full (l .loop .inv .1) (n .result) (n .ensures) (key-left i) full
 
 -- it is not: the tile is taken
 abbrev kept-key : tie.Else2 Inv-loop μ-loop → tie.Else1 Inv-loop μ-loop
@@ -224,7 +224,7 @@ returns-3 c =
     let d = andThen-refused (openingOf (a .f .now) (a .h) t) _ (told servingOutcome (x .take-tile .ensures .0) e) in
     let same = rw d at (slices-taken x) in
     rw (ap servingOutcome e, same)
-    (turn-refused (l .loop .inv .1) (n .result) (n .ensures) (key-left i) (not-full (taken x)) _ _ d)
+    (tile-refused (l .loop .inv .1) (n .result) (n .ensures) (key-left i) (not-full (taken x)) _ _ d)
 
 mul-keys : tie.Need-mul-keys Inv-loop μ-loop
 mul-keys c =
@@ -262,7 +262,7 @@ loop-again c =
     let d = andThen-accepted (openingOf (a .f .now) (a .h) t) _
     (told servingOutcome (x .take-tile .ensures .0) (b .answer .given .1)) in
     let same = rw (d .1) at (slices-taken x) in
-    let next = turn-next turn (n .result) (n .ensures) (key-left i) (not-full (taken x)) (d .0) (d .1) (tile-below i)
+    let next = tile-next turn (n .result) (n .ensures) (key-left i) (not-full (taken x)) (d .0) (d .1) (tile-below i)
     (omega (arith, start l .pre .marks, turn .long)) (sym (accepted-injective (d .2))) in (
       length-set (l .loop .keys) (n .result .at) none ∙ l .loop .inv .0,
       rw same next,

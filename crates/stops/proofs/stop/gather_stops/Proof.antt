@@ -8,7 +8,7 @@ use borrow.Author.Needs.{needs}
 use Rattle.base.specs.Over.{over}
 use Rattle.geometry.specs.Around.{rows}
 use Rattle.stops.specs.Stops.{stopsOf}
-use Rattle.stops.proofs.StopLaws.{gathering-starts, gathering-turn, gathering-done}
+use Rattle.stops.proofs.StopLaws.{points-start, points-turn, points-done}
 use Rattle.stops.proofs.stop.gather_stops.Statement.{statement}
 use Rattle.stops.proofs.stop.gather_stops.Tie as tie
 
@@ -26,7 +26,7 @@ abbrev μ-loop : tie.MeasureT-loop
 loop-holds : tie.Need-loop-holds Inv-loop μ-loop
 loop-holds c =
     let s : tie.Start Inv-loop μ-loop = search in
-    (omega arith, refl, gathering-starts (cols (s .args .xs .now) (s .args .ys .now)) (s .args .stops .now))
+    (omega arith, refl, points-start (cols (s .args .xs .now) (s .args .ys .now)) (s .args .stops .now))
 
 stop-at-requires : tie.Need-stop-at-requires Inv-loop μ-loop
 stop-at-requires c κs =
@@ -59,7 +59,7 @@ loop-again c =
     let s : tie.Start Inv-loop μ-loop = search in
     let xs = s .args .xs .now in
     let i = l .loop .i in
-    let turn = gathering-turn (cols xs (s .args .ys .now)) (l .loop .stops) i (length xs) (b .loop-test .taken) in (
+    let turn = points-turn (cols xs (s .args .ys .now)) (l .loop .stops) i (length xs) (b .loop-test .taken) in (
       omega (arith, b .loop-test .taken),
       length-set (l .loop .stops) i (c .stop-at .result) ∙ l .loop .inv .1,
       rw (c .stop-at .ensures) (turn ∙ l .loop .inv .2),
@@ -73,7 +73,7 @@ returns c =
     let l : tie.At-loop Inv-loop μ-loop = search in
     let s : tie.Start Inv-loop μ-loop = search in
     let xs = s .args .xs .now in
-    gathering-done (cols xs (s .args .ys .now)) (l .loop .stops) (l .loop .i) (length xs)
+    points-done (cols xs (s .args .ys .now)) (l .loop .stops) (l .loop .i) (length xs)
     (omega (arith, c .loop-test .left)) ∙ l .loop .inv .2
 
 pub gather-stops-spec : {M : Type 1} → statement M

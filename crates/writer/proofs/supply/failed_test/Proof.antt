@@ -14,7 +14,7 @@ use Rattle.encode.specs.Supply.{supply, headerOf, numbersPerBox, siteTotal}
 use Rattle.base.proofs.Every.{every-at}
 use Rattle.base.proofs.Tests.{passed, failed}
 use Rattle.writer.specs.Write.{tilesFit, entryFits, listsFit, tileFits, writeTests}
-use Rattle.writer.proofs.WriteLaws.{tiles-good, entry-good, lists-good}
+use Rattle.writer.proofs.WriteLaws.{tilesFit-good, entryFits-good, lists-good}
 use Rattle.writer.proofs.supply.failed_test.Statement.{statement}
 use Rattle.writer.proofs.supply.failed_test.Tie as tie
 
@@ -83,7 +83,7 @@ unfolding writeTests
 returns c = let t : tie.After-tiles-fit = search in rw (failed (t .tiles-fit .ensures) (c .if1 .taken))
 
 mul-if2 : tie.Need-mul-if2
-mul-if2 c = omega (arith, tiles-good _ (pass-1 c))
+mul-if2 c = omega (arith, tilesFit-good _ (pass-1 c))
 
 returns-2 : tie.Need-returns-2
 unfolding writeTests
@@ -102,8 +102,8 @@ sum-of-requires : tie.Need-sum-of-requires
 sum-of-requires c κs =
     let s : tie.Start = search in
     let a = s .args in (
-      tiles-good _ (pass-1 search) .1,
-      λ t h. entry-good (a .boxes .now) (a .counts .now) t
+      tilesFit-good _ (pass-1 search) .1,
+      λ t h. entryFits-good (a .boxes .now) (a .counts .now) t
           (every-at (entryFits (a .boxes .now) (a .counts .now)) (length (a .counts .now)) t (pass-3 c) h) .1,
     )
 
@@ -128,7 +128,7 @@ header-of-requires c κs = search needs
 file-length-requires : tie.Need-file-length-requires
 file-length-requires c κs =
     let h : tie.After-header-of = search in
-    omega (arith, tiles-good _ (pass-1 search) .1, h .header-of .ensures .1)
+    omega (arith, tilesFit-good _ (pass-1 search) .1, h .header-of .ensures .1)
 
 returns-5 : tie.Need-returns-5
 returns-5 c =
