@@ -10,7 +10,7 @@ use Prim.Native.Nat.{ℕ, zero, suc}
 use mathlib.Core.Bool.{Bool, true, false}
 use mathlib.Core.Path.{_≡_, refl, sym, ap, _∙_}
 use native.Mathlib.Omega.{arith}
-use Rattle.base.specs.Inner.Number.{numberOutcome}
+use Rattle.base.specs.Inner.AnswerNumber.{numberOutcome}
 use Rattle.base.specs.Refusal.{Outcome, accepted, refused, require, andThen}
 
 -- by an outcome

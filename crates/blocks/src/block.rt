@@ -2,7 +2,7 @@
 ghost use mathlib.Core.Path.{_≡_};
 ghost use Prim.Native.Nat.{_+_, _*_, _<_, _≤_};
 ghost use lib.ListN.{length};
-ghost use Rattle.base.specs.Inner.Number.{numberOutcome};
+ghost use Rattle.base.specs.Inner.AnswerNumber.{numberOutcome};
 ghost use Rattle.codec.specs.Number.{limit16};
 ghost use Rattle.blocks.specs.Layout.{blockSize};
 ghost use Rattle.blocks.specs.Block.{blockAt, headerIn, kindDue, blockHead};

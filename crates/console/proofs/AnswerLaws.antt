@@ -5,7 +5,7 @@ use mathlib.Core.Path.{_≡_}
 use lib.IntN.{ℤ}
 use Rattle.base.specs.Refusal.{accepted}
 use Rattle.join.specs.Join.{Result, joinEnd}
-use Rattle.list.specs.Lists.{Slices}
+use Rattle.list.specs.Slices.{Slices}
 use Rattle.stops.specs.Stops.{stopCount}
 use Rattle.base.proofs.Outcomes.{by-outcome}
 use Rattle.join.proofs.Theorems.{answer-fits}

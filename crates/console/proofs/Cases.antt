@@ -31,7 +31,7 @@ use Rattle.search.specs.Run.{queue, follow, enough, serve, run, placesUsed, joi
 use Rattle.search.specs.Limits.{validK}
 use Rattle.stops.specs.Stops.{validStop}
 use Rattle.stops.specs.Arguments.{stopsDue, stopsValid, room, arguments}
-use Rattle.list.specs.Lists.{lay, cleared}
+use Rattle.list.specs.Slices.{lay, cleared}
 use Rattle.plan.specs.FilePlan.{openingOf}
 use Rattle.join.specs.Join.{runFor, tests, filled, ended, runEnd, joinFrom, joinEnd}
 use Rattle.console.specs.Text.{widthUpTo, width, digits, decimal, labelled}

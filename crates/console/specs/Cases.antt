@@ -21,7 +21,7 @@ use Rattle.encode.specs.Supply.{Supply, supply}
 use Rattle.geometry.specs.Distance.{minDist, maxDist}
 use Rattle.geometry.specs.Margin.{margin}
 use Rattle.join.specs.Join.{Result, joinEnd}
-use Rattle.list.specs.Lists.{Slices, lent, dists, sites, cues}
+use Rattle.list.specs.Slices.{Slices, lent, dists, sites, cues}
 use Rattle.search.specs.declared.Place.{Place}
 use Rattle.writer.specs.Write.{writeCall, writeExit}
 use Rattle.console.specs.Output.{output}

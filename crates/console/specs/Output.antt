@@ -10,7 +10,7 @@ use lib.ListN.{replicate}
 use Rattle.base.specs.Refusal.{Outcome, accepted, refused}
 use Rattle.base.specs.Tabulate.{joined}
 use Rattle.join.specs.Join.{Result, End, joinEnd}
-use Rattle.list.specs.Lists.{Lists, Slices, lent}
+use Rattle.list.specs.Slices.{Lists, Slices, lent}
 use Rattle.blocks.specs.Layout.{maxTiles}
 use Rattle.console.specs.Limits.{requestPlaces}
 use Rattle.console.specs.Line.{refusedLine, countsLine, stopLine}

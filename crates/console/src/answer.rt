@@ -5,7 +5,7 @@ ghost use mathlib.Core.List.{[], _∷_};
 ghost use Prim.Native.Nat.{_≤_};
 ghost use lib.ListN.{length};
 ghost use Rattle.join.specs.Join.{joinOutcome, joinEnd};
-ghost use Rattle.list.specs.Lists.{lists};
+ghost use Rattle.list.specs.Slices.{lists};
 ghost use Rattle.console.specs.Inner.Room.{outputRoom, Printable};
 ghost use Rattle.console.specs.Limits.{requestStops};
 ghost use Rattle.console.specs.Output.{answerText, endText, endOf, output, emptySlices};

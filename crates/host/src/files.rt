@@ -4,7 +4,7 @@ ghost use mathlib.Core.Path.{_≡_};
 ghost use lib.ListN.{length};
 ghost use Rattle.encode.specs.Supply.{supply};
 ghost use Rattle.join.specs.Join.{joinEnd};
-ghost use Rattle.list.specs.Lists.{lent};
+ghost use Rattle.list.specs.Slices.{lent};
 ghost use Rattle.prune.specs.Prune.{pruneCall, marksAfter};
 ghost use Rattle.tiles.specs.Validate.{validate};
 ghost use Rattle.writer.specs.Write.{writeCall, writeExit};

@@ -7,7 +7,7 @@ use lib.ListN.{length}
 use Rattle.base.specs.Refusal.{Outcome, accepted, refused}
 use Rattle.blocks.specs.Directory.{directory}
 use Rattle.blocks.specs.declared.header.Header.{Header}
-use Rattle.list.specs.Lists.{Slices}
+use Rattle.list.specs.Slices.{Slices}
 use Rattle.plan.specs.FilePlan.{axisCount}
 use Rattle.stops.specs.Arguments.{arguments}
 use Rattle.stops.proofs.ArgumentLaws.{arguments-good}

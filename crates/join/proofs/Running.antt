@@ -14,7 +14,7 @@ use Rattle.blocks.specs.declared.header.Header.{Header}
 use Rattle.codec.specs.Number.{Bytes}
 use Rattle.geometry.specs.Around.{around, SmallestAround}
 use Rattle.geometry.specs.Box.{validPoint}
-use Rattle.list.specs.Lists.{Lists, Slices, lay, cleared}
+use Rattle.list.specs.Slices.{Lists, Slices, lay, cleared}
 use Rattle.plan.specs.FilePlan.{entries, openingOf}
 use Rattle.plan.specs.Inner.Seam.{ValidStop, ValidRegion}
 use Rattle.prune.specs.Prune.{pruneMarks}

@@ -20,7 +20,7 @@ use Rattle.blocks.specs.declared.header.Header.{Header}
 use Rattle.codec.specs.Number.{Bytes}
 use Rattle.geometry.specs.Around.{around}
 use Rattle.geometry.specs.Box.{inside}
-use Rattle.list.specs.Lists.{Long, Slices, placeAt}
+use Rattle.list.specs.Slices.{Long, Slices, placeAt}
 use Rattle.plan.specs.FilePlan.{axisCount, plane, entries, openingOf, townOf}
 use Rattle.prune.specs.Claims.{PrunesExactly}
 use Rattle.prune.specs.Prune.{Counts, pruneCall}

@@ -12,7 +12,7 @@ use Rattle.base.specs.Refusal.{Outcome, accepted, refused}
 use Rattle.blocks.specs.Directory.{directory}
 use Rattle.blocks.specs.declared.header.Header.{Header}
 use Rattle.geometry.specs.Around.{around}
-use Rattle.list.specs.Lists.{Lists, Slices, Long, placeAt, lay, cleared}
+use Rattle.list.specs.Slices.{Lists, Slices, Long, placeAt, lay, cleared}
 use Rattle.plan.specs.FilePlan.{entries, openingOf}
 use Rattle.search.specs.Run.{noPlace, noMark, inRows, mark}
 use Rattle.search.specs.Run as run

@@ -22,7 +22,7 @@ use Rattle.blocks.specs.Directory.{directory}
 use Rattle.blocks.specs.Same.{SameDirectory}
 use Rattle.blocks.specs.declared.header.Header.{Header}
 use Rattle.geometry.specs.Around.{around, SmallestAround}
-use Rattle.list.specs.Lists.{Slices, placeAt}
+use Rattle.list.specs.Slices.{Slices, placeAt}
 use Rattle.plan.specs.FilePlan.{plane, entries, openingOf, townOf}
 use Rattle.prune.specs.Prune.{pruneCall, marksAfter}
 use Rattle.search.specs.Claims.{FullSearch}

@@ -15,7 +15,7 @@ use Rattle.base.specs.Refusal.{Outcome, accepted, refused, andThen}
 use Rattle.blocks.specs.Directory.{directory}
 use Rattle.blocks.specs.declared.header.Header.{Header}
 use Rattle.geometry.specs.Around.{around}
-use Rattle.list.specs.Lists.{Slices, lay, cleared}
+use Rattle.list.specs.Slices.{Slices, lay, cleared}
 use Rattle.plan.specs.FilePlan.{entries, openingOf}
 use Rattle.search.specs.Pruning.{prunedCount}
 use Rattle.search.specs.Run.{Run, join, inRows, placesUsed, marks}

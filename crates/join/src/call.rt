@@ -6,7 +6,7 @@ ghost use lib.ListN.{length};
 ghost use Rattle.base.specs.Refusal as outcome;
 ghost use Rattle.base.specs.Refusal.{accepted};
 ghost use Rattle.blocks.specs.Directory.{directory};
-ghost use Rattle.list.specs.Lists.{lent};
+ghost use Rattle.list.specs.Slices.{lent};
 ghost use Rattle.search.specs.Limits.{maxStops};
 ghost use Rattle.serve.specs.Inner.Serving.{servingOutcome, StopsReady, Serves};
 ghost use Rattle.stops.specs.Stops.{stopsOf};

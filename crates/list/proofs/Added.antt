@@ -9,7 +9,7 @@ use Rattle.search.specs.Run.{rank}
 use Rattle.search.specs.declared.Place.{Place}
 use Rattle.search.proofs.Places.{rank-order}
 use Rattle.list.specs.Inner.Keeping.{places, Adds, Ready}
-use Rattle.list.specs.Lists.{Lists, lay}
+use Rattle.list.specs.Slices.{Lists, lay}
 use Rattle.list.proofs.Insertion.{inserts-few, inserts-grow, inserts-sorted}
 use Rattle.list.proofs.Laying.{places-length, lay-long, lay-places, lay-under}
 

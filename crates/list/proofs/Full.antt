@@ -13,7 +13,7 @@ use Rattle.base.proofs.Tabulate.{getD-tabulate}
 use Rattle.search.proofs.Places.{rank-order}
 use Rattle.search.proofs.Sort.{insert-length}
 use Rattle.list.specs.Inner.Keeping.{places, withPlace, Adds, Ready}
-use Rattle.list.specs.Lists.{Lists, placeAt}
+use Rattle.list.specs.Slices.{Lists, placeAt}
 use Rattle.list.proofs.Insertion.{cut-room, cut-stays, cut-falls}
 use Rattle.list.proofs.Laying.{places-length, places-last, places-sorted, lay-self}
 

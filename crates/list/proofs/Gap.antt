@@ -15,7 +15,7 @@ use Rattle.search.specs.declared.Place.{Place}
 use Rattle.search.proofs.Places.{rank-order}
 use Rattle.search.proofs.Sort.{insert-length}
 use Rattle.list.specs.Inner.Keeping.{places, put, Ready, withPlace}
-use Rattle.list.specs.Lists.{Lists, placeAt}
+use Rattle.list.specs.Slices.{Lists, placeAt}
 use Rattle.list.proofs.Insertion.{insert-back, insert-none, insert-end}
 use Rattle.list.proofs.Laying.{places-length, places-last, places-same, places-sorted, lay-self, put-last}
 use Rattle.list.proofs.Laying.{put-lay}

@@ -24,7 +24,7 @@ use Rattle.base.proofs.Over.{over-last, set-over}
 use Rattle.base.proofs.Tabulate.{length-tabulate, getD-tabulate, tabulate-last, tabulate-same, tabulate-take}
 use Rattle.search.proofs.Cut.{sorted-take}
 use Rattle.list.specs.Inner.Keeping.{places, put}
-use Rattle.list.specs.Lists.{Lists, lists, Long, placeAt, dists, sites, cues, lay}
+use Rattle.list.specs.Slices.{Lists, lists, Long, placeAt, dists, sites, cues, lay}
 
 -- ---- one slice, which holds what `show` gives of each place
 module _ (show : Place → ℕ) where

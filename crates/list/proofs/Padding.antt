@@ -11,7 +11,7 @@ use Rattle.search.specs.declared.Place.{Place}
 use Rattle.base.proofs.Tabulate.{tabulate-const}
 use Rattle.search.proofs.Marks.{padded-length}
 use Rattle.list.specs.Inner.Keeping.{places}
-use Rattle.list.specs.Lists.{Lists, lists, Long, placeAt, lay}
+use Rattle.list.specs.Slices.{Lists, lists, Long, placeAt, lay}
 use Rattle.list.proofs.Laying.{lay-self, lay-place, lay-after, lay-next}
 
 map-replicate : (show : Place → ℕ) (n : ℕ) → map show (replicate n noPlace) ≡ replicate n (show noPlace)

@@ -6,7 +6,7 @@ use mathlib.Core.Path.{_≡_}
 use lib.ListN.{length, getD}
 use Rattle.search.specs.Run.{noPlace}
 use Rattle.search.specs.declared.Place.{Place}
-use Rattle.list.specs.Lists.{Lists, placeAt, lay}
+use Rattle.list.specs.Slices.{Lists, placeAt, lay}
 use Rattle.list.proofs.Laying.{lay-place, lay-before, lay-after}
 
 module _ (o : Lists) (at : ℕ) (l : List Place) where

@@ -1,2 +1,2 @@
-pub mod Lists
+pub mod Slices
 pub mod Inner

@@ -4,7 +4,7 @@ ghost use Prim.Native.Nat.{_≤_};
 ghost use lib.ListN.{length, replicate};
 ghost use Rattle.base.specs.Over.{over};
 ghost use Rattle.search.specs.Run.{noPlace};
-ghost use Rattle.list.specs.Lists.{lists, Long, lay};
+ghost use Rattle.list.specs.Slices.{lists, Long, lay};
 
 fn clear64(d: &mut [u64], n: usize)
     requires { ⌜ n ≤ length (now d) ⌝ }

@@ -6,7 +6,7 @@ ghost use mathlib.Core.List.{List, [], _∷_};
 ghost use Prim.Native.Nat.{ℕ, _+_, _<_, _≤_};
 ghost use lib.ListN.{length};
 ghost use Rattle.search.specs.Inner.Cut.{lastAhead};
-ghost use Rattle.list.specs.Lists.{lists, placeAt};
+ghost use Rattle.list.specs.Slices.{lists, placeAt};
 ghost use Rattle.list.specs.Inner.Keeping.{places, put, withPlace, Ready, Adds};
 use search::Place;
 use search::ahead_of_key;

@@ -10,7 +10,7 @@ use lib.ListN.{length, getD}
 use borrow.Author.Tests.{ltb-true, ltb-false}
 use Rattle.base.specs.Tabulate.{tabulate}
 use Rattle.list.specs.Inner.Keeping.{places, Adds, Ready}
-use Rattle.list.specs.Lists.{Lists, placeAt, lay}
+use Rattle.list.specs.Slices.{Lists, placeAt, lay}
 use Rattle.plan.specs.FilePlan.{plane}
 use Rattle.plan.specs.Inner.Seam.{sitePlace, siteIn}
 use Rattle.search.specs.Inner.Cut.{inserts}

@@ -3,7 +3,7 @@ ghost use Prim.Native.Nat.{_+_, _<_, _≤_, _^_};
 ghost use lib.ListN.{length};
 ghost use Rattle.base.specs.Tabulate.{tabulate};
 ghost use Rattle.list.specs.Inner.Keeping.{Ready, Adds};
-ghost use Rattle.list.specs.Lists.{lists};
+ghost use Rattle.list.specs.Slices.{lists};
 ghost use Rattle.plan.specs.FilePlan.{plane, townOf};
 ghost use Rattle.plan.specs.Inner.Seam.{TileOf, ValidStop, Opens, Sited, siteIn};
 ghost use Rattle.search.specs.Run.{listing, tilePlaces};

@@ -1,3 +1,3 @@
 pub mod Summing
-pub mod Corners
+pub mod CornerTables
 pub mod Theorems

@@ -13,7 +13,7 @@ use Rattle.base.specs.Refusal.{Outcome, accepted, refused, andThen}
 use Rattle.base.specs.Tabulate.{tabulate}
 use Rattle.blocks.specs.declared.header.Header.{Header}
 use Rattle.list.specs.Inner.Keeping.{places, Ready}
-use Rattle.list.specs.Lists.{Long, Lists, Slices, lay, cleared}
+use Rattle.list.specs.Slices.{Long, Lists, Slices, lay, cleared}
 use Rattle.plan.specs.FilePlan.{entries, openingOf}
 use Rattle.search.specs.Inner.Walk.{Trace, cutWalks}
 use Rattle.search.specs.Run.{noPlace, noMark, inOrder, inRows}

@@ -13,7 +13,7 @@ use Rattle.base.specs.Refusal.{accepted, refused}
 use Rattle.base.specs.Tabulate.{tabulate}
 use Rattle.blocks.specs.declared.header.Header.{Header}
 use Rattle.list.specs.Inner.Keeping.{places, Adds, Ready}
-use Rattle.list.specs.Lists.{Slices, lay, cleared}
+use Rattle.list.specs.Slices.{Slices, lay, cleared}
 use Rattle.places.specs.declared.tile.Target.{Target}
 use Rattle.plan.specs.FilePlan.{plane, entries, openingOf, Site}
 use Rattle.queue.specs.Inner.Keys.{none, leastKey}

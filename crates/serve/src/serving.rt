@@ -3,7 +3,7 @@ ghost use mathlib.Core.Path.{_≡_};
 ghost use Prim.Native.Nat.{_*_};
 ghost use lib.ListN.{length};
 ghost use Rattle.base.specs.Refusal.{accepted, andThen};
-ghost use Rattle.list.specs.Lists.{lent};
+ghost use Rattle.list.specs.Slices.{lent};
 ghost use Rattle.plan.specs.FilePlan.{openingOf};
 ghost use Rattle.tiles.specs.Inner.Opening.{openingOutcome};
 ghost use Rattle.serve.specs.Inner.Serving.{servingOutcome, TileReady, withSites, afterTile};

@@ -1,7 +1,7 @@
 // Tests 11 to 14 of the join.
 ghost use mathlib.Core.List.{[], _∷_};
 ghost use mathlib.Core.Path.{_≡_};
-ghost use Rattle.base.specs.Inner.Number.{numberOutcome};
+ghost use Rattle.base.specs.Inner.AnswerNumber.{numberOutcome};
 ghost use Rattle.stops.specs.Arguments.{stopsDue, room, arguments};
 use crate::around::valid_stops;
 use base::both;

@@ -3,7 +3,7 @@ ghost use mathlib.Core.List.{[], _∷_};
 ghost use mathlib.Core.Path.{_≡_};
 ghost use Prim.Native.Nat.{ℕ, _+_, _*_, _<_, _≤_};
 ghost use lib.ListN.{length};
-ghost use Rattle.base.specs.Inner.Number.{numberOutcome};
+ghost use Rattle.base.specs.Inner.AnswerNumber.{numberOutcome};
 ghost use Rattle.blocks.specs.Layout.{axes, maxSites, maxTiles};
 ghost use Rattle.base.specs.Every.{every};
 ghost use Rattle.encode.specs.Supply.{supply, numbersPerBox, boxOf, countOf, siteTotal};

@@ -5,7 +5,7 @@
 use Prim.Native.Nat.{ℕ, _+_, _*_, _≤_}
 use Rattle.base.specs.Refusal.{Outcome, accepted, refused}
 use Rattle.join.specs.Join.{Result}
-use Rattle.list.specs.Lists.{Lists, Long}
+use Rattle.list.specs.Slices.{Lists, Long}
 use Rattle.search.specs.Limits.{maxK}
 use Rattle.console.specs.Limits.{requestStops}
 

@@ -8,7 +8,7 @@ use Rattle.base.specs.Refusal.{Outcome, accepted, refused, andThen}
 use Rattle.blocks.specs.Directory.{directory}
 use Rattle.blocks.specs.declared.header.Header.{Header}
 use Rattle.geometry.specs.Around.{around}
-use Rattle.list.specs.Lists.{Slices, lay, cleared}
+use Rattle.list.specs.Slices.{Slices, lay, cleared}
 use Rattle.plan.specs.FilePlan.{axisCount, entries, openingOf}
 use Rattle.prune.specs.Prune.{pruneMarks}
 use Rattle.search.specs.Inner.Walk.{Trace, cutWalks}

@@ -2,7 +2,7 @@ use mathlib.Core.Path.{_≡_, sym, _∙_}
 use native.Mathlib.Omega.{arith}
 use borrow.Author.Needs.{needs}
 use Rattle.search.specs.Run.{aheadOf}
-use Rattle.list.specs.Lists.{lists}
+use Rattle.list.specs.Slices.{lists}
 use Rattle.list.proofs.Full.{not-full, full-last}
 use Rattle.list.proofs.last_ahead.Statement.{statement}
 use Rattle.list.proofs.last_ahead.Tie as tie

@@ -1,6 +1,6 @@
 use mathlib.Core.Path.{sym, _∙_}
 use borrow.Author.Needs.{needs}
-use Rattle.list.specs.Lists.{lists}
+use Rattle.list.specs.Slices.{lists}
 use Rattle.list.proofs.Gap.{Gap, gap-starts, gap-turn, gap-stop, gap-bottom}
 use Rattle.list.proofs.make_gap.Statement.{statement}
 use Rattle.list.proofs.make_gap.Tie as tie

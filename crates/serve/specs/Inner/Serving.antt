@@ -16,7 +16,7 @@ use Rattle.base.specs.Refusal.{Outcome, accepted, refused, andThen}
 use Rattle.blocks.specs.Directory.{directory}
 use Rattle.blocks.specs.declared.header.Header.{Header}
 use Rattle.list.specs.Inner.Keeping.{places, Ready}
-use Rattle.list.specs.Lists.{Long, Lists, Slices, placeAt, lay, cleared}
+use Rattle.list.specs.Slices.{Long, Lists, Slices, placeAt, lay, cleared}
 use Rattle.places.specs.declared.tile.Target.{Target}
 use Rattle.plan.specs.FilePlan.{plane, entries, openingOf, Site}
 use Rattle.plan.specs.Inner.Seam.{TileOf, ValidStop}

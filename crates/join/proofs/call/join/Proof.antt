@@ -2,7 +2,7 @@ use mathlib.Core.List.{[], _∷_}
 use mathlib.Core.Path.{refl}
 use borrow.Author.Needs.{needs}
 use Rattle.blocks.specs.Outcome.{directoryOutcome}
-use Rattle.list.specs.Lists.{lent}
+use Rattle.list.specs.Slices.{lent}
 use Rattle.base.proofs.Outcomes.{told}
 use Rattle.join.proofs.Calling.{directory-refuses}
 use Rattle.join.proofs.call.join.Statement.{statement}

@@ -3,7 +3,7 @@ use mathlib.Core.Path.{_≡_, refl, sym, _∙_}
 use lib.IntN.{ℤ}
 use borrow.Author.Needs.{needs}
 use Rattle.base.specs.Refusal.{accepted}
-use Rattle.list.specs.Lists.{Slices, lent}
+use Rattle.list.specs.Slices.{Slices, lent}
 use Rattle.stops.specs.Arguments.{arguments}
 use Rattle.base.proofs.Outcomes.{number-accepted, number-refused}
 use Rattle.join.specs.Join.{lengthsOf}

@@ -1,7 +1,7 @@
 use mathlib.Core.Path.{_≡_, ap, _∙_}
 use native.Mathlib.Omega.{arith}
 use borrow.Author.Needs.{needs}
-use Rattle.list.specs.Lists.{lent}
+use Rattle.list.specs.Slices.{lent}
 use Rattle.plan.specs.FilePlan.{entries}
 use Rattle.search.specs.Pruning.{prunedCount}
 use Rattle.join.proofs.Running.{few-enough, region, started, begun, stops-ready, attempted}

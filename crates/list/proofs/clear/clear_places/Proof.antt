@@ -1,5 +1,5 @@
 use borrow.Author.Needs.{needs}
-use Rattle.list.specs.Lists.{lists}
+use Rattle.list.specs.Slices.{lists}
 use Rattle.list.proofs.Padding.{clear-lays}
 use Rattle.list.proofs.clear.clear_places.Statement.{statement}
 use Rattle.list.proofs.clear.clear_places.Tie as tie

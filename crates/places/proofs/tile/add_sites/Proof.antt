@@ -1,7 +1,7 @@
 use Prim.Native.Nat.{_-_}
 use native.Mathlib.Omega.{arith}
 use borrow.Author.Needs.{needs}
-use Rattle.list.specs.Lists.{lists}
+use Rattle.list.specs.Slices.{lists}
 use Rattle.list.proofs.Added.{added-ready}
 use Rattle.places.proofs.Adding.{Adding, adding-starts, adding-lengths, adding-turn, adding-skip, adding-done}
 use Rattle.places.proofs.tile.add_sites.Statement.{statement}

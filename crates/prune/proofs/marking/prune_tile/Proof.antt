@@ -2,7 +2,7 @@ use mathlib.Core.Path.{_≡_, sym, _∙_}
 use borrow.Author.Needs.{needs}
 use Rattle.plan.specs.FilePlan.{entries}
 use Rattle.search.specs.Pruning.{pruned}
-use Rattle.prune.proofs.Corners.{sum-prunes}
+use Rattle.prune.proofs.CornerTables.{sum-prunes}
 use Rattle.prune.proofs.marking.prune_tile.Statement.{statement}
 use Rattle.prune.proofs.marking.prune_tile.Tie as tie
 

@@ -11,7 +11,7 @@ use Rattle.plan.specs.FilePlan.{entries}
 use Rattle.search.specs.Plan.{slots, ranked}
 use Rattle.prune.specs.Inner.Tables.{belowAll, sumBelow, FirstBelow}
 use Rattle.plan.proofs.Measures.{tiles-few}
-use Rattle.prune.proofs.Corners.{not-below}
+use Rattle.prune.proofs.CornerTables.{not-below}
 use Rattle.prune.proofs.Summing.{sum-turn, sum-skip, sum-done}
 use Rattle.prune.proofs.marking.reaches_among.Statement.{statement}
 use Rattle.prune.proofs.marking.reaches_among.Tie as tie

@@ -4,7 +4,7 @@ use native.Mathlib.Omega.{arith}
 use borrow.Author.Needs.{needs}
 use Rattle.plan.specs.Inner.Seam.{cornerCount}
 use Rattle.prune.specs.Inner.Tables.{FarTable}
-use Rattle.prune.proofs.Corners.{fill-corner}
+use Rattle.prune.proofs.CornerTables.{fill-corner}
 use Rattle.prune.proofs.tables.fill_corners.Statement.{statement}
 use Rattle.prune.proofs.tables.fill_corners.Tie as tie
 

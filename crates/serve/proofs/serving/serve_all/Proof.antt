@@ -5,7 +5,7 @@ use native.Mathlib.Omega.{arith}
 use lib.ListN.{length, getD, take, length-take}
 use borrow.Author.Needs.{needs}
 use Rattle.blocks.specs.Layout.{maxTiles}
-use Rattle.list.specs.Lists.{lent}
+use Rattle.list.specs.Slices.{lent}
 use Rattle.plan.specs.FilePlan.{entries}
 use Rattle.plan.specs.Inner.Seam.{ValidStop}
 use Rattle.plan.proofs.Measures.{tiles-few}

@@ -5,7 +5,7 @@ use native.Mathlib.Omega.{arith}
 use lib.ListN.{length, length-set, getD}
 use borrow.Author.Needs.{needs}
 use Rattle.list.specs.Inner.Keeping.{places}
-use Rattle.list.specs.Lists.{lists, lent}
+use Rattle.list.specs.Slices.{lists, lent}
 use Rattle.plan.specs.FilePlan.{openingOf}
 use Rattle.queue.specs.Inner.Keys.{none, Passed}
 use Rattle.search.specs.Inner.Cut.{lastAhead}
