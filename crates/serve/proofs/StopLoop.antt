@@ -31,8 +31,8 @@ module _ (f : List ℕ) (h : Header) (order : List ℕ) (ps : List (List ℤ)) (
   wholeRun = walksOf f h order ps k
 
   -- the stops from i on
-  abbrev pub rest : ℕ → Trace (List (List Place))
-  rest i = cutWalks (entries f h) k (openingOf f h) (inOrder (entries f h) order) (drop i ps)
+  abbrev pub restRun : ℕ → Trace (List (List Place))
+  restRun i = cutWalks (entries f h) k (openingOf f h) (inOrder (entries f h) order) (drop i ps)
 
   abbrev pub allPlaces : ℕ
   allPlaces = length ps * k
@@ -51,9 +51,9 @@ module _ (f : List ℕ) (h : Header) (order : List ℕ) (ps : List (List ℤ)) (
     pub long : length (o .marks) ≡ length (o₀ .marks)
     pub clear : Clear (o .lists) at allPlaces
     pub opens : OpenedOpen f h (o .marks)
-    pub fine : (ls : List (List Place)) → rest i .out ≡ accepted ls → Ends o at used ls
-    pub bad : (a b : ℕ) → rest i .out ≡ refused a b → wholeRun .out ≡ refused a b
-    pub asked : markAll (o₀ .marks) (wholeRun .asked) ≡ markAll (o .marks) (rest i .asked)
+    pub fine : (ls : List (List Place)) → restRun i .out ≡ accepted ls → Ends o at used ls
+    pub bad : (a b : ℕ) → restRun i .out ≡ refused a b → wholeRun .out ≡ refused a b
+    pub asked : markAll (o₀ .marks) (wholeRun .asked) ≡ markAll (o .marks) (restRun i .asked)
     pub under : cleared 0 allPlaces (h .tiles) o ≡ cleared 0 allPlaces (h .tiles) o₀
 
   pub stop-starts : Clear (o₀ .lists) 0 allPlaces → OpenedOpen f h (o₀ .marks) → StopTurn o₀ 0 0 0
@@ -92,7 +92,7 @@ module _ {f : List ℕ} {h : Header} {order : List ℕ} {ps : List (List ℤ)} {
   W = wholeRun f h order ps k o₀
 
   abbrev R : ℕ → Trace (List (List Place))
-  R j = rest f h order ps k o₀ j
+  R j = restRun f h order ps k o₀ j
 
   abbrev N : ℕ
   N = allPlaces f h order ps k o₀

@@ -41,8 +41,8 @@ module _ (f : List ℕ) (h : Header) (order : List ℕ) (g : Target) (o₀ : Sli
   abbrev pub wholeWalk : Trace (List Place)
   wholeWalk = walkOf f h order (g .stop) (g .k)
 
-  abbrev pub rest : List ℕ → List Place → Trace (List Place)
-  rest keys l =
+  abbrev pub restWalk : List ℕ → List Place → Trace (List Place)
+  restWalk keys l =
       cutWalk (entries f h) (g .k) (openingOf f h) (g .stop) (inOrder (entries f h) (living order keys) (g .stop)) l
 
   -- the list as the slices hold it
@@ -56,8 +56,8 @@ module _ (f : List ℕ) (h : Header) (order : List ℕ) (g : Target) (o₀ : Sli
     pub opens : OpenedOpen f h (o .marks)
     pub lengths : SameLengths (o .lists) (o₀ .lists)
     pub long : length (o .marks) ≡ length (o₀ .marks)
-    pub out : wholeWalk .out ≡ rest keys (found o used) .out
-    pub asked : markAll (o₀ .marks) (wholeWalk .asked) ≡ markAll (o .marks) (rest keys (found o used) .asked)
+    pub out : wholeWalk .out ≡ restWalk keys (found o used) .out
+    pub asked : markAll (o₀ .marks) (wholeWalk .asked) ≡ markAll (o .marks) (restWalk keys (found o used) .asked)
     pub under : over (o .marks) 0 (replicate (h .tiles) 0) ≡ over (o₀ .marks) 0 (replicate (h .tiles) 0)
 
   -- at the start: all tiles wait, with their keys
@@ -65,7 +65,7 @@ module _ (f : List ℕ) (h : Header) (order : List ℕ) (g : Target) (o₀ : Sli
       → living order keys ≡ order → OpenedOpen f h (o₀ .marks) → TileTurn keys o₀ 0
   unfolding places tabulate
   tile-starts {keys} ready keyed all opens =
-      let w : rest keys [] ≡ wholeWalk =
+      let w : restWalk keys [] ≡ wholeWalk =
       ap (λ z. cutWalk (entries f h) (g .k) (openingOf f h) (g .stop) (inOrder (entries f h) z (g .stop)) []) all in
       record {
         ready = ready;
@@ -86,7 +86,7 @@ module _ {f : List ℕ} {h : Header} {order : List ℕ} {g : Target} {o₀ : Sli
   W = wholeWalk f h order g o₀
 
   abbrev R : List ℕ → List Place → Trace (List Place)
-  R ks l = rest f h order g o₀ ks l
+  R ks l = restWalk f h order g o₀ ks l
 
   abbrev F : Slices → ℕ → List Place
   F p n = found f h order g o₀ p n

@@ -43,15 +43,15 @@ entry-of : (p i : ℕ) → i < entriesPerBlock axes → ((entriesPerBlock axes *
 entry-of p i l = (omega arith, omega arith)
 
 module _ (s : Supply) where
-  abbrev directory : ℕ → List ℕ
-  directory = directoryBytes (s .boxes) (s .counts)
+  abbrev directoryPart : ℕ → List ℕ
+  directoryPart = directoryBytes (s .boxes) (s .counts)
 
   abbrev tile : ℕ → List ℕ
   tile = tileBytesOf (s .counts) (s .spots) (s .cues)
 
-  length-all : length (joined directory 0 (directoryBlocks (headerOf (s .counts))))
+  length-all : length (joined directoryPart 0 (directoryBlocks (headerOf (s .counts))))
       ≡ blockSize * directoryBlocks (headerOf (s .counts))
-  length-all = length-joined directory blockSize 0 (directoryBlocks (headerOf (s .counts)))
+  length-all = length-joined directoryPart blockSize 0 (directoryBlocks (headerOf (s .counts)))
       (λ i l. length-directory-block (s .boxes) (s .counts) (0 + i))
 
   module _ (few : (t : ℕ) → t < tilesOf s → countOf (s .counts) t ≤ maxSites axes) where
@@ -69,7 +69,7 @@ module _ (s : Supply) where
     length-file =
         omega (
           arith,
-          length-append (joined directory 0 (directoryBlocks (headerOf (s .counts)))) (joined tile 0 (tilesOf s)),
+          length-append (joined directoryPart 0 (directoryBlocks (headerOf (s .counts)))) (joined tile 0 (tilesOf s)),
           length-all,
           length-joined tile blockSize 0 (tilesOf s) tile-width,
         )
@@ -77,39 +77,40 @@ module _ (s : Supply) where
     -- ---- block by block
     module _ (f : List ℕ) where
       file-directory : Holds f 0 (fileBytes s) → (p : ℕ) → p < directoryBlocks (headerOf (s .counts)) →
-          Holds (blockAt f p) 0 (directory p)
+          Holds (blockAt f p) 0 (directoryPart p)
       unfolding fileBytes blockAt
       file-directory h p l =
-          let g = holds-left f 0 (joined directory 0 (directoryBlocks (headerOf (s .counts))))
+          let g = holds-left f 0 (joined directoryPart 0 (directoryBlocks (headerOf (s .counts))))
           (joined tile 0 (tilesOf s)) h in
-          let e = holds-each f directory blockSize 0 0 (directoryBlocks (headerOf (s .counts)))
+          let e = holds-each f directoryPart blockSize 0 0 (directoryBlocks (headerOf (s .counts)))
           (λ i m. length-directory-block (s .boxes) (s .counts) (0 + i)) g p l in
           let m = length-directory-block (s .boxes) (s .counts) p in
-          holds-part (holds-run e (ap directory (zero-add p))) blockSize (blockSize * p) 0 (omega arith) (omega arith)
+          holds-part (holds-run e (ap directoryPart (zero-add p))) blockSize (blockSize * p) 0 (omega arith)
+          (omega arith)
 
       file-tile : Holds f 0 (fileBytes s) → (t : ℕ) → t < tilesOf s →
           Holds (blockAt f (tilePosition (headerOf (s .counts)) t)) 0 (tile t)
       unfolding fileBytes blockAt tilePosition
       file-tile h t l =
           let d = directoryBlocks (headerOf (s .counts)) in
-          let u : blockSize * d ≡ 0 + length (joined directory 0 d) = omega (arith, length-all) in
-          let g = holds-right f 0 (joined directory 0 d) (joined tile 0 (tilesOf s)) u h in
+          let u : blockSize * d ≡ 0 + length (joined directoryPart 0 d) = omega (arith, length-all) in
+          let g = holds-right f 0 (joined directoryPart 0 d) (joined tile 0 (tilesOf s)) u h in
           let e = holds-each f tile blockSize (blockSize * d) 0 (tilesOf s) tile-width g t l in
           let m = length-tile t l in
           holds-part (holds-run e (ap tile (zero-add t))) blockSize (blockSize * (d + t)) 0 (omega arith) (omega arith)
 
-      blocks-file : ((p : ℕ) → p < directoryBlocks (headerOf (s .counts)) → Holds (blockAt f p) 0 (directory p)) →
+      blocks-file : ((p : ℕ) → p < directoryBlocks (headerOf (s .counts)) → Holds (blockAt f p) 0 (directoryPart p)) →
           ((t : ℕ) → t < tilesOf s → Holds (blockAt f (tilePosition (headerOf (s .counts)) t)) 0 (tile t)) →
           Holds f 0 (fileBytes s)
       unfolding fileBytes blockAt tilePosition
       blocks-file h g =
           let d = directoryBlocks (headerOf (s .counts)) in
-          let u : blockSize * d ≡ 0 + length (joined directory 0 d) = omega (arith, length-all) in
-          holds-append f 0 (joined directory 0 d) (joined tile 0 (tilesOf s)) u
-          (holds-joined f directory blockSize 0 0 d (λ i m. length-directory-block (s .boxes) (s .counts) (0 + i))
+          let u : blockSize * d ≡ 0 + length (joined directoryPart 0 d) = omega (arith, length-all) in
+          holds-append f 0 (joined directoryPart 0 d) (joined tile 0 (tilesOf s)) u
+          (holds-joined f directoryPart blockSize 0 0 d (λ i m. length-directory-block (s .boxes) (s .counts) (0 + i))
           (λ p l. let m = length-directory-block (s .boxes) (s .counts) p in
           holds-run (part-holds blockSize (blockSize * p) (h p l) (omega arith) (omega arith))
-          (ap directory (sym (zero-add p)))))
+          (ap directoryPart (sym (zero-add p)))))
           (holds-joined f tile blockSize (blockSize * d) 0 (tilesOf s) tile-width
           (λ t l. let m = length-tile t l in
           holds-run (part-holds blockSize (blockSize * (d + t)) (g t l) (omega arith) (omega arith))
