@@ -6,7 +6,7 @@ use native.Mathlib.Nat.{suc-mul, mul-le-mul-right}
 use native.Mathlib.Omega.{arith}
 use lib.ListN.{length, getD, length-append}
 use Rattle.search.specs.Limits.{maxK}
-use Rattle.console.specs.Inner.Room.{stopRoom}
+use Rattle.console.specs.Inner.Room.{distanceRoom, placeRoom, countsRoom, stopRoom, refusedRoom}
 use Rattle.console.specs.Line.{separator, refusedLine, countsLine, placeText, textAt, placesText, stopLine}
 use Rattle.console.specs.Text.{textBytes, labelled}
 use Rattle.console.proofs.TextLaws.{labelled-32, labelled-64, joined-short}
@@ -19,7 +19,7 @@ separator-short : (j : ℕ) → length (separator j) ≤ 2
 separator-short zero = omega arith
 separator-short (suc j) = omega arith
 
-pub distance-short : (j dist : ℕ) → dist < 2 ^ 64 → length (labelled (separator j) dist) ≤ 22
+pub distance-short : (j dist : ℕ) → dist < 2 ^ 64 → length (labelled (separator j) dist) ≤ distanceRoom
 distance-short j dist l = omega (arith, labelled-64 (separator j) dist l, separator-short j)
 
 length-place : (j dist site cue : ℕ) → length (placeText j dist site cue)
@@ -32,7 +32,7 @@ length-place j dist site cue =
     (length-append (labelled (separator j) dist) (labelled (textBytes " ") site))
 
 pub place-short : (j dist site cue : ℕ) → dist < 2 ^ 64 → site < 2 ^ 32 → cue < 2 ^ 32
-    → length (placeText j dist site cue) ≤ 44
+    → length (placeText j dist site cue) ≤ placeRoom
 place-short j dist site cue d s c =
     omega (
       arith,
@@ -54,7 +54,7 @@ length-counts tiles opened pruned =
     ∙ ap (λ n. n + 1) (length-append (t ++ o) p ∙ ap (λ n. n + length p) (length-append t o))
 
 pub counts-short : (tiles opened pruned : ℕ) → tiles < 2 ^ 32 → opened < 2 ^ 32 → pruned < 2 ^ 32 →
-    length (countsLine tiles opened pruned) ≤ 53
+    length (countsLine tiles opened pruned) ≤ countsRoom
 counts-short tiles opened pruned t o p = omega (
   arith,
   length-counts tiles opened pruned,
@@ -70,7 +70,7 @@ length-refused number block =
     length-append (labelled (textBytes "refused ") number ++ labelled (textBytes " block ") block) (textBytes "\n")
     ∙ ap (λ n. n + 1) (length-append (labelled (textBytes "refused ") number) (labelled (textBytes " block ") block))
 
-pub refused-short : (number block : ℕ) → number < 2 ^ 32 → block < 2 ^ 32 → length (refusedLine number block) ≤ 36
+pub refused-short : (number block : ℕ) → number < 2 ^ 32 → block < 2 ^ 32 → length (refusedLine number block) ≤ refusedRoom
 refused-short number block n b =
     omega (
       arith,
@@ -82,13 +82,13 @@ refused-short number block n b =
 -- slices of 64, 32 and 32 bits
 module _ (dist site cue : List ℕ) (ds : (i : ℕ) → getD dist i 0 < 2 ^ 64) (ss : (i : ℕ) → getD site i 0 < 2 ^ 32)
     (cs : (i : ℕ) → getD cue i 0 < 2 ^ 32) where
-  at-short : (from j : ℕ) → length (textAt dist site cue from j) ≤ 44
+  at-short : (from j : ℕ) → length (textAt dist site cue from j) ≤ placeRoom
   unfolding textAt
   at-short from j = place-short j _ _ _ (ds (from + j)) (ss (from + j)) (cs (from + j))
 
-  pub places-short : (from used : ℕ) → length (placesText dist site cue from used) ≤ 44 * used
+  pub places-short : (from used : ℕ) → length (placesText dist site cue from used) ≤ placeRoom * used
   unfolding placesText
-  places-short from used = joined-short (textAt dist site cue from) 44 0 used (at-short from)
+  places-short from used = joined-short (textAt dist site cue from) placeRoom 0 used (at-short from)
 
   length-stop : (k used i : ℕ) → length (stopLine dist site cue k used i)
       ≡ length (labelled (textBytes "stop ") i) + 1 + length (placesText dist site cue (i * k) used) + 1

@@ -24,7 +24,7 @@ use join::call::join;
 // Room for every output: a line of counts and a line for each stop, none longer than this.
 const COUNTS_ROOM: usize = 53;
 
-const STOP_ROOM: usize = 2843;
+const STOP_ROOM: usize = 27 + 44 * (search::MAX_K as usize);
 
 pub const ROOM: usize = COUNTS_ROOM + request::REQUEST_STOPS * STOP_ROOM;
 

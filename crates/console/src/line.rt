@@ -3,7 +3,8 @@ ghost use Prim.Native.Nat.{_+_, _*_, _≤_};
 ghost use lib.ListN.{length};
 ghost use Rattle.base.specs.Tabulate.{joined};
 ghost use Rattle.search.specs.Limits.{maxK};
-ghost use Rattle.console.specs.Inner.Room.{stopRoom};
+ghost use Rattle.console.specs.Inner.Room.{distanceRoom, placeRoom, countsRoom, wordsRoom, stopRoom};
+ghost use Rattle.console.specs.Inner.Room.{refusedRoom};
 ghost use Rattle.console.specs.Line.{separator, placeText, placesText, stopLine, countsLine, refusedLine};
 ghost use Rattle.console.specs.Text.{labelled, Wrote};
 use crate::text::put_labelled;
@@ -11,7 +12,7 @@ use crate::text::put_text;
 
 // The distance of place j, after what parts it from the place before.
 fn put_distance(out: &mut [u8], at: usize, j: usize, dist: u64) -> usize
-    requires { ⌜ at + 22 ≤ length (now out) ⌝ }
+    requires { ⌜ at + distanceRoom ≤ length (now out) ⌝ }
     ensures { λ r. ⌜ Wrote (now (out .entry)) at (labelled (separator j) dist) (now (out .exit)) r ⌝ }
 {
     if j == 0 {
@@ -21,7 +22,7 @@ fn put_distance(out: &mut [u8], at: usize, j: usize, dist: u64) -> usize
 }
 
 fn put_place(out: &mut [u8], at: usize, j: usize, dist: u64, site: u32, cue: u32) -> usize
-    requires { ⌜ at + 44 ≤ length (now out) ⌝ }
+    requires { ⌜ at + placeRoom ≤ length (now out) ⌝ }
     ensures { λ r. ⌜ Wrote (now (out .entry)) at (placeText j dist site cue) (now (out .exit)) r ⌝ }
 {
     let after_dist = put_distance(out, at, j, dist);
@@ -39,7 +40,7 @@ fn put_places(
     from: usize,
     used: usize,
 ) -> usize
-    requires { ⌜ at + 44 * used ≤ length (now out) ⌝ }
+    requires { ⌜ at + placeRoom * used ≤ length (now out) ⌝ }
     requires { ⌜ (from + used ≤ length (now dist)) × (from + used ≤ length (now site))
         × (from + used ≤ length (now cue)) ⌝ }
     ensures { λ r. ⌜ Wrote (now (out .entry)) at (placesText (now (dist .entry)) (now (site .entry))
@@ -64,7 +65,7 @@ fn put_stop(
     used: usize,
     i: usize,
 ) -> usize
-    requires { ⌜ at + 27 + 44 * used ≤ length (now out) ⌝ }
+    requires { ⌜ at + wordsRoom + placeRoom * used ≤ length (now out) ⌝ }
     requires { ⌜ (i * k + used ≤ length (now dist)) × (i * k + used ≤ length (now site))
         × (i * k + used ≤ length (now cue)) ⌝ }
     ensures { λ r. ⌜ Wrote (now (out .entry)) at (stopLine (now (dist .entry)) (now (site .entry))
@@ -104,9 +105,9 @@ pub fn put_stops(
 }
 
 pub fn put_counts(out: &mut [u8], at: usize, tiles: u32, opened: u32, pruned: u32) -> usize
-    requires { ⌜ at + 53 ≤ length (now out) ⌝ }
+    requires { ⌜ at + countsRoom ≤ length (now out) ⌝ }
     ensures text { λ r. ⌜ Wrote (now (out .entry)) at (countsLine tiles opened pruned) (now (out .exit)) r ⌝ }
-    ensures end { λ r. ⌜ r ≤ at + 53 ⌝ }
+    ensures end { λ r. ⌜ r ≤ at + countsRoom ⌝ }
 {
     let after_tiles = put_labelled(out, at, b"tiles ", tiles as u64);
     let after_opened = put_labelled(out, after_tiles, b" opened ", opened as u64);
@@ -115,9 +116,9 @@ pub fn put_counts(out: &mut [u8], at: usize, tiles: u32, opened: u32, pruned: u3
 }
 
 pub fn put_refused(out: &mut [u8], at: usize, number: u32, block: u32) -> usize
-    requires { ⌜ at + 36 ≤ length (now out) ⌝ }
+    requires { ⌜ at + refusedRoom ≤ length (now out) ⌝ }
     ensures text { λ r. ⌜ Wrote (now (out .entry)) at (refusedLine number block) (now (out .exit)) r ⌝ }
-    ensures end { λ r. ⌜ r ≤ at + 36 ⌝ }
+    ensures end { λ r. ⌜ r ≤ at + refusedRoom ⌝ }
 {
     let after_number = put_labelled(out, at, b"refused ", number as u64);
     let after_block = put_labelled(out, after_number, b" block ", block as u64);

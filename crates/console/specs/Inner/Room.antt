@@ -1,6 +1,8 @@
 -- Room for the output: what the code that prints an answer needs of it.
 --
---   countsRoom, stopRoom, outputRoom   bytes for the first line, for a stop's, for all
+--   distanceRoom, placeRoom            bytes for the distance of a place, for a place
+--   countsRoom, stopRoom, outputRoom   for the first line, for a stop's, for all
+--   refusedRoom                        for a refusal
 --   Fitting, Printable                 an answer, an outcome that fits
 use Prim.Native.Nat.{ℕ, _+_, _*_, _≤_}
 use Rattle.base.specs.Refusal.{Outcome, accepted, refused}
@@ -9,12 +11,25 @@ use Rattle.list.specs.Slices.{Lists, Long}
 use Rattle.search.specs.Limits.{maxK}
 use Rattle.console.specs.Limits.{requestStops}
 
--- no line of counts and no line of a stop is longer; so is no output
+-- a number of 64 bits has at most 20 digits, one of 32 bits 10
+abbrev pub distanceRoom : ℕ
+distanceRoom = 22
+
+abbrev pub placeRoom : ℕ
+placeRoom = distanceRoom + 11 + 11
+
+-- no line of counts, of a stop or of a refusal is longer; so is no output
 abbrev pub countsRoom : ℕ
 countsRoom = 53
 
+abbrev pub wordsRoom : ℕ
+wordsRoom = 27
+
 abbrev pub stopRoom : ℕ
-stopRoom = 2843
+stopRoom = wordsRoom + placeRoom * maxK
+
+abbrev pub refusedRoom : ℕ
+refusedRoom = 36
 
 abbrev pub outputRoom : ℕ
 outputRoom = countsRoom + requestStops * stopRoom

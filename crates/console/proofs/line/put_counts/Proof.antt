@@ -2,6 +2,7 @@ use Prim.Native.Nat.{_+_, _≤_}
 use native.Mathlib.Omega.{arith}
 use lib.ListN.{length}
 use borrow.Author.Needs.{needs}
+use Rattle.console.specs.Inner.Room.{countsRoom}
 use Rattle.console.specs.Line.{countsLine}
 use Rattle.console.specs.Text.{textBytes}
 use Rattle.console.proofs.LineLaws.{counts-short}
@@ -24,7 +25,7 @@ slice-aggregate-put-labelled-2 c = search needs
 after-tiles : (c : tie.After-put-labelled) → c .put-labelled .result + 37 ≤ length (c .put-labelled .last .0)
 after-tiles c =
     let s : tie.Start = search in
-    room-after 53 37 (c .put-labelled .ensures) (s .pre)
+    room-after countsRoom 37 (c .put-labelled .ensures) (s .pre)
     (omega (arith, labelled-32 (textBytes "tiles ") (s .args .tiles) (s .fits .tiles .fits)))
 
 after-opened : (c : tie.After-put-labelled2) → c .put-labelled2 .result + 19 ≤ length (c .put-labelled2 .last .0)

@@ -1,5 +1,6 @@
 use native.Mathlib.Omega.{arith}
 use borrow.Author.Needs.{needs}
+use Rattle.console.specs.Inner.Room.{placeRoom}
 use Rattle.console.specs.Line.{placeText}
 use Rattle.console.specs.Text.{textBytes}
 use Rattle.console.proofs.LineLaws.{distance-short}
@@ -17,7 +18,7 @@ put-labelled-requires : tie.Need-put-labelled-requires
 put-labelled-requires c κs =
     let s : tie.Start = search in
     let e : tie.After-put-distance = search in
-    let room = room-after 44 22 (e .put-distance .ensures) (s .pre) (omega (
+    let room = room-after placeRoom 22 (e .put-distance .ensures) (s .pre) (omega (
       arith,
       distance-short (s .args .j)
           (s .args .dist) (s .fits .dist .fits),
@@ -32,7 +33,7 @@ put-labelled-requires-2 c κs =
     let s : tie.Start = search in
     let e : tie.After-put-distance = search in
     let a : tie.After-put-labelled = search in
-    let room = room-after 44 22 (e .put-distance .ensures) (s .pre) (omega (
+    let room = room-after placeRoom 22 (e .put-distance .ensures) (s .pre) (omega (
       arith,
       distance-short (s .args .j)
           (s .args .dist) (s .fits .dist .fits),

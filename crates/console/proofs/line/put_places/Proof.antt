@@ -3,6 +3,7 @@ use mathlib.Core.Path.{_≡_, refl, _∙_}
 use native.Mathlib.Omega.{arith}
 use lib.ListN.{length}
 use borrow.Author.Needs.{needs}
+use Rattle.console.specs.Inner.Room.{placeRoom}
 use Rattle.console.specs.Line.{placesText, textAt}
 use Rattle.console.proofs.LineLaws.{place-short}
 use Rattle.console.proofs.TextLaws.{Parts, parts-start, parts-turn, parts-end, same-room}
@@ -11,7 +12,7 @@ use Rattle.console.proofs.line.put_places.Tie as tie
 
 abbrev Inv-loop : tie.InvT-loop
 Inv-loop out₀ at dist site cue from used next₀ j₀ out next j =
-    (j ≤ used) × (next ≤ at + 44 * j) × (length out ≡ length out₀)
+    (j ≤ used) × (next ≤ at + placeRoom * j) × (length out ≡ length out₀)
     × Parts (textAt dist site cue from) used out₀ at out next j
 
 abbrev μ-loop : tie.MeasureT-loop
@@ -62,7 +63,7 @@ loop-less c = search needs
 -- the text of a place is short
 short : (l : tie.At-loop Inv-loop μ-loop) →
     let s : tie.Start Inv-loop μ-loop = search in
-    length (textAt (s .args .dist .now) (s .args .site .now) (s .args .cue .now) (s .args .from) (l .loop .j)) ≤ 44
+    length (textAt (s .args .dist .now) (s .args .site .now) (s .args .cue .now) (s .args .from) (l .loop .j)) ≤ placeRoom
 unfolding textAt
 short l =
     let s : tie.Start Inv-loop μ-loop = search in

@@ -1,5 +1,6 @@
 use native.Mathlib.Omega.{arith}
 use borrow.Author.Needs.{needs}
+use Rattle.console.specs.Inner.Room.{refusedRoom}
 use Rattle.console.specs.Line.{refusedLine}
 use Rattle.console.specs.Text.{textBytes}
 use Rattle.console.proofs.LineLaws.{refused-short}
@@ -22,7 +23,7 @@ put-labelled-requires-2 : tie.Need-put-labelled-requires-2
 put-labelled-requires-2 c κs =
     let s : tie.Start = search in
     let a : tie.After-put-labelled = search in
-    let room = room-after 36 18 (a .put-labelled .ensures) (s .pre)
+    let room = room-after refusedRoom 18 (a .put-labelled .ensures) (s .pre)
     (omega (arith, labelled-32 (textBytes "refused ") (s .args .number) (s .fits .number .fits))) in
     omega (arith, room, digits-32 (s .args .block) (s .fits .block .fits))
 
@@ -34,7 +35,7 @@ put-text-requires c κs =
     let s : tie.Start = search in
     let a : tie.After-put-labelled = search in
     let b : tie.After-put-labelled2 = search in
-    let room = room-after 36 18 (a .put-labelled .ensures) (s .pre)
+    let room = room-after refusedRoom 18 (a .put-labelled .ensures) (s .pre)
     (omega (arith, labelled-32 (textBytes "refused ") (s .args .number) (s .fits .number .fits))) in
     room-after 18 1 (b .put-labelled2 .ensures) room (omega (
       arith,

@@ -2,6 +2,7 @@ use Prim.Native.Nat.{_+_, _*_, _≤_}
 use native.Mathlib.Omega.{arith}
 use lib.ListN.{length}
 use borrow.Author.Needs.{needs}
+use Rattle.console.specs.Inner.Room.{wordsRoom, placeRoom}
 use Rattle.console.specs.Line.{placesText, stopLine}
 use Rattle.console.specs.Text.{textBytes}
 use Rattle.console.proofs.LineLaws.{places-short}
@@ -22,17 +23,17 @@ slice-aggregate-put-text c = search needs
 
 -- the room left after each part
 after-number : (c : tie.After-put-labelled) → (let s : tie.Start = search in
-    c .put-labelled .result + (2 + 44 * s .args .used) ≤ length (c .put-labelled .last .0))
+    c .put-labelled .result + (2 + placeRoom * s .args .used) ≤ length (c .put-labelled .last .0))
 after-number c =
     let s : tie.Start = search in
-    room-after (27 + 44 * s .args .used) (2 + 44 * s .args .used) (c .put-labelled .ensures)
+    room-after (wordsRoom + placeRoom * s .args .used) (2 + placeRoom * s .args .used) (c .put-labelled .ensures)
     (omega (arith, s .pre .0)) (omega (arith, labelled-64 (textBytes "stop ") (s .args .i) (s .fits .i .fits)))
 
 after-colon : (c : tie.After-put-text) → (let s : tie.Start = search in
-    c .put-text .result + (1 + 44 * s .args .used) ≤ length (c .put-text .last .0))
+    c .put-text .result + (1 + placeRoom * s .args .used) ≤ length (c .put-text .last .0))
 after-colon c =
     let s : tie.Start = search in
-    room-after (2 + 44 * s .args .used) (1 + 44 * s .args .used) (c .put-text .ensures) (after-number search)
+    room-after (2 + placeRoom * s .args .used) (1 + placeRoom * s .args .used) (c .put-text .ensures) (after-number search)
     (omega arith)
 
 put-text-requires : tie.Need-put-text-requires
@@ -54,7 +55,7 @@ slice-aggregate-put-text-2 c = search needs
 
 -- the places are short, since their numbers fit
 few-bytes : (c : tie.After-shared-slice-known3) → (let s : tie.Start = search in let a = s .args in
-    length (placesText (a .dist .now) (a .site .now) (a .cue .now) (a .i * a .k) (a .used)) ≤ 44 * a .used)
+    length (placesText (a .dist .now) (a .site .now) (a .cue .now) (a .i * a .k) (a .used)) ≤ placeRoom * a .used)
 few-bytes c =
     let s : tie.Start = search in
     let l : tie.After-shared-slice-known = search in
@@ -66,7 +67,7 @@ few-bytes c =
 after-places : (c : tie.After-put-places) → c .put-places .result + 1 ≤ length (c .put-places .last .0)
 after-places c =
     let s : tie.Start = search in
-    room-after (1 + 44 * s .args .used) 1 (c .put-places .ensures) (after-colon search)
+    room-after (1 + placeRoom * s .args .used) 1 (c .put-places .ensures) (after-colon search)
     (omega (arith, few-bytes search))
 
 put-text-requires-2 : tie.Need-put-text-requires-2
