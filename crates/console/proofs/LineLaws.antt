@@ -70,7 +70,8 @@ length-refused number block =
     length-append (labelled (textBytes "refused ") number ++ labelled (textBytes " block ") block) (textBytes "\n")
     ∙ ap (λ n. n + 1) (length-append (labelled (textBytes "refused ") number) (labelled (textBytes " block ") block))
 
-pub refused-short : (number block : ℕ) → number < 2 ^ 32 → block < 2 ^ 32 → length (refusedLine number block) ≤ refusedRoom
+pub refused-short : (number block : ℕ) → number < 2 ^ 32 → block < 2 ^ 32
+    → length (refusedLine number block) ≤ refusedRoom
 refused-short number block n b =
     omega (
       arith,

@@ -63,7 +63,8 @@ loop-less c = search needs
 -- the text of a place is short
 short : (l : tie.At-loop Inv-loop μ-loop) →
     let s : tie.Start Inv-loop μ-loop = search in
-    length (textAt (s .args .dist .now) (s .args .site .now) (s .args .cue .now) (s .args .from) (l .loop .j)) ≤ placeRoom
+    length (textAt (s .args .dist .now) (s .args .site .now) (s .args .cue .now) (s .args .from) (l .loop .j))
+    ≤ placeRoom
 unfolding textAt
 short l =
     let s : tie.Start Inv-loop μ-loop = search in

@@ -33,8 +33,8 @@ after-colon : (c : tie.After-put-text) → (let s : tie.Start = search in
     c .put-text .result + (1 + placeRoom * s .args .used) ≤ length (c .put-text .last .0))
 after-colon c =
     let s : tie.Start = search in
-    room-after (2 + placeRoom * s .args .used) (1 + placeRoom * s .args .used) (c .put-text .ensures) (after-number search)
-    (omega arith)
+    room-after (2 + placeRoom * s .args .used) (1 + placeRoom * s .args .used) (c .put-text .ensures)
+    (after-number search) (omega arith)
 
 put-text-requires : tie.Need-put-text-requires
 put-text-requires c κs =
