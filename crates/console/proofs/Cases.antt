@@ -24,7 +24,7 @@ use Rattle.encode.specs.Encode.{directoryBytes, tileBytes, tileBytesOf, fileByt
 use Rattle.writer.specs.Write.{tilesFit, entryFits, listsFit, sitesFit, tileFits, writeTests, writeCall, writeExit}
 use Rattle.search.specs.Lists.{count, total, filter, member}
 use Rattle.search.specs.Order.{lex, insert, sort}
-use Rattle.search.specs.Plan.{ranks, ranked}
+use Rattle.search.specs.Plan.{ranked}
 use Rattle.search.specs.Pruning.{pruned, prunedCount}
 use Rattle.search.specs.Run.{rank, aheadOf, listing, placesOf, nearest, contents, opening, byKey, ahead, candidate}
 use Rattle.search.specs.Run.{queue, follow, enough, serve, run, placesUsed, join, padded, inRows, mark, marks}
@@ -49,7 +49,7 @@ unfolding every withinLimits validAxis validBox validPoint onAxis inside gap squ
     directoryRest directory boxAt countAt inTurn siteOffset siteIn tilePadding siteInside tileBlock tilePosition
     openTile siteAt sitesAt boxOf offset headBytes checkBytes bodyBytes blockBytes boxBytes entryBytes siteBytes
     directoryBytes tileBytes tileBytesOf fileBytes fileLength tilesFit entryFits listsFit sitesFit tileFits writeTests
-    writeCall writeExit count total filter member lex insert sort ranks ranked pruned
+    writeCall writeExit count total filter member lex insert sort ranked pruned
     prunedCount rank aheadOf listing placesOf nearest contents opening byKey ahead candidate queue follow enough serve
     run placesUsed join padded inRows mark marks validK validStop stopsDue stopsValid room arguments lay cleared
     openingOf runFor tests filled ended runEnd joinFrom joinEnd widthUpTo width digits decimal labelled refusedLine

@@ -14,7 +14,6 @@ use Rattle.list.specs.Slices.{Lists, placeAt, lay}
 use Rattle.plan.specs.FilePlan.{plane}
 use Rattle.plan.specs.Inner.Seam.{sitePlace, siteIn}
 use Rattle.search.specs.Inner.Cut.{inserts}
-use Rattle.search.specs.Plan.{ranks}
 use Rattle.search.specs.Run.{rank, listing}
 use Rattle.search.specs.declared.Place.{Place}
 use Rattle.base.proofs.Tests.{by-test}
@@ -34,7 +33,7 @@ module _ (s : List ℕ) (p : List ℤ) (k first slot n : ℕ) (l : List Place) w
       → inserts rank k (from s p first n (slot + 1))
       (inserts rank k (sitePlace p (first + slot) (siteIn s slot) ∷ []) l)
       ≡ inserts rank k (from s p first n slot) l
-  unfolding inserts listing ranks tabulate
+  unfolding inserts listing tabulate
   sites-turn h =
       let e : n - slot ≡ suc (n - (slot + 1)) = omega arith in
       let a : first + (slot + 1) ≡ suc (first + slot) = omega arith in

@@ -54,6 +54,7 @@ module _ (f : List ℕ) (h : Header) (o : List (List ℤ)) (read : directory f �
   pub lawful : Lawful (entries f h) o
   lawful = record {
     size-small = λ t l. entry-of-accepted f h t read l .1;
+    muted-few = λ t l. omega arith;
     min-dist-le = λ p t s i l j. near-exact p t i l .least (sitePoint s) (j .0);
     min-dist-reached = λ p t c i l.
         let n = other-cue c in
@@ -63,7 +64,9 @@ module _ (f : List ℕ) (h : Header) (o : List (List ℤ)) (read : directory f �
           (rw (q .1 .0) (e .point-inside), omega (arith, n .1 .0, q .1 .1)),
           rw (q .1 .0) (e .reached),
           λ a. n .1 .1 (sym (q .1 .1) ∙ a),
+          refl,
         );
+    muted-inside = λ t l some. absurd (omega arith);
     closer-less = λ p e b s u i he hb t j l.
         closer-exact o (boxAt f e) (boxAt f b) valid (valid-at e he) (valid-at b hb) (axes-at e) (axes-at b) .0
         t p (sitePoint s) (sitePoint u) i (j .0) (l .0);

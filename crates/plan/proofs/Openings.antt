@@ -1,5 +1,6 @@
 -- What opens agrees with the directory, and is the file's own town there. Assumes nothing.
 use Prim.Native.Nat.{ℕ, zero, suc, _+_, _<_, _^_}
+use mathlib.Core.Bool.{false}
 use mathlib.Core.List.{List}
 use mathlib.Core.Path.{_≡_, refl, sym, ap, _∙_}
 use native.Mathlib.Nat.{add-zero, zero-add}
@@ -22,6 +23,7 @@ use Rattle.blocks.proofs.BlockLaws.{length-block, block-bytes}
 use Rattle.blocks.proofs.DirectoryLaws.{directory-good, block-fits, box-valid, count-small}
 use Rattle.codec.proofs.Bytes.{u32-small}
 use Rattle.geometry.proofs.Theorems.{inside-valid}
+use Rattle.search.proofs.Lists.{all-any, count-none}
 use Rattle.tiles.proofs.Theorems.{opening-exactly, opened-number, opened-inside, sites-length}
 use Rattle.plan.specs.FilePlan.{entries, openingOf, townOf}
 use Rattle.plan.specs.Inner.Seam.{TileOf, Opens, BlockOf}
@@ -82,6 +84,7 @@ module _ (f : List ℕ) (h : Header) (t : ℕ) where
     unfolding sitesAt
     opened-fills e = record {
       counted = sites-length f h t;
+      silent = count-none (λ s. false) (townOf f h t) (all-any _ (townOf f h t) (λ s. refl));
       inside = all-tabulate _ (siteAt f h t) 0 (countAt f t)
           (λ i l. rw (zero-add i) (opened-inside f h t e i l, cue-small f bytes h t i));
     }

@@ -3,7 +3,7 @@
 use Prim.Native.Nat.{ℕ, _<_}
 use mathlib.Core.Bool.{true}
 use mathlib.Core.List.{List}
-use mathlib.Core.Path.{_≡_, _∙_}
+use mathlib.Core.Path.{_≡_, refl, _∙_}
 use lib.IntN.{ℤ}
 use lib.ListN.{length}
 use Rattle.base.specs.Refusal.{accepted}
@@ -52,11 +52,12 @@ module _ (f : List ℕ) (h : Header) where
 
 -- "Any file of the same length, equal to this one in every byte of the directory and of the opened tiles": g against f
 module _ (f g : List ℕ) (h : Header) (same : SameDirectory f g h) where
-  entry-same : (t : ℕ) → t < h .tiles → (boxAt g t ≡ boxAt f t) × (countAt g t ≡ countAt f t)
-  entry-same t l = entry-depends f g h t same l
+  entry-same : (t : ℕ) → t < h .tiles
+      → (boxAt g t ≡ boxAt f t) × (countAt g t ≡ countAt f t) × (entries g h .muted t ≡ entries f h .muted t)
+  entry-same t l = let e = entry-depends f g h t same l in (e .0, e .1, refl)
 
   pub used-depends : (k : ℕ) → placesUsed (entries g h) k ≡ placesUsed (entries f h) k
-  used-depends = same-used (entries f h) (boxAt g) (countAt g) entry-same
+  used-depends = same-used (entries f h) (boxAt g) (countAt g) (entries g h .muted) entry-same
 
   -- a tile whose block is the same opens alike
   pub openings-depend : (t : ℕ) → t < h .tiles → blockAt g (tilePosition h t) ≡ blockAt f (tilePosition h t)
@@ -69,13 +70,13 @@ module _ (f g : List ℕ) (h : Header) (same : SameDirectory f g h) where
   -- the same tiles are struck, the same marks and counts follow from the same openings
   module _ (o : List (List ℤ)) (k : ℕ) where
     pub pruned-depends : (t : ℕ) → t < h .tiles → pruned (entries g h) o k t ≡ pruned (entries f h) o k t
-    pruned-depends = same-pruned (entries f h) (boxAt g) (countAt g) entry-same o k
+    pruned-depends = same-pruned (entries f h) (boxAt g) (countAt g) (entries g h .muted) entry-same o k
 
     pub pruned-count-depends : prunedCount (entries g h) o k ≡ prunedCount (entries f h) o k
-    pruned-count-depends = same-pruned-count (entries f h) (boxAt g) (countAt g) entry-same o k
+    pruned-count-depends = same-pruned-count (entries f h) (boxAt g) (countAt g) (entries g h .muted) entry-same o k
 
     pub marks-depend : (opened : List ℕ) → marks (entries g h) o k opened ≡ marks (entries f h) o k opened
-    marks-depend = same-marks (entries f h) (boxAt g) (countAt g) entry-same o k
+    marks-depend = same-marks (entries f h) (boxAt g) (countAt g) (entries g h .muted) entry-same o k
 
     -- "gets an answer with the same lists": the same run, where the blocks of the tiles opened are the same
     pub join-depends : (ps : List (List ℤ))
@@ -85,7 +86,7 @@ module _ (f g : List ℕ) (h : Header) (same : SameDirectory f g h) where
     join-depends ps alike =
         let E = entries f h in
         let opened = join E o k (openingOf f h) ps .openings in
-        same-join E (boxAt g) (countAt g) entry-same o k (openingOf g h) ps
+        same-join E (boxAt g) (countAt g) (entries g h .muted) entry-same o k (openingOf g h) ps
         ∙ same-run E o k (openingOf f h) (openingOf g h) ps
         (all-both (λ t. t < h .tiles) (λ t. blockAt g (tilePosition h t) ≡ blockAt f (tilePosition h t))
         (λ t. openingOf g h t ≡ openingOf f h t) opened openings-depend (only-tiles E o k (openingOf f h) ps) alike)

@@ -25,13 +25,14 @@ pub use Rattle.tiles.specs.declared.tile.Site.{Site}
 abbrev pub axisCount : ℕ
 axisCount = layout.axes
 
--- points by their coordinates; "a cue (unsigned 32 bits, any number)"
+-- points by their coordinates; "a cue (unsigned 32 bits, any number)"; every site ranks
 abbrev pub plane : Geometry
 plane = record {
   Site = Site;
   Stop = List ℤ;
   Box = List (List ℤ);
   cue = λ s. s .cue;
+  ranks = λ s. true;
   Inside = λ b s. (inside b (sitePoint s) ≡ true) × (s .cue < limit32);
   Within = λ b p. inside b p ≡ true;
   D = λ p s. D p (sitePoint s);
@@ -40,7 +41,7 @@ plane = record {
 }
 
 abbrev pub entries : List ℕ → Header → Directory plane
-entries f h = record { tiles = h .tiles; box = boxAt f; size = countAt f }
+entries f h = record { tiles = h .tiles; box = boxAt f; size = countAt f; muted = λ t. 0 }
 
 -- "opened, which checks its block": its sites by slot, or the refusal
 unfoldable pub openingOf : List ℕ → Header → ℕ → Outcome (List Site)

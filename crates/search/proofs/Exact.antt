@@ -18,7 +18,7 @@ use Rattle.search.specs.FullSearch.{refill, firstOf}
 use Rattle.search.specs.Inner.Walk.{walkBy}
 use Rattle.search.specs.Lists.{range, count, All}
 use Rattle.search.specs.Order.{lex, sort}
-use Rattle.search.specs.Plan.{Geometry, Directory, Lawful, slots, ranks, Town, Agrees}
+use Rattle.search.specs.Plan.{Geometry, Directory, Lawful, slots, Town, Agrees}
 use Rattle.search.specs.Run.{tilePlaces, Place, rank, aheadOf, listing, placesOf, nearest, byKey, queue, ahead}
 use Rattle.search.specs.Run.{enough}
 use Rattle.search.proofs.Fillings.{another-site, ranked-count, refit, refill-here, refill-there, refill-agrees}
@@ -38,7 +38,7 @@ at-seam [] x b = refl
 at-seam (y ∷ a) x b = at-seam a x b
 
 module _ {G : Geometry} (E : Directory G) (O : G .Box) (k : ℕ) where
-  open Geometry G using (Site, Stop, cue, Inside, Within, D, minDist)
+  open Geometry G using (Site, Stop, cue, ranks, Inside, Within, D, minDist)
   open Directory E using (tiles, box)
 
   -- ---- a tile asked for: fewer than k places are ahead of its key
@@ -122,13 +122,13 @@ module _ {G : Geometry} (E : Directory G) (O : G .Box) (k : ℕ) where
     it : Site
     later : List Site
     parts : l ≡ earlier ++ it ∷ later
-    silent : All (λ s. ranks G s ≡ false) earlier
-    loud : ranks G it ≡ true
+    silent : All (λ s. ranks s ≡ false) earlier
+    loud : ranks it ≡ true
 
-  first : (l : List Site) → 0 < count (ranks G) l → First l
+  first : (l : List Site) → 0 < count ranks l → First l
   unfolding count
   first [] h = absurd (omega arith)
-  first (s ∷ l) h = by-test (ranks G s)
+  first (s ∷ l) h = by-test (ranks s)
       (λ e. record { earlier = []; it = s; later = l; parts = refl; silent = tt; loud = e })
       (λ e.
       let r = first l (let g = rw e at h in omega arith) in
@@ -142,7 +142,7 @@ module _ {G : Geometry} (E : Directory G) (O : G .Box) (k : ℕ) where
       })
 
   -- sites that do not rank take numbers and no places
-  listing-silent : (p : Stop) (a : ℕ) (f₀ f : List Site) → All (λ s. ranks G s ≡ false) f₀
+  listing-silent : (p : Stop) (a : ℕ) (f₀ f : List Site) → All (λ s. ranks s ≡ false) f₀
       → listing G p a (f₀ ++ f) ≡ listing G p (a + length f₀) f
   unfolding listing
   listing-silent p a [] f h = rw (add-zero a)
@@ -153,7 +153,7 @@ module _ {G : Geometry} (E : Directory G) (O : G .Box) (k : ℕ) where
   -- it has a place
   first-listed : (p : Stop) (g : Town G) (t : ℕ) (f₀ : List Site) (q : Site) (f : List Site) (ts : List ℕ)
       → g t ≡ f₀ ++ q ∷ f
-      → All (λ s. ranks G s ≡ false) f₀ → ranks G q ≡ true → List·Memᴰ t ts
+      → All (λ s. ranks s ≡ false) f₀ → ranks q ≡ true → List·Memᴰ t ts
       → List·Memᴰ (record { dist = D p q; site = t * slots + length f₀; cue = cue q }) (placesOf G p g ts)
   unfolding placesOf listing
   first-listed p g t f₀ q f ts e h l (List·Memᴰ·head i) =
@@ -176,7 +176,7 @@ module _ {G : Geometry} (E : Directory G) (O : G .Box) (k : ℕ) where
     slot : ℕ
     slot = length (b .earlier)
 
-    other : (q : Site) × Inside (box t) q × (D p q ≡ minDist p (box t)) × (cue q ≡ cue (b .it) → ⊥) × (ranks G q ≡ true)
+    other : (q : Site) × Inside (box t) q × (D p q ≡ minDist p (box t)) × (cue q ≡ cue (b .it) → ⊥) × (ranks q ≡ true)
     other = another-site E L p home t ht (cue (b .it))
 
     q : Site

@@ -1,60 +1,108 @@
--- Fillings of a tile: how many of their sites rank, that there is one, and one with another site in a slot. What is
--- known of `ranks` and `ranked` stands here, and nothing else is used.
-use Prim.Native.Nat.{ℕ, zero, suc, _<_}
-use mathlib.Core.Bool.{true, false}
-use mathlib.Core.List.{List, _∷_, _++_}
-use mathlib.Core.Path.{_≡_, refl, _∙_}
+-- Fillings of a tile: how many of their sites rank, that there is one, and one with another site in a slot.
+use Prim.Native.Nat.{ℕ, zero, suc, _+_, _-_, _<_}
+use mathlib.Core.Bool.{Bool, true, false, not}
+use mathlib.Core.List.{List, [], _∷_, _++_}
+use mathlib.Core.Path.{_≡_, refl}
 use native.Mathlib.Omega.{arith}
-use lib.Dec.{eqb}
-use lib.ListN.{replicate, length-append, length-replicate}
-use borrow.Author.Tests.{eqb-true, eq-eqb}
+use lib.Dec.{eqb, ltb}
+use lib.ListN.{length, replicate, length-append, length-replicate}
+use borrow.Author.Tests.{eqb-true, eq-eqb, ltb-true, ltb-false}
 use Rattle.base.proofs.Tests.{by-test}
 use Rattle.search.specs.FullSearch.{refill}
 use Rattle.search.specs.Lists.{count, All}
-use Rattle.search.specs.Plan.{Geometry, Directory, Lawful, ranks, ranked, Town, Fills, Agrees}
-use Rattle.search.proofs.Lists.{all-any, all-append, all-left, all-right, count-all}
+use Rattle.search.specs.Plan.{Geometry, Directory, Lawful, ranked, Town, Fills, Agrees}
+use Rattle.search.proofs.Lists.{all-append, all-left, all-right, count-append}
 
 all-replicate : {A : Type 0} (P : A → Type 0) (n : ℕ) (x : A) → P x → All P (replicate n x)
 all-replicate P zero x h = tt
 all-replicate P (suc n) x h = (h, all-replicate P n x h)
 
+-- how many pass a test, and how many do not
+count-both : {A : Type 0} (p : A → Bool) (l : List A) → count p l + count (λ a. not (p a)) l ≡ length l
+unfolding count
+count-both p [] = refl
+count-both p (x ∷ l) =
+    let ih = count-both p l in
+    by-test (p x) (λ e. rw e (omega arith)) (λ e. rw e (omega arith))
+
 module _ {G : Geometry} (E : Directory G) where
-  open Geometry G using (Site, Stop, cue, Inside, Within, D, minDist)
-  open Directory E using (tiles, box, size)
+  open Geometry G using (Site, Stop, cue, ranks, Inside, Within, D, minDist)
+  open Directory E using (tiles, box, size, muted)
 
-  all-rank : (s : Site) → ranks G s ≡ true
-  unfolding ranks
-  all-rank s = refl
+  abbrev mute : Site → Bool
+  mute s = not (ranks s)
 
-  pub ranked-count : (t : ℕ) (f : List Site) → Fills E t f → count (ranks G) f ≡ ranked E t
+  pub ranked-count : (t : ℕ) (f : List Site) → Fills E t f → count ranks f ≡ ranked E t
   unfolding ranked
-  ranked-count t f h = count-all (ranks G) f (all-any (λ s. ranks G s ≡ true) f all-rank) ∙ h .counted
+  ranked-count t f h = omega (arith, count-both ranks f, h .counted, h .silent)
 
   -- another site that ranks in the slot of one
-  pub refit : (t : ℕ) (a b : List Site) (s q : Site) → Fills E t (a ++ s ∷ b) → ranks G s ≡ true → ranks G q ≡ true
+  pub refit : (t : ℕ) (a b : List Site) (s q : Site) → Fills E t (a ++ s ∷ b) → ranks s ≡ true → ranks q ≡ true
       → Inside (box t) q → Fills E t (a ++ q ∷ b)
+  unfolding count
   refit t a b s q h rs rq i = record {
     counted = let u = h .counted in let v = length-append a (s ∷ b) in let w = length-append a (q ∷ b) in omega arith;
+    silent =
+        let v = rw rs at (count-append mute a (s ∷ b)) in
+        let w = rw rq at (count-append mute a (q ∷ b)) in
+        omega (arith, h .silent);
     inside = all-append (Inside (box t)) a (q ∷ b) (all-left (Inside (box t)) a (s ∷ b) (h .inside))
         (i, all-right (Inside (box t)) a (s ∷ b) (h .inside) .1);
   }
 
+  -- so many sites that do not rank, and so many that do
+  count-mute : (n : ℕ) (q : Site) → (0 < n → ranks q ≡ false) → count mute (replicate n q) ≡ n
+  unfolding count
+  count-mute zero q h = refl
+  count-mute (suc n) q h =
+      let ih = count-mute n q (λ l. h (omega arith)) in
+      rw (h (omega arith)) (omega arith)
+
+  count-loud : (n : ℕ) (q : Site) → ranks q ≡ true → count mute (replicate n q) ≡ 0
+  unfolding count
+  count-loud zero q h = refl
+  count-loud (suc n) q h = let ih = count-loud n q h in rw h (omega arith)
+
   module _ {O : G .Box} (L : Lawful E O) (p : Stop) (home : Within O p) (t : ℕ) (ht : t < tiles) where
     -- a site at the least distance that ranks, with another cue
     pub another-site : (c : ℕ) → (q : Site) × Inside (box t) q × (D p q ≡ minDist p (box t)) × (cue q ≡ c → ⊥) ×
-        (ranks G q ≡ true)
-    another-site c = let r = L .min-dist-reached p t c home ht in (r .0, r .1, r .2, r .3, all-rank (r .0))
+        (ranks q ≡ true)
+    another-site c = L .min-dist-reached p t c home ht
+
+    -- m for the sites that do not rank, q for those that do
+    filling : (m q : Site) → Inside (box t) m → (0 < muted t → ranks m ≡ false) → Inside (box t) q → ranks q ≡ true
+        → (f : List Site) × Fills E t f
+    filling m q im rm iq rq =
+        let a = replicate (muted t) m in
+        let b = replicate (size t - muted t) q in (
+          a ++ b,
+          record {
+            counted = omega (
+              arith,
+              length-append a b,
+              length-replicate (muted t) m,
+              length-replicate (size t - muted t) q,
+              L .muted-few t ht,
+            );
+            silent = omega (
+              arith,
+              count-append mute a b,
+              count-mute (muted t) m rm,
+              count-loud (size t - muted t) q rq,
+            );
+            inside = all-append (Inside (box t)) a b (all-replicate (Inside (box t)) (muted t) m im)
+                (all-replicate (Inside (box t)) (size t - muted t) q iq);
+          },
+        )
 
     pub some-filling : (f : List Site) × Fills E t f
     some-filling =
-        let q = L .min-dist-reached p t 0 home ht in (
-          replicate (size t) (q .0),
-          record {
-            counted = length-replicate (size t) (q .0);
-            inside =
-                all-replicate (Inside (box t)) (size t) (q .0) (q .1);
-          },
-        )
+        let q = L .min-dist-reached p t 0 home ht in
+        by-test (ltb 0 (muted t))
+        (λ e.
+        let m = L .muted-inside t ht (ltb-true 0 (muted t) e) in
+        filling (m .0) (q .0) (m .1) (λ l. m .2) (q .1) (q .4))
+        (λ e. filling (q .0) (q .0) (q .1) (λ l. absurd (omega (arith, ltb-false 0 (muted t) e))) (q .1) (q .4))
 
   -- ---- a town with another filling of a tile
 

@@ -12,7 +12,7 @@ use lib.ListN.{length, take, getElem?, length-append}
 use Rattle.base.proofs.Tests.{by-test}
 use Rattle.search.specs.Lists.{count, total, All}
 use Rattle.search.specs.Order.{sort}
-use Rattle.search.specs.Plan.{Geometry, Directory, Lawful, slots, ranks, ranked, Town, Fills}
+use Rattle.search.specs.Plan.{Geometry, Directory, Lawful, slots, ranked, Town, Fills}
 use Rattle.search.specs.Run.{tilePlaces, Place, rank, aheadOf, listing, placesOf, nearest, byKey, ahead}
 use Rattle.search.proofs.Fillings.{ranked-count}
 use Rattle.search.proofs.Lists.{all-map, all-any, all-both, all-append, count-le}
@@ -30,7 +30,7 @@ front : {A : Type 0} (a b c : List A) → List·Permᴰ (a ++ (b ++ c)) (b ++ (a
 front a b c = rw (← (append-assoc a b c), ← (append-assoc b a c)) (Permᴰ·append-right c (List·Permᴰ·append-comm a b))
 
 module _ {G : Geometry} (E : Directory G) where
-  open Geometry G using (Site, Stop, cue, Inside, Within, D, minDist)
+  open Geometry G using (Site, Stop, cue, ranks, Inside, Within, D, minDist)
   open Directory E using (tiles, box)
 
   pub by-key-order : (p : Stop) → Order (byKey E p)
@@ -74,12 +74,12 @@ module _ {G : Geometry} (E : Directory G) where
   placesOf-same p g h [] e = refl
   placesOf-same p g h (t ∷ ts) e = rw (e .0, placesOf-same p g h ts (e .1))
 
-  listing-length : (p : Stop) (a : ℕ) (f : List Site) → length (listing G p a f) ≡ count (ranks G) f
+  listing-length : (p : Stop) (a : ℕ) (f : List Site) → length (listing G p a f) ≡ count ranks f
   unfolding listing count
   listing-length p a [] = refl
   listing-length p a (s ∷ f) =
       let ih = listing-length p (suc a) f in
-      by-test (ranks G s) (λ e. rw e (omega arith)) (λ e. rw e (omega arith))
+      by-test (ranks s) (λ e. rw e (omega arith)) (λ e. rw e (omega arith))
 
   -- numbered from a on
   pub listing-from : (p : Stop) (a : ℕ) (f : List Site) → All (λ y. a ≤ y .site) (listing G p a f)
@@ -87,7 +87,7 @@ module _ {G : Geometry} (E : Directory G) where
   listing-from p a [] = tt
   listing-from p a (s ∷ f) =
       let ih = all-map (listing G p (suc a) f) (λ y h. le-trans (le-suc a) h) (listing-from p (suc a) f) in
-      by-test (ranks G s) (λ e. rw e (le-refl a, ih)) (λ e. rw e ih)
+      by-test (ranks s) (λ e. rw e (le-refl a, ih)) (λ e. rw e ih)
 
   -- a tile of the directory, filled as its entry says
   abbrev pub Filled : Town G → ℕ → Type 0
@@ -149,7 +149,7 @@ module _ {G : Geometry} (E : Directory G) where
         rw (q, r) (ap (getElem? (g t)) (sym (add-zero j)) ∙ same 0) in
         let rest = known-from t (suc j) (suc a) f ht (omega arith) (omega arith)
         (λ i. let u : suc j + i ≡ j + suc i = omega arith in ap (getElem? (g t)) u ∙ same (suc i)) (ins .1) in
-        by-test (ranks G s)
+        by-test (ranks s)
         (λ y. rw y (
           record {
             tile = q;

@@ -14,7 +14,7 @@ use Rattle.base.proofs.Tests.{clash, by-test}
 use Rattle.search.specs.FullSearch.{firstOf, SiteOf, ByDistanceTileSlot}
 use Rattle.search.specs.Lists.{range, All, Distinct}
 use Rattle.search.specs.Order.{sort, Strict}
-use Rattle.search.specs.Plan.{Geometry, Directory, Lawful, slots, ranks, Town, Agrees}
+use Rattle.search.specs.Plan.{Geometry, Directory, Lawful, slots, Town, Agrees}
 use Rattle.search.specs.Run.{tilePlaces, Place, rank, listing, placesOf, nearest, placesUsed}
 use Rattle.search.proofs.Lists.{all-map, all-append, all-left, all-mem, all-perm, mem-perm, range-below}
 use Rattle.search.proofs.Lists.{range-above, range-mem, distinct-perm}
@@ -64,7 +64,7 @@ module _ {G : Geometry} (E : Directory G) {O : G .Box} (L : Lawful E O) where
       (slot-below g ag s) (slot-below g ag u))
 
 module _ {G : Geometry} (E : Directory G) (k : ℕ) where
-  open Geometry G using (Site, Stop, cue, Within, D)
+  open Geometry G using (Site, Stop, cue, ranks, Within, D)
   open Directory E using (tiles)
 
   -- ---- the places are the town's sites that rank
@@ -77,7 +77,7 @@ module _ {G : Geometry} (E : Directory G) (k : ℕ) where
     listing-sites t j a (s ∷ f) ht e same =
         let rest = listing-sites t (suc j) (suc a) f ht (omega arith)
         (λ i. let u : suc j + i ≡ j + suc i = omega arith in ap (getElem? (g t)) u ∙ same (suc i)) in
-        by-test (ranks G s)
+        by-test (ranks s)
         (λ y. rw y (
           record {
             tile = t;
@@ -101,7 +101,7 @@ module _ {G : Geometry} (E : Directory G) (k : ℕ) where
     unfolding firstOf nearest
     first-short = let e = length-take k (sort rank (placesOf G p g (range 0 tiles))) in omega arith
 
-    listing-mem : (a j : ℕ) (f : List Site) (s : Site) → getElem? f j ≡ some s → ranks G s ≡ true
+    listing-mem : (a j : ℕ) (f : List Site) (s : Site) → getElem? f j ≡ some s → ranks s ≡ true
         → List·Memᴰ (record { dist = D p s; site = a + j; cue = cue s }) (listing G p a f)
     unfolding listing
     listing-mem a j [] s e r = absurd (let z : _≡_ {A = ℕ} 0 1 = cc in omega arith)
@@ -109,7 +109,7 @@ module _ {G : Geometry} (E : Directory G) (k : ℕ) where
     listing-mem a (suc j) (x ∷ f) s e r =
         let u : a + suc j ≡ suc a + j = omega arith in
         let m = listing-mem (suc a) j f s e r in
-        rw u (by-test (ranks G x) (λ y. rw y (List·Memᴰ·tail m)) (λ y. rw y m))
+        rw u (by-test (ranks x) (λ y. rw y (List·Memᴰ·tail m)) (λ y. rw y m))
 
     placesOf-mem : (a : Place) (t : ℕ) (ts : List ℕ) → List·Memᴰ t ts → List·Memᴰ a (tilePlaces G p t (g t))
         → List·Memᴰ a (placesOf G p g ts)
@@ -132,7 +132,7 @@ module _ {G : Geometry} (E : Directory G) (k : ℕ) where
     listing-distinct : (a : ℕ) (f : List Site) → Distinct (listing G p a f)
     unfolding listing
     listing-distinct a [] = tt
-    listing-distinct a (s ∷ f) = by-test (ranks G s)
+    listing-distinct a (s ∷ f) = by-test (ranks s)
         (λ e. rw e (
           all-map (listing G p (suc a) f) (λ y h i. let j = ap (λ (z : Place). z .site) i in omega arith)
               (listing-from E p (suc a) f),

@@ -43,17 +43,17 @@ module _ {A : Type 0} (lt mt : A → A → Bool) (P : A → Type 0) (same : (a b
 
 -- ---- the directory with other entries
 
-module _ {G : Geometry} (E : Directory G) (box′ : ℕ → G .Box) (size′ : ℕ → ℕ)
-    (same : (t : ℕ) → t < E .tiles → (box′ t ≡ E .box t) × (size′ t ≡ E .size t)) where
+module _ {G : Geometry} (E : Directory G) (box′ : ℕ → G .Box) (size′ muted′ : ℕ → ℕ)
+    (same : (t : ℕ) → t < E .tiles → (box′ t ≡ E .box t) × (size′ t ≡ E .size t) × (muted′ t ≡ E .muted t)) where
   open Geometry G using (Stop)
   open Directory E using (tiles)
 
   abbrev F : Directory G
-  F = record { tiles = tiles; box = box′; size = size′ }
+  F = record { tiles = tiles; box = box′; size = size′; muted = muted′ }
 
   same-ranked : (t : ℕ) → t < tiles → ranked F t ≡ ranked E t
   unfolding ranked
-  same-ranked t h = same t h .1
+  same-ranked t h = rw (same t h .1, same t h .2)
 
   -- what holds of every tile, of the list of all tiles
   each : (P : ℕ → Type 0) → ((t : ℕ) → t < tiles → P t) → All P (range 0 tiles)

@@ -9,7 +9,7 @@ use lib.Dec.{eqb}
 use lib.ListN.{getElem?}
 use Rattle.base.specs.Refusal.{accepted}
 use Rattle.search.specs.Lists.{range, All}
-use Rattle.search.specs.Plan.{Geometry, Directory, slots, ranks, Town, Agrees}
+use Rattle.search.specs.Plan.{Geometry, Directory, slots, Town, Agrees}
 use Rattle.search.specs.Run.{Place, Reading, nearest, padded}
 
 -- tile t filled otherwise, "with nothing else changed"
@@ -17,7 +17,7 @@ unfoldable pub refill : (G : Geometry) → Town G → ℕ → List (G .Site) →
 refill G g t f u = cond (eqb u t) f (g u)
 
 module _ {G : Geometry} (E : Directory G) where
-  open Geometry G using (Site, Stop, D, cue)
+  open Geometry G using (Site, Stop, D, cue, ranks)
   open Directory E using (tiles)
 
   -- a is the place of a site of the town: "each place with D, tile × 40 + slot, and cue"
@@ -27,7 +27,7 @@ module _ {G : Geometry} (E : Directory G) where
     pub it : Site
     pub below : tile < tiles
     pub there : getElem? (g tile) slot ≡ some it
-    pub ranked : ranks G it ≡ true
+    pub ranked : ranks it ≡ true
     pub place : a ≡ record { dist = D p it; site = tile * slots + slot; cue = cue it }
 
   -- "Sites rank by D from the stop, then tile, then slot": of two sites of a town the first stands ahead

@@ -19,7 +19,7 @@ use Rattle.base.specs.Refusal.{Outcome, accepted, refused, andThen}
 pub use Rattle.search.specs.declared.Place.{Place}
 use Rattle.search.specs.Lists.{range, count, total, filter, member}
 use Rattle.search.specs.Order.{lex, sort}
-use Rattle.search.specs.Plan.{Geometry, Directory, slots, near, ranks, ranked, Town, Fills}
+use Rattle.search.specs.Plan.{Geometry, Directory, slots, near, ranked, Town, Fills}
 use Rattle.search.specs.Pruning.{pruned}
 
 -- "Sites rank by D from the stop, then tile, then slot": the last two are the order of tile × 40 + slot.
@@ -42,13 +42,13 @@ pub record Run (X : Type 0) : Type 0 where
 -- ---- places
 
 module _ (G : Geometry) where
-  open Geometry G using (Site, Stop, cue, D)
+  open Geometry G using (Site, Stop, cue, ranks, D)
 
   -- the sites of a filling that rank, as places numbered by slot from a on
   unfoldable pub listing : Stop → ℕ → List Site → List Place
   listing p a [] = []
   listing p a (s ∷ f) =
-      cond (ranks G s) (record { dist = D p s; site = a; cue = cue s } ∷ listing p (suc a) f) (listing p (suc a) f)
+      cond (ranks s) (record { dist = D p s; site = a; cue = cue s } ∷ listing p (suc a) f) (listing p (suc a) f)
 
   -- those of a tile: "the site as tile × 40 + slot"
   abbrev pub tilePlaces : Stop → ℕ → List Site → List Place
