@@ -46,7 +46,7 @@ use Rattle.search.proofs.Theorems.{places-used, opened-count, only-tiles}
 use Rattle.serve.proofs.Marking.{marks-end}
 use Rattle.stops.proofs.ArgumentLaws.{few-places}
 use Rattle.stops.proofs.StopLaws.{stops-length}
-use Rattle.join.specs.Inner.Running.{RunReady, walksFor, Attempted}
+use Rattle.join.specs.Inner.Running.{RunReady, walksFor}
 use Rattle.join.specs.Join.{End, runFor, filled, ended, runEnd}
 
 -- ---- words for lists
@@ -171,11 +171,20 @@ module _ {f : List ℕ} {h : Header} {cols : List (List ℤ)} {k : ℕ} {out : S
       let z = length-replicate n noPlace in
       lay-under (out .lists) 0 0 (replicate n noPlace) (inRows k ls) (omega arith) (omega arith)
 
-  pub attempted : {from out′ : Slices} {o : Outcome ℕ} {p : ℕ} → from ≡ started → p ≡ prunedCount (entries f h) O k
-      → p ≤ h .tiles
-      → Serves f h (stopsOf cols) k from o out′ → Attempted f h cols k out o p out′
+  pub record Attempted (answer : Outcome ℕ) (out′ : Slices) : Type 0 where
+    pub outcome : answer ≡ andThen (walksFor f h cols k .out) (λ ls. accepted (lastLength 0 ls))
+    pub answered : (ls : List (List Place)) → walksFor f h cols k .out ≡ accepted ls
+        → out′ ≡ record {
+          lists = lay (out .lists) 0 (inRows k ls);
+          marks = markAll (started .marks) (walksFor f h cols k .asked);
+        }
+    pub refused : (number block : ℕ) → walksFor f h cols k .out ≡ refused number block
+        → out′ ≡ cleared 0 n (h .tiles) out
+
+  pub attempted : {from out′ : Slices} {o : Outcome ℕ} → from ≡ started → Serves f h (stopsOf cols) k from o out′
+      → Attempted o out′
   unfolding queue
-  attempted {from} {out′} {o} {p} begins counted few served =
+  attempted {from} {out′} {o} begins served =
       let w : walksOf f h (waiting f h (started .marks)) (stopsOf cols) k ≡ walksFor f h cols k =
       ap (λ z. walksOf f h z (stopsOf cols) k) (waiting-is f h O k (out .marks) (r .args .marks)) in
       let s = rw begins at served in
@@ -183,8 +192,6 @@ module _ {f : List ℕ} {h : Header} {cols : List (List ℤ)} {k : ℕ} {out : S
       rw w at (s .outcome) in
       let left : out′ ≡ afterStops h (walksFor f h cols k) k n started = rw (w, count-is) at (s .left) in
       record {
-        counted = counted;
-        few = few;
         outcome = outcome;
         answered = λ ls e. rw e at left ∙ rw (lists-cover ls e);
         refused = λ x y e. rw e at left ∙ covered;
@@ -231,23 +238,25 @@ module _ {f : List ℕ} {h : Header} {cols : List (List ℤ)} {k : ℕ} {out : S
         (smallest .holds) ls
         (alike b .outcome ∙ e))
 
-    module _ {out′ : Slices} where
-      pub used-few : {used p : ℕ} → Attempted f h cols k out (accepted used) p out′ → used ≤ maxK
+    module _ {answer : Outcome ℕ} {out′ : Slices} (t : Attempted answer out′) where
+      pub used-few : {used : ℕ} → answer ≡ accepted used → used ≤ maxK
       unfolding placesUsed
-      used-few {used} t =
-          let a = andThen-accepted (walksFor f h cols k .out) (λ ls. accepted (lastLength 0 ls)) (sym (t .outcome)) in
+      used-few {used} e =
+          let a = andThen-accepted (walksFor f h cols k .out) (λ ls. accepted (lastLength 0 ls))
+          (sym (t .outcome) ∙ e) in
           let u : used ≡ placesUsed (entries f h) k = sym (accepted-injective (a .2)) ∙ used-is (a .0) (a .1) in
           omega (arith, r .args .few-k, u)
 
-      pub run-answers : {used opened p : ℕ} → Attempted f h cols k out (accepted used) p out′
+      pub run-answers : {used opened p : ℕ} → answer ≡ accepted used → p ≡ prunedCount (entries f h) O k
           → opened ≡ count (λ m. eqb m openedMark) (take (h .tiles) (out′ .marks))
           → record {
             outcome = accepted (record { used = used; tiles = h .tiles; opened = opened; pruned = p });
             slices = out′;
           } ≡ runEnd f h cols k out
       unfolding runEnd ended filled
-      run-answers {used} {opened} {p} t o =
-          let a = andThen-accepted (walksFor f h cols k .out) (λ ls. accepted (lastLength 0 ls)) (sym (t .outcome)) in
+      run-answers {used} {opened} {p} e counted o =
+          let a = andThen-accepted (walksFor f h cols k .out) (λ ls. accepted (lastLength 0 ls))
+          (sym (t .outcome) ∙ e) in
           let ls = a .0 in
           let u : used ≡ placesUsed (entries f h) k = sym (accepted-injective (a .2)) ∙ used-is ls (a .1) in
           let s : out′ ≡ record {
@@ -256,13 +265,13 @@ module _ {f : List ℕ} {h : Header} {cols : List (List ℤ)} {k : ℕ} {out : S
           } = t .answered ls (a .1) ∙ rw marks-are in
           let c : opened ≡ length (runFor f h cols k .openings) =
           o ∙ ap (λ (z : Slices). count (λ m. eqb m openedMark) (take (h .tiles) (z .marks))) s ∙ opened-is in
-          let e : runFor f h cols k .outcome ≡ accepted ls = alike b .outcome ∙ a .1 in
-          same-end u c (t .counted) s ∙ rw e
+          let run : runFor f h cols k .outcome ≡ accepted ls = alike b .outcome ∙ a .1 in
+          same-end u c counted s ∙ rw run
 
-      pub run-refuses : {x y p : ℕ} → Attempted f h cols k out (refused x y) p out′
+      pub run-refuses : {x y : ℕ} → answer ≡ refused x y
           → record { outcome = refused x y; slices = out′ } ≡ runEnd f h cols k out
       unfolding runEnd ended
-      run-refuses {x} {y} t =
-          let w = andThen-refused (walksFor f h cols k .out) (λ ls. lastLength 0 ls) (sym (t .outcome)) in
-          let e : runFor f h cols k .outcome ≡ refused x y = alike b .outcome ∙ w in
-          rw (e, t .refused x y w)
+      run-refuses {x} {y} e =
+          let w = andThen-refused (walksFor f h cols k .out) (λ ls. lastLength 0 ls) (sym (t .outcome) ∙ e) in
+          let run : runFor f h cols k .outcome ≡ refused x y = alike b .outcome ∙ w in
+          rw (run, t .refused x y w)

@@ -1,17 +1,12 @@
 // The call of document 01, "The join".
 ghost use mathlib.Core.List.{[], _∷_};
 ghost use mathlib.Core.Path.{_≡_};
-ghost use Prim.Native.Nat.{_≤_};
-ghost use lib.ListN.{length};
 ghost use Rattle.base.specs.Refusal as outcome;
 ghost use Rattle.base.specs.Refusal.{accepted};
 ghost use Rattle.blocks.specs.Directory.{directory};
 ghost use Rattle.list.specs.Slices.{lent};
-ghost use Rattle.search.specs.Limits.{maxStops};
-ghost use Rattle.serve.specs.Inner.Serving.{servingOutcome, StopsReady, Serves};
-ghost use Rattle.stops.specs.Stops.{stopsOf};
 ghost use Rattle.join.specs.Join.{joinOutcome, joinEnd, runEnd};
-ghost use Rattle.join.specs.Inner.Running.{RunReady, Attempted};
+ghost use Rattle.join.specs.Inner.Running.{RunReady};
 use base::Refusal;
 use blocks::directory::DirectoryAnswer;
 use blocks::directory::read_directory;
@@ -44,61 +39,7 @@ fn refused(number: u32) -> JoinAnswer
     JoinAnswer::Refused(Refusal { number, block: 0 })
 }
 
-// Serves the stops of the columns, gathered as points: from here on a stop is one value.
-fn serve_columns(
-    f: &[u8],
-    h: Header,
-    xs: &[i32],
-    ys: &[i32],
-    k: usize,
-    dist: &mut [u64],
-    site: &mut [u32],
-    cue: &mut [u32],
-    marks: &mut [u8],
-) -> Serving
-    requires { ⌜ (length (now ys) ≡ length (now xs)) × (length (now xs) ≤ maxStops) ⌝ }
-    requires { ⌜ StopsReady (now f) h (stopsOf (now xs ∷ now ys ∷ [])) k
-        (lent (now dist) (now site) (now cue) (now marks)) ⌝ }
-    ensures { λ r. ⌜ Serves (now (f .entry)) h (stopsOf (now (xs .entry) ∷ now (ys .entry) ∷ [])) k
-        (lent (now (dist .entry)) (now (site .entry)) (now (cue .entry)) (now (marks .entry))) (servingOutcome r)
-        (lent (now (dist .exit)) (now (site .exit)) (now (cue .exit)) (now (marks .exit))) ⌝ }
-{
-    let mut stops = [ORIGIN; MAX_STOPS];
-    gather_stops(xs, ys, &mut stops);
-    serve(f, h, &stops[..xs.len()], k, dist, site, cue, marks)
-}
-
-// How serving ended, and the number of tiles pruned before.
-struct Attempt {
-    answer: Serving,
-    pruned: usize,
-}
-
-// The run: places cleared, tiles pruned, stops served.
-fn try_run(
-    f: &[u8],
-    h: Header,
-    xs: &[i32],
-    ys: &[i32],
-    k: usize,
-    dist: &mut [u64],
-    site: &mut [u32],
-    cue: &mut [u32],
-    marks: &mut [u8],
-) -> Attempt
-    requires { ⌜ RunReady (now f) h (now xs ∷ now ys ∷ []) k (lent (now dist) (now site) (now cue) (now marks)) ⌝ }
-    ensures { λ r. ⌜ Attempted (now (f .entry)) h (now (xs .entry) ∷ now (ys .entry) ∷ []) k
-        (lent (now (dist .entry)) (now (site .entry)) (now (cue .entry)) (now (marks .entry)))
-        (servingOutcome (r .answer)) (r .pruned)
-        (lent (now (dist .exit)) (now (site .exit)) (now (cue .exit)) (now (marks .exit))) ⌝ }
-{
-    clear_places(dist, site, cue, xs.len() * k);
-    let pruned = mark_pruned(f, h, around(xs, ys), k, marks);
-    let answer = serve_columns(f, h, xs, ys, k, dist, site, cue, marks);
-    Attempt { answer, pruned }
-}
-
-// The run with its end: the opened tiles are counted.
+// The run: places cleared, tiles pruned, the stops gathered as points and served, and the opened tiles counted.
 fn run(
     f: &[u8],
     h: Header,
@@ -118,11 +59,13 @@ fn run(
         ≡ runEnd (now (f .entry)) h (now (xs .entry) ∷ now (ys .entry) ∷ []) k
         (lent (now (dist .entry)) (now (site .entry)) (now (cue .entry)) (now (marks .entry))) ⌝ }
 {
-    let tried = try_run(f, h, xs, ys, k, dist, site, cue, marks);
-    let pruned = tried.pruned;
-    let answer = tried.answer;
+    let n = xs.len();
+    clear_places(dist, site, cue, n * k);
+    let pruned = mark_pruned(f, h, around(xs, ys), k, marks);
+    let mut stops = [ORIGIN; MAX_STOPS];
+    gather_stops(xs, ys, &mut stops);
     let tiles = h.tiles;
-    match answer {
+    match serve(f, h, &stops[..n], k, dist, site, cue, marks) {
         Serving::Served(used) => {
             let opened = count_opened(marks, h);
             JoinAnswer::Joined {

@@ -1,97 +1,213 @@
 use Prim.Native.Nat.{_≤_}
+use mathlib.Core.List.{List, [], _∷_}
+use mathlib.Core.Path.{_≡_, ap, _∙_}
 use native.Mathlib.Omega.{arith}
+use lib.IntN.{ℤ}
+use lib.ListN.{length, take, length-take}
 use borrow.Author.Needs.{needs}
 use Rattle.blocks.specs.Layout.{maxTiles}
 use Rattle.codec.specs.Number.{Bytes}
+use Rattle.list.specs.Slices.{lent}
+use Rattle.plan.specs.FilePlan.{entries}
+use Rattle.search.specs.Pruning.{prunedCount}
+use Rattle.serve.specs.Inner.Serving.{servingOutcome}
+use Rattle.stops.specs.Stops.{stopsOf}
 use Rattle.plan.proofs.Measures.{tiles-few}
-use Rattle.join.proofs.Running.{used-few, run-answers, run-refuses}
+use Rattle.stops.proofs.StopLaws.{points-gathered}
+use Rattle.join.proofs.Running.{few-enough, region, started, begun, stops-ready, Attempted, attempted, used-few}
+use Rattle.join.proofs.Running.{run-answers, run-refuses}
 use Rattle.join.proofs.call.run.Statement.{statement}
 use Rattle.join.proofs.call.run.Tie as tie
 
-try-run-requires : tie.Need-try-run-requires
-try-run-requires c κs = search needs
+mul-clear-places : tie.Need-mul-clear-places
+mul-clear-places c = let s : tie.Start = search in omega (arith, few-enough (s .pre))
 
--- ---- what holds after the attempt
+clear-places-requires : tie.Need-clear-places-requires
+clear-places-requires c κs =
+    let s : tie.Start = search in
+    let a = s .pre .args in
+    (a .dist, (a .site, a .cue))
 
-abbrev start : tie.After-try-run → tie.Start
-start t = search
+around-requires : tie.Need-around-requires
+around-requires c κs =
+    let s : tie.Start = search in
+    (s .pre .args .some, omega (arith, s .pre .args .some, s .pre .args .same .1 .0))
 
-bytes : (t : tie.After-try-run) → Bytes (start t .args .f .now)
-bytes t = let k : tie.After-shared-slice-known = search in λ i. omega (arith, k .shared-slice-known .given i)
+mark-pruned-requires : tie.Need-mark-pruned-requires
+mark-pruned-requires c κs =
+    let a : tie.After-around = search in
+    let s : tie.Start = search in
+    (s .pre .dir, s .pre .args .marks, rw (a .around .ensures) (region (s .pre)))
 
-few : (t : tie.After-try-run) → start t .args .h .tiles ≤ maxTiles
-few t = tiles-few (start t .args .f .now) (start t .args .h) (start t .pre .dir)
+-- ---- the slices when the stops are served, and the stops as points
+
+abbrev start : tie.After-mark-pruned → tie.Start
+start m = search
+
+begins : (m : tie.After-mark-pruned) →
+    let p : tie.After-clear-places = search in
+    lent (p .clear-places .last .0) (p .clear-places .last .1 .0) (p .clear-places .last .1 .1 .0)
+    (m .mark-pruned .last .1 .1 .1 .1 .0) ≡ started (start m .pre)
+begins m =
+    let p : tie.After-clear-places = search in
+    let a : tie.After-around = search in
+    begun (start m .pre) (p .clear-places .ensures) (a .around .ensures) (m .mark-pruned .ensures .1)
+
+slice-aggregate-gather-stops : tie.Need-slice-aggregate-gather-stops
+slice-aggregate-gather-stops c = search needs
+
+gather-stops-requires : tie.Need-gather-stops-requires
+gather-stops-requires c κs =
+    let m : tie.After-mark-pruned = search in
+    let a = start m .pre .args in
+    (a .same .1 .0, a .few)
+
+abbrev before : tie.After-gather-stops → tie.After-mark-pruned
+before g = search
+
+abbrev cols : tie.After-gather-stops → List (List ℤ)
+cols g = let a = start (before g) .args in a .xs .now ∷ a .ys .now ∷ []
+
+points : (g : tie.After-gather-stops)
+    → take (length (start (before g) .args .xs .now)) (g .gather-stops .last .1 .1 .0) ≡ stopsOf (cols g)
+points g = points-gathered (cols g) _ (g .gather-stops .ensures) (start (before g) .pre .args .few)
+
+array-share-prefix-stops : tie.Need-array-share-prefix-stops
+array-share-prefix-stops c =
+    let g : tie.After-gather-stops = search in
+    omega (arith, start (before g) .pre .args .few)
+
+slice-aggregate-serve : tie.Need-slice-aggregate-serve
+slice-aggregate-serve c =
+    let g : tie.After-gather-stops = search in
+    let s = start (before g) in
+    omega (
+      arith,
+      s .pre .args .few,
+      g .gather-stops .kept .1 .1 .0,
+      length-take (length (s .args .xs .now)) (g .gather-stops .last .1 .1 .0),
+    )
+
+serve-requires : tie.Need-serve-requires
+serve-requires c κs =
+    let g : tie.After-gather-stops = search in
+    let m = before g in
+    rw (points g) (stops-ready (start m .pre) (begins m))
+
+-- ---- what holds after it
+
+abbrev gathered : tie.After-serve → tie.After-gather-stops
+gathered v = search
+
+abbrev pruning : tie.After-serve → tie.After-mark-pruned
+pruning v = before (gathered v)
+
+tried : (v : tie.After-serve) → Attempted (start (pruning v) .pre) (servingOutcome (v .serve .result))
+    (lent (v .serve .last .1 .1 .1 .1 .0) (v .serve .last .1 .1 .1 .1 .1 .0) (v .serve .last .1 .1 .1 .1 .1 .1 .0)
+    (v .serve .last .1 .1 .1 .1 .1 .1 .1 .0))
+tried v =
+    attempted (start (pruning v) .pre) (begins (pruning v)) (rw (points (gathered v)) at (v .serve .ensures))
+
+bytes : (m : tie.After-mark-pruned) → Bytes (start m .args .f .now)
+bytes m = let k : tie.After-shared-slice-known = search in λ i. omega (arith, k .shared-slice-known .given i)
+
+few : (m : tie.After-mark-pruned) → start m .args .h .tiles ≤ maxTiles
+few m = tiles-few (start m .args .f .now) (start m .args .h) (start m .pre .dir)
+
+-- no slice has got longer or shorter
+lengths : (v : tie.After-serve) → let a = start (pruning v) .args in
+    (length (v .serve .last .1 .1 .1 .1 .0) ≡ length (a .dist .now))
+    × (length (v .serve .last .1 .1 .1 .1 .1 .0) ≡ length (a .site .now))
+    × (length (v .serve .last .1 .1 .1 .1 .1 .1 .0) ≡ length (a .cue .now))
+    × (length (v .serve .last .1 .1 .1 .1 .1 .1 .1 .0) ≡ length (a .marks .now))
+lengths v =
+    let p : tie.After-clear-places = search in
+    let s = v .serve .kept .1 .1 .1 .1 in (
+      s .0 ∙ p .clear-places .kept .0,
+      s .1 .0 ∙ p .clear-places .kept .1 .0,
+      s .1 .1 .0 ∙ p .clear-places .kept .1 .1 .0,
+      s .1 .1 .1 .0 ∙ pruning v .mark-pruned .kept .1 .1 .1 .1 .0,
+    )
 
 -- ---- it was served
 
-enum-known-answer : tie.Need-enum-known-answer
-enum-known-answer c = search needs
+enum-known-used : tie.Need-enum-known-used
+enum-known-used c = search needs
 
 count-opened-requires : tie.Need-count-opened-requires
-count-opened-requires c κs = search needs
+count-opened-requires c κs =
+    let v : tie.After-serve = search in
+    omega (arith, lengths v .3, start (pruning v) .pre .args .marks)
 
-cast-t28 : tie.Need-cast-t28
-cast-t28 c =
-    let a : tie.After-answer = search in
-    let t : tie.After-try-run = search in
-    omega (arith, used-few (start t .pre) (bytes t) (rw (a .answer .given .1) at (t .try-run .ensures)))
+cast-t45 : tie.Need-cast-t45
+cast-t45 c =
+    let u : tie.After-used = search in
+    let v : tie.After-serve = search in
+    let m = pruning v in
+    omega (arith, used-few (start m .pre) (bytes m) (tried v) (ap servingOutcome (u .used .given .1)))
 
-cast-t29 : tie.Need-cast-t29
-cast-t29 c = let t : tie.After-try-run = search in omega (arith, few t)
+cast-t46 : tie.Need-cast-t46
+cast-t46 c = let v : tie.After-serve = search in omega (arith, few (pruning v))
 
-cast-t30 : tie.Need-cast-t30
-cast-t30 c =
+cast-t47 : tie.Need-cast-t47
+cast-t47 c =
     let o : tie.After-count-opened = search in
-    let t : tie.After-try-run = search in
-    omega (arith, few t, o .count-opened .ensures .1)
+    let v : tie.After-serve = search in
+    omega (arith, few (pruning v), o .count-opened .ensures .1)
 
-cast-t31 : tie.Need-cast-t31
-cast-t31 c = let t : tie.After-try-run = search in omega (arith, few t, t .try-run .ensures .few)
+cast-t48 : tie.Need-cast-t48
+cast-t48 c = let m : tie.After-mark-pruned = search in omega (arith, few m, m .mark-pruned .ensures .0 .1)
 
 -- ---- it was refused
 
-enum-known-answer-2 : tie.Need-enum-known-answer-2
-enum-known-answer-2 c = search needs
+enum-known-r : tie.Need-enum-known-r
+enum-known-r c = search needs
 
 same-length : tie.Need-same-length
-same-length c = search needs
+same-length c = let v : tie.After-serve = search in lengths v .0
 
 same-length-2 : tie.Need-same-length-2
-same-length-2 c = search needs
+same-length-2 c = let v : tie.After-serve = search in lengths v .1
 
 same-length-3 : tie.Need-same-length-3
-same-length-3 c = search needs
+same-length-3 c = let v : tie.After-serve = search in lengths v .2
 
 same-length-4 : tie.Need-same-length-4
-same-length-4 c = search needs
+same-length-4 c = let v : tie.After-serve = search in lengths v .3
 
 returns : tie.Need-returns
 returns c =
     let o : tie.After-count-opened = search in
-    let a : tie.After-answer = search in
-    let t : tie.After-try-run = search in
-    run-answers (start t .pre) (bytes t) (rw (a .answer .given .1) at (t .try-run .ensures))
+    let u : tie.After-used = search in
+    let v : tie.After-serve = search in
+    let m = pruning v in
+    let a : tie.After-around = search in
+    let x = start m .args in
+    run-answers (start m .pre) (bytes m) (tried v) (ap servingOutcome (u .used .given .1))
+    (m .mark-pruned .ensures .0 .0 ∙ ap (λ b. prunedCount (entries (x .f .now) (x .h)) b (x .k)) (a .around .ensures))
     (o .count-opened .ensures .0)
 
 same-length-5 : tie.Need-same-length-5
-same-length-5 c = search needs
+same-length-5 c = let v : tie.After-serve = search in lengths v .0
 
 same-length-6 : tie.Need-same-length-6
-same-length-6 c = search needs
+same-length-6 c = let v : tie.After-serve = search in lengths v .1
 
 same-length-7 : tie.Need-same-length-7
-same-length-7 c = search needs
+same-length-7 c = let v : tie.After-serve = search in lengths v .2
 
 same-length-8 : tie.Need-same-length-8
-same-length-8 c = search needs
+same-length-8 c = let v : tie.After-serve = search in lengths v .3
 
 returns-2 : tie.Need-returns-2
 returns-2 c =
-    let a : tie.After-answer2 = search in
-    let t : tie.After-try-run = search in
-    run-refuses (start t .pre) (bytes t) (rw (a .answer2 .given .1) at (t .try-run .ensures))
+    let r : tie.After-r = search in
+    let v : tie.After-serve = search in
+    let m = pruning v in
+    run-refuses (start m .pre) (bytes m) (tried v) (ap servingOutcome (r .r .given .1))
 
 pub run-spec : {M : Type 1} → statement M
-run-spec = tie.close (tie.spec try-run-requires enum-known-answer count-opened-requires cast-t28 cast-t29 cast-t30
-    cast-t31 enum-known-answer-2 same-length same-length-2
+run-spec = tie.close (tie.spec mul-clear-places clear-places-requires around-requires mark-pruned-requires
+    slice-aggregate-gather-stops gather-stops-requires array-share-prefix-stops slice-aggregate-serve serve-requires
+    enum-known-used count-opened-requires cast-t45 cast-t46 cast-t47 cast-t48 enum-known-r same-length same-length-2
     same-length-3 same-length-4 returns same-length-5 same-length-6 same-length-7 same-length-8 returns-2)
