@@ -14,25 +14,28 @@ use Rattle.base.specs.Tabulate.{tabulate}
 use Rattle.blocks.specs.declared.header.Header.{Header}
 use Rattle.list.specs.Inner.Keeping.{places, Ready}
 use Rattle.list.specs.Slices.{Long, Lists, Slices, lay, cleared}
-use Rattle.plan.specs.FilePlan.{entries, openingOf}
-use Rattle.search.specs.Inner.Walk.{Trace, cutWalks}
-use Rattle.search.specs.Run.{noPlace, noMark, inOrder, inRows}
+use Rattle.search.specs.Inner.Walk.{Trace}
+use Rattle.search.specs.Run.{noPlace, noMark, inRows}
 use Rattle.search.specs.declared.Place.{Place}
-use Rattle.base.proofs.Outcomes.{andThen-accepted, andThen-refused, accepted-injective, accepted-refused}
+use Rattle.base.proofs.Outcomes.{andThen-accepted, andThen-refused, accepted-injective}
 use Rattle.list.proofs.Laying.{lay-nil, lay-under, SameLengths, same-lengths, lay-lengths}
 use Rattle.list.proofs.Padding.{Clear, clear-kept, stop-laid}
 use Rattle.search.proofs.Walk.{walks-none, walks-refused, walks-next}
 use Rattle.serve.specs.Inner.Marks.{markAll, OpenedOpen}
-use Rattle.serve.specs.Inner.Serving.{walkOf, walksOf, lastLength, StopServed, StopsServed, afterStops}
+use Rattle.serve.specs.Inner.Serving.{walkOf, waiting, walksOf, lastLength, StopServed, Serves}
 use Rattle.serve.proofs.Marking.{length-mark-all, mark-all-append}
 
-module _ (f : List ℕ) (h : Header) (order : List ℕ) (ps : List (List ℤ)) (k : ℕ) (o₀ : Slices) where
+module _ (f : List ℕ) (h : Header) (ps : List (List ℤ)) (k : ℕ) (o₀ : Slices) where
+  -- the tiles that wait, and the walks of all stops over them
+  abbrev pub order : List ℕ
+  order = waiting f h (o₀ .marks)
+
   abbrev pub wholeRun : Trace (List (List Place))
   wholeRun = walksOf f h order ps k
 
-  -- the stops from i on
+  -- those of the stops from i on
   abbrev pub restRun : ℕ → Trace (List (List Place))
-  restRun i = cutWalks (entries f h) k (openingOf f h) (inOrder (entries f h) order) (drop i ps)
+  restRun i = walksOf f h order (drop i ps) k
 
   abbrev pub allPlaces : ℕ
   allPlaces = length ps * k
@@ -86,30 +89,29 @@ module _ (f : List ℕ) (h : Header) (order : List ℕ) (ps : List (List ℤ)) (
       rw (lists, ap (λ (z : Slices). z .marks) e)
 
 -- one turn
-module _ {f : List ℕ} {h : Header} {order : List ℕ} {ps : List (List ℤ)} {k : ℕ} {o₀ o : Slices} {i at used : ℕ}
-    (turn : StopTurn f h order ps k o₀ o i at used) where
+module _ {f : List ℕ} {h : Header} {ps : List (List ℤ)} {k : ℕ} {o₀ o : Slices} {i at used : ℕ}
+    (turn : StopTurn f h ps k o₀ o i at used) where
   abbrev W : Trace (List (List Place))
-  W = wholeRun f h order ps k o₀
+  W = wholeRun f h ps k o₀
 
   abbrev R : ℕ → Trace (List (List Place))
-  R j = restRun f h order ps k o₀ j
+  R j = restRun f h ps k o₀ j
 
   abbrev N : ℕ
-  N = allPlaces f h order ps k o₀
+  N = allPlaces f h ps k o₀
 
   -- no stop is left
-  pub stop-ends : length ps ≤ i → StopsServed h W k N o₀ (accepted used) o
+  pub stop-ends : length ps ≤ i → Serves f h ps k o₀ (accepted used) o
   unfolding markAll inRows
   stop-ends l = record {
     outcome = rw (end .out) (ap accepted (end .last));
-    answered = λ ls q. rw (← (accepted-injective (sym (end .out) ∙ q)), ← (end .laid), lay-nil (o .lists) at, marks);
-    under = turn .under;
+    left = rw (end .out, ← (end .laid), lay-nil (o .lists) at, marks);
   }
     where
       none : R i ≡ record { asked = []; out = accepted [] }
       none = rw (drop-of-length-le ps l) (walks-none _)
 
-      end : Ends f h order ps k o₀ o at used []
+      end : Ends f h ps k o₀ o at used []
       end = turn .fine [] (ap (λ w. w .out) none)
 
       marks : markAll (o₀ .marks) (W .asked) ≡ o .marks
@@ -137,28 +139,25 @@ module _ {f : List ℕ} {h : Header} {order : List ℕ} {ps : List (List ℤ)} {
           sorted = tt;
         }
 
-    module _ {r : Outcome ℕ} {o′ : Slices} (x : StopServed f h (walkOf f h order (getD ps i []) k) k at o r o′) where
-      abbrev stop : Trace (List Place)
-      stop = walkOf f h order (getD ps i []) k
+    abbrev pub stop : Trace (List Place)
+    stop = walkOf f h (order f h ps k o₀) (getD ps i []) k
 
+    module _ {r : Outcome ℕ} {o′ : Slices} (x : StopServed f h stop k at o r o′) where
       stops-are : drop i ps ≡ getD ps i [] ∷ drop (i + 1) ps
       stops-are = rw (add-one i) (drop-cons ps i [] l)
 
-      -- it is refused
-      pub stop-refused : (a b : ℕ) → r ≡ refused a b → StopsServed h W k N o₀ (refused a b) o′
-      stop-refused a b e =
-          let q : stop .out ≡ refused a b = lengths (stop .out) (sym (x .outcome) ∙ e) in
-          let w : W .out ≡ refused a b = turn .bad a b (rw stops-are
-          (walks-refused _ (getD ps i []) _ a b q)) in
+      -- it is refused, and the slices are cleared
+      pub stop-refused : {a b : ℕ} {l : Lists} {m : List ℕ} → r ≡ refused a b
+          → l ≡ lay (o′ .lists) 0 (replicate N noPlace) → m ≡ over (o′ .marks) 0 (replicate (h .tiles) noMark)
+          → Serves f h ps k o₀ r (record { lists = l; marks = m })
+      unfolding cleared
+      stop-refused {a} {b} e c d =
+          let q = andThen-refused (stop .out) (λ l. length l) (sym (x .outcome) ∙ e) in
+          let w : W .out ≡ refused a b = turn .bad a b (rw stops-are (walks-refused _ (getD ps i []) _ a b q)) in
           record {
-            outcome = rw w;
-            answered = λ ls z. accepted-refused z w;
-            under = covered f h order ps k o₀ o o′ at fits (x .under) ∙ turn .under;
+            outcome = rw w e;
+            left = rw (w, c, d) (covered f h ps k o₀ o o′ at fits (x .under) ∙ turn .under);
           }
-        where
-          lengths : (z : Outcome (List Place)) → andThen z (λ l. accepted (length l)) ≡ refused a b → z ≡ refused a b
-          lengths (accepted l) w = accepted-refused refl w
-          lengths (refused n p) w = cc
 
       -- it is served
       module _ (n : ℕ) (e : r ≡ accepted n) where
@@ -192,7 +191,7 @@ module _ {f : List ℕ} {h : Header} {order : List ℕ} {ps : List (List ℤ)} {
         rest-is = rw stops-are
             (walks-next _ (getD ps i []) _ list came)
 
-        fine : (ls : List (List Place)) → R (i + 1) .out ≡ accepted ls → Ends f h order ps k o₀ o′ (at + k) n ls
+        fine : (ls : List (List Place)) → R (i + 1) .out ≡ accepted ls → Ends f h ps k o₀ o′ (at + k) n ls
         fine ls z =
             let p = turn .fine (list ∷ ls) (ap (λ w. w .out) rest-is ∙ rw z) in
             let w = fits in
@@ -204,7 +203,7 @@ module _ {f : List ℕ} {h : Header} {order : List ℕ} {ps : List (List ℤ)} {
               last = ap (λ (y : ℕ). lastLength y ls) (sym number) ∙ p .last;
             }
 
-        pub stop-next : StopTurn f h order ps k o₀ o′ (i + 1) (at + k) n
+        pub stop-next : StopTurn f h ps k o₀ o′ (i + 1) (at + k) n
         stop-next =
             let u = suc-mul i k in
             let v : (i + 1) * k ≡ suc i * k = ap (λ (j : ℕ). j * k) (add-one i) in
@@ -223,18 +222,5 @@ module _ {f : List ℕ} {h : Header} {order : List ℕ} {ps : List (List ℤ)} {
               asked = turn .asked ∙ ap (λ w. markAll (o .marks) (w .asked)) rest-is
                   ∙ mark-all-append (o .marks) (stop .asked) (R (i + 1) .asked)
                   ∙ ap (λ z. markAll z (R (i + 1) .asked)) (sym marks-are);
-              under = covered f h order ps k o₀ o o′ at fits (x .under) ∙ turn .under;
+              under = covered f h ps k o₀ o o′ at fits (x .under) ∙ turn .under;
             }
-
--- ---- what is left of a run that was served, and of a refused one that was cleared
-module _ {h : Header} {w : Trace (List (List Place))} {k n : ℕ} {o o′ : Slices} where
-  pub left-served : {u : ℕ} → StopsServed h w k n o (accepted u) o′ → o′ ≡ afterStops h w k n o
-  left-served s =
-      let a = andThen-accepted (w .out) (λ ls. accepted (lastLength 0 ls)) (sym (s .outcome)) in
-      rw (a .1) (s .answered (a .0) (a .1))
-
-  pub left-refused : {x y : ℕ} {l : Lists} {m : List ℕ} → StopsServed h w k n o (refused x y) o′
-      → l ≡ lay (o′ .lists) 0 (replicate n noPlace) → m ≡ over (o′ .marks) 0 (replicate (h .tiles) noMark)
-      → record { lists = l; marks = m } ≡ afterStops h w k n o
-  unfolding cleared
-  left-refused s a b = rw (andThen-refused (w .out) (λ ls. lastLength 0 ls) (sym (s .outcome)), a, b) (s .under)

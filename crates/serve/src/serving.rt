@@ -7,8 +7,7 @@ ghost use Rattle.list.specs.Slices.{lent};
 ghost use Rattle.plan.specs.FilePlan.{openingOf};
 ghost use Rattle.tiles.specs.Inner.Opening.{openingOutcome};
 ghost use Rattle.serve.specs.Inner.Serving.{servingOutcome, TileReady, withSites, afterTile};
-ghost use Rattle.serve.specs.Inner.Serving.{StopReady, StopServed, walkOf, StopsReady, StopsServed, waiting};
-ghost use Rattle.serve.specs.Inner.Serving.{walksOf, Serves};
+ghost use Rattle.serve.specs.Inner.Serving.{StopReady, StopServed, walkOf, StopsReady, Serves};
 use crate::marks::open_once;
 use base::Refusal;
 use blocks::header::Header;
@@ -118,44 +117,8 @@ fn serve_stop(
 }
 
 // Serves the stops in turn, over the tiles that neither the marks nor the directory rule out: the list of stop i from
-// index i × k on. The places used by the last stop.
-fn serve_all(
-    f: &[u8],
-    h: Header,
-    stops: &[Stop],
-    k: usize,
-    dist: &mut [u64],
-    site: &mut [u32],
-    cue: &mut [u32],
-    marks: &mut [u8],
-) -> Serving
-    requires { ⌜ StopsReady (now f) h (now stops) k (lent (now dist) (now site) (now cue) (now marks)) ⌝ }
-    ensures { λ r. ⌜ StopsServed h (walksOf (now (f .entry)) h (waiting (now (f .entry)) h (now (marks .entry)))
-        (now (stops .entry)) k) k (length (now (stops .entry)) * k)
-        (lent (now (dist .entry)) (now (site .entry)) (now (cue .entry)) (now (marks .entry))) (servingOutcome r)
-        (lent (now (dist .exit)) (now (site .exit)) (now (cue .exit)) (now (marks .exit))) ⌝ }
-{
-    let mut order = [0usize; MAX_TILES];
-    let mut keys = [0u64; MAX_TILES];
-    let m = gather(f, h, marks, &mut order);
-    let mut i: usize = 0;
-    let mut at: usize = 0;
-    let mut used: usize = 0;
-    while i < stops.len() {
-        let stop = stop_in(stops, i);
-        let target = Target { stop, at, k };
-        let answer = serve_stop(f, h, &order[..m], target, &mut keys, dist, site, cue, marks);
-        let Serving::Served(n) = answer else {
-            return answer;
-        };
-        used = n;
-        i += 1;
-        at += k;
-    }
-    Serving::Served(used)
-}
-
-// The same; where an opening refuses, the places of all stops and the marks are left zero.
+// index i × k on. The places used by the last stop; where an opening refuses, the places of all stops and the marks are
+// left zero.
 pub fn serve(
     f: &[u8],
     h: Header,
@@ -171,11 +134,24 @@ pub fn serve(
         (lent (now (dist .entry)) (now (site .entry)) (now (cue .entry)) (now (marks .entry))) (servingOutcome r)
         (lent (now (dist .exit)) (now (site .exit)) (now (cue .exit)) (now (marks .exit))) ⌝ }
 {
-    let answer = serve_all(f, h, stops, k, dist, site, cue, marks);
-    let Serving::Served(_) = answer else {
-        clear_places(dist, site, cue, stops.len() * k);
-        clear8(marks, h.tiles);
-        return answer;
-    };
-    answer
+    let mut order = [0usize; MAX_TILES];
+    let mut keys = [0u64; MAX_TILES];
+    let m = gather(f, h, marks, &mut order);
+    let mut i: usize = 0;
+    let mut at: usize = 0;
+    let mut used: usize = 0;
+    while i < stops.len() {
+        let stop = stop_in(stops, i);
+        let target = Target { stop, at, k };
+        let answer = serve_stop(f, h, &order[..m], target, &mut keys, dist, site, cue, marks);
+        let Serving::Served(n) = answer else {
+            clear_places(dist, site, cue, stops.len() * k);
+            clear8(marks, h.tiles);
+            return answer;
+        };
+        used = n;
+        i += 1;
+        at += k;
+    }
+    Serving::Served(used)
 }

@@ -3,7 +3,7 @@
 --   servingOutcome           of a call that answers the number of places used
 --   TileReady, afterTile     before and after a tile is taken for a stop
 --   StopReady, StopServed    before and after a stop is served
---   StopsReady, StopsServed  before and after all stops are served
+--   StopsReady, Serves       before and after all stops are served
 --   afterStops               what is left then
 use Prim.Native.Nat.{ℕ, _*_, _<_, _≤_}
 use mathlib.Core.List.{List, [], _∷_}
@@ -108,14 +108,6 @@ walksOf f h order ps k = cutWalks (entries f h) k (openingOf f h) (inOrder (entr
 abbrev pub lastLength : ℕ → List (List Place) → ℕ
 lastLength n [] = n
 lastLength n (l ∷ ls) = lastLength (length l) ls
-
--- all lists and the marks; or refused, with changes among n places and T marks only
-pub record StopsServed (h : Header) (w : Trace (List (List Place))) (k n : ℕ) (o : Slices) (r : Outcome ℕ)
-    (o′ : Slices) : Type 0 where
-  pub outcome : r ≡ andThen (w .out) (λ ls. accepted (lastLength 0 ls))
-  pub answered : (ls : List (List Place)) → w .out ≡ accepted ls
-      → o′ ≡ record { lists = lay (o .lists) 0 (inRows k ls); marks = markAll (o .marks) (w .asked) }
-  pub under : cleared 0 n (h .tiles) o′ ≡ cleared 0 n (h .tiles) o
 
 -- all lists and the marks; or refused, with n places and T marks zero
 abbrev pub afterStops : Header → Trace (List (List Place)) → ℕ → ℕ → Slices → Slices
