@@ -1,10 +1,7 @@
-use mathlib.Core.List.{[], _∷_}
-use mathlib.Core.Path.{refl}
 use borrow.Author.Needs.{needs}
 use Rattle.blocks.specs.Outcome.{directoryOutcome}
-use Rattle.list.specs.Slices.{lent}
 use Rattle.base.proofs.Outcomes.{told}
-use Rattle.join.proofs.Calling.{directory-refuses}
+use Rattle.join.specs.Join.{tests, joinFrom, joinEnd}
 use Rattle.join.proofs.call.join.Statement.{statement}
 use Rattle.join.proofs.call.join.Tie as tie
 
@@ -39,14 +36,11 @@ returns : tie.Need-returns
 returns c = search needs
 
 returns-2 : tie.Need-returns-2
+unfolding joinEnd joinFrom tests
 returns-2 c =
     let d : tie.After-read-directory = search in
     let r : tie.After-r = search in
-    let s : tie.Start = search in
-    let a = s .args in
-    let out = lent (a .dist .now) (a .site .now) (a .cue .now) (a .marks .now) in
-    directory-refuses (a .f .now) (a .xs .now ∷ a .ys .now ∷ []) (a .k) out
-    (told directoryOutcome (d .read-directory .ensures) (r .r .given .1)) refl
+    rw (told directoryOutcome (d .read-directory .ensures) (r .r .given .1))
 
 pub join-spec : {M : Type 1} → statement M
 join-spec = tie.close (tie.spec read-directory-requires enum-known-h join-accepted-requires enum-known-r same-length

@@ -6,8 +6,8 @@ use Rattle.base.specs.Refusal.{accepted}
 use Rattle.list.specs.Slices.{Slices, lent}
 use Rattle.stops.specs.Arguments.{arguments}
 use Rattle.base.proofs.Outcomes.{number-accepted, number-refused}
-use Rattle.join.specs.Join.{lengthsOf}
-use Rattle.join.proofs.Calling.{argument-refuses, tests-pass, run-ready}
+use Rattle.join.specs.Join.{lengthsOf, tests, joinFrom, joinEnd}
+use Rattle.join.proofs.Calling.{tests-pass, run-ready}
 use Rattle.join.proofs.call.join_accepted.Statement.{statement}
 use Rattle.join.proofs.call.join_accepted.Tie as tie
 
@@ -25,12 +25,13 @@ refused-requires : tie.Need-refused-requires
 refused-requires c κs = search needs
 
 returns : tie.Need-returns
+unfolding joinEnd joinFrom tests
 returns c =
     let i : tie.Then1 = search in
     let n : tie.After-failed-argument = search in
     let s : tie.Start = search in
     let bad = number-refused (n .failed-argument .result) 0 (n .failed-argument .ensures) (i .if1 .taken) in
-    argument-refuses (s .args .f .now) (cols s) (s .args .k) (out s) (s .pre) bad (c .refused .ensures)
+    rw (c .refused .ensures, s .pre, bad)
 
 -- every argument is good
 abbrev start : tie.Else1 → tie.Start
