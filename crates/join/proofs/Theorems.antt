@@ -37,9 +37,10 @@ use Rattle.stops.specs.Stops.{stopCount, stopsOf}
 use Rattle.tiles.specs.Tile.{tilePosition, openTile, sitesAt}
 use Rattle.tiles.specs.Validate.{validate}
 use Rattle.base.proofs.Outcomes.{accepted-injective, accepted-refused, andThen-refused, by-outcome}
+use Rattle.base.proofs.Over.{getD-after}
 use Rattle.base.proofs.Tests.{both-and}
 use Rattle.blocks.proofs.Theorems.{same-directory, directory-exactly}
-use Rattle.list.proofs.Laying.{lay-place, lay-long}
+use Rattle.list.proofs.Laying.{lay-place, lay-after, lay-long}
 use Rattle.plan.proofs.Tables.{filled-at, filled-take}
 use Rattle.plan.proofs.Theorems.{opening-checked, join-depends, pruned-count-depends, marks-depend, used-depends}
 use Rattle.plan.proofs.Theorems.{good-opens, good-agrees}
@@ -60,7 +61,7 @@ use Rattle.join.specs.Join.{Result, End, runFor, lengthsOf, tests, fille
 use Rattle.join.specs.Join.{joinEnd}
 use Rattle.join.proofs.Calling.{tests-pass, run-ready}
 use Rattle.join.proofs.Running.{smallest, run-lawful}
-use Rattle.join.proofs.Writes.{past, outcome-alike, answer-alike}
+use Rattle.join.proofs.Writes.{run-writes, answer-alike}
 
 first-stop : (P : List ℤ → Type 0) (ps : List (List ℤ)) → 0 < length ps → All P ps → (p : List ℤ) × P p
 first-stop P [] h a = absurd (omega arith)
@@ -77,12 +78,28 @@ never-pruned f h cols k = run.never-pruned (entries f h) (around cols) k (openin
 -- The outcome looks at nothing of the slices but their lengths, of every file.
 pub lengths-decide : (f : List ℕ) (cols : List (List ℤ)) (k : ℕ) (out out′ : Slices) → lengthsOf out′ ≡ lengthsOf out
     → joinEnd f cols k out′ .outcome ≡ joinEnd f cols k out .outcome
-lengths-decide = outcome-alike
+unfolding joinEnd tests joinFrom
+lengths-decide f cols k out out′ l = by-outcome (directory f)
+    (λ h d.
+    let w = run-writes f cols k h in
+    let same = ap (arguments (h .tiles) cols k) l in
+    by-outcome (arguments (h .tiles) cols k (lengthsOf out))
+    (λ x a. rw (d, same, a, w .ends out, w .ends out′))
+    (λ x y a. rw (d, same, a)))
+    (λ x y d. rw d)
 
 -- "Elements past these never change", of refused calls too
 pub past-stays : (f : List ℕ) (cols : List (List ℤ)) (k : ℕ) (out : Slices) (h : Header) → directory f ≡ accepted h
     → PastStays cols k h out (joinEnd f cols k out .slices)
-past-stays = past
+unfolding joinEnd tests joinFrom filled
+past-stays f cols k out h d =
+    let w = run-writes f cols k h in
+    rw d (by-outcome (arguments (h .tiles) cols k (lengthsOf out))
+    (λ x a. rw (a, w .ends out) (record {
+      lists = λ i b. lay-after (out .lists) 0 (w .places) i (omega (arith, w .all-places));
+      marks = λ t b. getD-after (out .marks) 0 t (w .marks) (omega (arith, w .all-marks));
+    }))
+    (λ x y a. rw a (record { lists = λ i b. refl; marks = λ t b. refl })))
 
 -- "Any file of the same length, equal to this one in every byte of the directory and of the opened tiles"
 module _ (f : List ℕ) (cols : List (List ℤ)) (k : ℕ) (g : List ℕ) (h : Header) (d : directory f ≡ accepted h)

@@ -1,5 +1,5 @@
--- What a run writes over the slices: n × k places and T marks, which file, stops and k alone decide. So what the slices
--- held before counts for nothing, and what a call has no use for stays.
+-- What a run writes over the slices: n × k places and T marks, which file, stops and k alone decide, and not what the
+-- slices held before.
 use Prim.Native.Nat.{ℕ, _*_, _<_, _≤_}
 use mathlib.Core.List.{List}
 use mathlib.Core.Path.{_≡_, refl, sym, ap, _∙_}
@@ -20,28 +20,28 @@ use Rattle.search.specs.declared.Place.{Place}
 use Rattle.stops.specs.Arguments.{arguments}
 use Rattle.stops.specs.Stops.{stopCount, stopsOf}
 use Rattle.base.proofs.Outcomes.{by-outcome}
-use Rattle.base.proofs.Over.{getD-run, getD-after}
-use Rattle.list.proofs.Laying.{lay-place, lay-after}
+use Rattle.base.proofs.Over.{getD-run}
+use Rattle.list.proofs.Laying.{lay-place}
 use Rattle.plan.proofs.Tables.{table-length}
 use Rattle.search.proofs.Marks.{inRows-length}
 use Rattle.search.proofs.Run.{join-length}
 use Rattle.stops.proofs.ArgumentLaws.{arguments-good}
 use Rattle.stops.proofs.StopLaws.{stops-length}
-use Rattle.join.specs.Claims.{SameAnswer, PastStays}
-use Rattle.join.specs.Join.{Result, runFor, lengthsOf, tests, filled, resultOf, ended, runEnd, joinFrom, joinEnd}
+use Rattle.join.specs.Claims.{SameAnswer}
+use Rattle.join.specs.Join.{Result, runFor, lengthsOf, filled, resultOf, ended, runEnd, joinEnd}
 use Rattle.join.proofs.Calling.{tests-pass}
 
 module _ (f : List ℕ) (cols : List (List ℤ)) (k : ℕ) where
   -- what a run comes to and writes, whatever slices are lent
-  record RunWrites (h : Header) : Type 0 where
-    outcome : Outcome Result
-    places : List Place
-    marks : List ℕ
-    all-places : length places ≡ stopCount cols * k
-    all-marks : length marks ≡ h .tiles
-    ends : (out : Slices) → runEnd f h cols k out ≡ record { outcome = outcome; slices = filled places marks out }
+  pub record RunWrites (h : Header) : Type 0 where
+    pub outcome : Outcome Result
+    pub places : List Place
+    pub marks : List ℕ
+    pub all-places : length places ≡ stopCount cols * k
+    pub all-marks : length marks ≡ h .tiles
+    pub ends : (out : Slices) → runEnd f h cols k out ≡ record { outcome = outcome; slices = filled places marks out }
 
-  run-writes : (h : Header) → RunWrites h
+  pub run-writes : (h : Header) → RunWrites h
   unfolding runEnd ended filled cleared runFor run.marks
   run-writes h =
       let E = entries f h in
@@ -67,56 +67,30 @@ module _ (f : List ℕ) (cols : List (List ℤ)) (k : ℕ) where
         ends = λ out. rw e;
       })
 
-  -- "Elements past these never change"
-  pub past : (out : Slices) (h : Header) → directory f ≡ accepted h
-      → PastStays cols k h out (joinEnd f cols k out .slices)
-  unfolding joinEnd tests joinFrom filled
-  past out h d =
+  -- two calls with slices of the same lengths
+  pub answer-alike : (out out′ : Slices) → lengthsOf out′ ≡ lengthsOf out → (h : Header) → directory f ≡ accepted h
+      → arguments (h .tiles) cols k (lengthsOf out) ≡ accepted tt
+      → SameAnswer cols k h (joinEnd f cols k out) (joinEnd f cols k out′)
+  unfolding filled
+  answer-alike out out′ l h d a =
       let w = run-writes h in
-      rw d (by-outcome (arguments (h .tiles) cols k (lengthsOf out))
-      (λ x a. rw (a, w .ends out) (record {
-        lists = λ i b. lay-after (out .lists) 0 (w .places) i (omega (arith, w .all-places));
-        marks = λ t b. getD-after (out .marks) 0 t (w .marks) (omega (arith, w .all-marks));
-      }))
-      (λ x y a. rw a (record { lists = λ i b. refl; marks = λ t b. refl })))
+      let a′ = ap (arguments (h .tiles) cols k) l ∙ a in
+      let g = arguments-good (h .tiles) cols k (lengthsOf out) a in
+      let g′ = arguments-good (h .tiles) cols k (lengthsOf out′) a′ in
+      rw (tests-pass f cols k out d a ∙ w .ends out, tests-pass f cols k out′ d a′ ∙ w .ends out′) (record {
+        outcome = refl;
+        lists = λ i b. place-read (w .places) (w .all-places) i b (out′ .lists) (g′ .dist, (g′ .site, g′ .cue))
+            ∙ sym (place-read (w .places) (w .all-places) i b (out .lists) (g .dist, (g .site, g .cue)));
+        marks = λ t b. mark-read (w .marks) (w .all-marks) t b (out′ .marks) (g′ .marks)
+            ∙ sym (mark-read (w .marks) (w .all-marks) t b (out .marks) (g .marks));
+      })
+    where
+      -- what was written is read back
+      place-read : {n : ℕ} (ps : List Place) → length ps ≡ n → (i : ℕ) → i < n → (o : Lists) → Long o n
+          → placeAt (lay o 0 ps) i ≡ getD ps i noPlace
+      place-read ps e i b o g = rw (zero-add i) at (lay-place o 0 ps
+          (omega (arith, g .0), (omega (arith, g .1 .0), omega (arith, g .1 .1))) i (omega arith))
 
-  -- ---- two calls with slices of the same lengths
-
-  module _ (out out′ : Slices) (l : lengthsOf out′ ≡ lengthsOf out) where
-    pub outcome-alike : joinEnd f cols k out′ .outcome ≡ joinEnd f cols k out .outcome
-    unfolding joinEnd tests joinFrom
-    outcome-alike = by-outcome (directory f)
-        (λ h d.
-        let w = run-writes h in
-        let same = ap (arguments (h .tiles) cols k) l in
-        by-outcome (arguments (h .tiles) cols k (lengthsOf out))
-        (λ x a. rw (d, same, a, w .ends out, w .ends out′))
-        (λ x y a. rw (d, same, a)))
-        (λ x y d. rw d)
-
-    pub answer-alike : (h : Header) → directory f ≡ accepted h
-        → arguments (h .tiles) cols k (lengthsOf out) ≡ accepted tt
-        → SameAnswer cols k h (joinEnd f cols k out) (joinEnd f cols k out′)
-    unfolding filled
-    answer-alike h d a =
-        let w = run-writes h in
-        let a′ = ap (arguments (h .tiles) cols k) l ∙ a in
-        let g = arguments-good (h .tiles) cols k (lengthsOf out) a in
-        let g′ = arguments-good (h .tiles) cols k (lengthsOf out′) a′ in
-        rw (tests-pass f cols k out d a ∙ w .ends out, tests-pass f cols k out′ d a′ ∙ w .ends out′) (record {
-          outcome = refl;
-          lists = λ i b. place-read (w .places) (w .all-places) i b (out′ .lists) (g′ .dist, (g′ .site, g′ .cue))
-              ∙ sym (place-read (w .places) (w .all-places) i b (out .lists) (g .dist, (g .site, g .cue)));
-          marks = λ t b. mark-read (w .marks) (w .all-marks) t b (out′ .marks) (g′ .marks)
-              ∙ sym (mark-read (w .marks) (w .all-marks) t b (out .marks) (g .marks));
-        })
-      where
-        -- what was written is read back
-        place-read : {n : ℕ} (ps : List Place) → length ps ≡ n → (i : ℕ) → i < n → (o : Lists) → Long o n
-            → placeAt (lay o 0 ps) i ≡ getD ps i noPlace
-        place-read ps e i b o g = rw (zero-add i) at (lay-place o 0 ps
-            (omega (arith, g .0), (omega (arith, g .1 .0), omega (arith, g .1 .1))) i (omega arith))
-
-        mark-read : {n : ℕ} (ms : List ℕ) → length ms ≡ n → (t : ℕ) → t < n → (m : List ℕ) → n ≤ length m
-            → getD (over m 0 ms) t 0 ≡ getD ms t 0
-        mark-read ms e t b m g = rw (zero-add t) at (getD-run m 0 t ms (omega arith) (omega arith))
+      mark-read : {n : ℕ} (ms : List ℕ) → length ms ≡ n → (t : ℕ) → t < n → (m : List ℕ) → n ≤ length m
+          → getD (over m 0 ms) t 0 ≡ getD ms t 0
+      mark-read ms e t b m g = rw (zero-add t) at (getD-run m 0 t ms (omega arith) (omega arith))

@@ -5,7 +5,6 @@ ghost use lib.ListN.{length};
 ghost use Rattle.base.specs.Refusal.{accepted, andThen};
 ghost use Rattle.list.specs.Slices.{lent};
 ghost use Rattle.plan.specs.FilePlan.{openingOf};
-ghost use Rattle.tiles.specs.Inner.Opening.{openingOutcome};
 ghost use Rattle.serve.specs.Inner.Serving.{servingOutcome, TileReady, withSites, afterTile};
 ghost use Rattle.serve.specs.Inner.Serving.{StopReady, StopServed, walkOf, StopsReady, Serves};
 use crate::marks::open_once;
@@ -31,16 +30,6 @@ pub enum Serving {
     Refused(Refusal),
 }
 
-// What a refused opening makes of serving.
-fn passed_on(answer: Opening) -> Serving
-    ensures { λ r. ⌜ servingOutcome r ≡ openingOutcome answer ⌝ }
-{
-    match answer {
-        Opening::Opened(n) => Serving::Served(n),
-        Opening::Refused(r) => Serving::Refused(r),
-    }
-}
-
 // Takes tile t for a stop: opens it, once a run, and puts its sites into the list.
 fn take_tile(
     f: &[u8],
@@ -61,11 +50,10 @@ fn take_tile(
         ≡ afterTile t target used (openingOf (now (f .entry)) h t)
         (lent (now (dist .entry)) (now (site .entry)) (now (cue .entry)) (now (marks .entry))) ⌝ }
 {
-    let answer = open_once(f, h, t, marks);
-    let Opening::Opened(_) = answer else {
-        return passed_on(answer);
-    };
-    Serving::Served(add_tile(f, h, t, target, used, dist, site, cue))
+    match open_once(f, h, t, marks) {
+        Opening::Opened(_) => Serving::Served(add_tile(f, h, t, target, used, dist, site, cue)),
+        Opening::Refused(r) => Serving::Refused(r),
+    }
 }
 
 // Serves one stop, over the waiting tiles: its list.

@@ -1,4 +1,4 @@
-use mathlib.Core.Path.{ap, _∙_}
+use mathlib.Core.Path.{refl, ap, _∙_}
 use borrow.Author.Needs.{needs}
 use Rattle.base.specs.Refusal.{accepted}
 use lib.ListN.{length}
@@ -16,27 +16,6 @@ open-once-requires c κs = search needs
 enum-told : tie.Need-enum-told
 enum-told c = search needs
 
-enum-told-2 : tie.Need-enum-told-2
-enum-told-2 c = search needs
-
-passed-on-requires : tie.Need-passed-on-requires
-passed-on-requires c κs = search needs
-
-same-length : tie.Need-same-length
-same-length c = search needs
-
--- the opening is refused
-returns : tie.Need-returns
-returns c =
-    let told2 : tie.After-enum-told2 = search in
-    let o : tie.After-open-once = search in
-    let e = told2 .enum-told2 .given .1 in
-    let s : tie.Start = search in
-    let d = andThen-refused (openingOf (s .args .f .now) (s .args .h) (s .args .t)) (λ l. length l)
-    (told openingOutcome (o .open-once .ensures .0) e) in
-    let m = rw d at (o .open-once .ensures .1) in
-    rw d (c .passed-on .ensures ∙ ap openingOutcome e, rw m)
-
 -- it opens, with the file's own sites
 opened : (c : tie.After-enum-told) → (let s : tie.Start = search in Opens (s .args .f .now) (s .args .h) (s .args .t))
 opened c =
@@ -52,6 +31,9 @@ add-tile-requires c κs =
     let s : tie.Start = search in
     (s .pre .tile, opened a, s .pre .stop, s .pre .list)
 
+same-length : tie.Need-same-length
+same-length c = search needs
+
 same-length-2 : tie.Need-same-length-2
 same-length-2 c = search needs
 
@@ -61,11 +43,8 @@ same-length-3 c = search needs
 same-length-4 : tie.Need-same-length-4
 same-length-4 c = search needs
 
-same-length-5 : tie.Need-same-length-5
-same-length-5 c = search needs
-
-returns-2 : tie.Need-returns-2
-returns-2 c =
+returns : tie.Need-returns
+returns c =
     let x : tie.After-add-tile = search in
     let a : tie.After-enum-told = search in
     let o : tie.After-open-once = search in
@@ -74,6 +53,23 @@ returns-2 c =
     let added = x .add-tile .ensures in
     rw e (ap accepted (added .number), rw (m, added .laid))
 
+-- the opening is refused
+enum-known-r : tie.Need-enum-known-r
+enum-known-r c = search needs
+
+same-length-5 : tie.Need-same-length-5
+same-length-5 c = search needs
+
+returns-2 : tie.Need-returns-2
+returns-2 c =
+    let r : tie.After-r = search in
+    let o : tie.After-open-once = search in
+    let s : tie.Start = search in
+    let d = andThen-refused (openingOf (s .args .f .now) (s .args .h) (s .args .t)) (λ l. length l)
+    (told openingOutcome (o .open-once .ensures .0) (r .r .given .1)) in
+    let m = rw d at (o .open-once .ensures .1) in
+    rw d (refl, rw m)
+
 pub take-tile-spec : {M : Type 1} → statement M
-take-tile-spec = tie.close (tie.spec open-once-requires enum-told enum-told-2 passed-on-requires same-length returns
-    add-tile-requires same-length-2 same-length-3 same-length-4 same-length-5 returns-2)
+take-tile-spec = tie.close (tie.spec open-once-requires enum-told add-tile-requires enum-known-r same-length
+    same-length-2 same-length-3 same-length-4 returns same-length-5 returns-2)
