@@ -41,15 +41,15 @@ unfolding bestPoint
 best-in no-axis = none
 best-in (next-axis {o} {e} {b} ao ae ab r) = more (best-end-on o e b ao) (best-in r)
 
-pub best-over-e : {o e b : List (List ℤ)} → Three o e b → Match e (bestPoint o e b)
+pub best-match-e : {o e b : List (List ℤ)} → Three o e b → Match e (bestPoint o e b)
 unfolding bestPoint
-best-over-e no-axis = none
-best-over-e (next-axis {o} {e} {b} ao ae ab r) = more ae (best-end-limited o e b ao) (best-over-e r)
+best-match-e no-axis = none
+best-match-e (next-axis {o} {e} {b} ao ae ab r) = more ae (best-end-limited o e b ao) (best-match-e r)
 
-pub best-over-b : {o e b : List (List ℤ)} → Three o e b → Match b (bestPoint o e b)
+pub best-match-b : {o e b : List (List ℤ)} → Three o e b → Match b (bestPoint o e b)
 unfolding bestPoint
-best-over-b no-axis = none
-best-over-b (next-axis {o} {e} {b} ao ae ab r) = more ab (best-end-limited o e b ao) (best-over-b r)
+best-match-b no-axis = none
+best-match-b (next-axis {o} {e} {b} ao ae ab r) = more ab (best-end-limited o e b ao) (best-match-b r)
 
 -- no three points have a larger difference; put as sums, so that nothing is negative
 pub best-most : {o e b : List (List ℤ)} {x y z : List ℤ} → Three o e b → In o x → In e y → In b z →
@@ -60,9 +60,9 @@ best-most (next-axis {o} {e} {b} ao ae ab r) (more {x = x} i is) (more {x = y} j
     omega (arith, best-end-most o e b ao ae ab x y z i j k, best-most r is js ks)
 
 -- from a point of O, E can be measured
-pub over-in : {o e b : List (List ℤ)} {x : List ℤ} → Three o e b → In o x → Match e x × Match b x
-over-in no-axis none = (none, none)
-over-in (next-axis ao ae ab r) (more i is) =
+pub match-in : {o e b : List (List ℤ)} {x : List ℤ} → Three o e b → In o x → Match e x × Match b x
+match-in no-axis none = (none, none)
+match-in (next-axis ao ae ab r) (more i is) =
     let l = limited-on ao i in
-    let w = over-in r is in
+    let w = match-in r is in
     (more ae l (w .0), more ab l (w .1))

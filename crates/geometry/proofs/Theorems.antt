@@ -30,7 +30,7 @@ use Rattle.geometry.proofs.AllAxes.{in-box, in-test, in-valid, in-lengt
 use Rattle.geometry.proofs.AllAxes.{in-limited}
 use Rattle.geometry.proofs.AllAxes.{closest-in, min-least, farthest-in, max-largest, distance-bound}
 use Rattle.geometry.proofs.Around.{all-rows, rows-at, around-axes, around-valid, around-holds, around-least}
-use Rattle.geometry.proofs.BestPoint.{Three, three, best-in, best-over-e, best-over-b, best-most, over-in}
+use Rattle.geometry.proofs.BestPoint.{Three, three, best-in, best-match-e, best-match-b, best-most, match-in}
 use Rattle.geometry.proofs.Corners.{corner-in, best-corner}
 use Rattle.geometry.proofs.Shift.{less-sub, at-most-sub, abs-difference}
 -- points by columns: as many coordinates in each; the points one after the other, how many they are and how many axes
@@ -134,8 +134,8 @@ module _ (o e b : List (List ℤ)) (vo : validBox o ≡ true) (ve : validBox e �
       let w = three o e b vo ve vb se sb in
       record {
         o-inside = in-test (best-in w);
-        e-inside = in-test (farthest-in (best-over-e w));
-        b-inside = in-test (closest-in (best-over-b w));
+        e-inside = in-test (farthest-in (best-match-e w));
+        b-inside = in-test (closest-in (best-match-b w));
         reached = refl;
         largest = λ x y z i j k. leZ-yes (true-T (at-most-sub (D x y) (D x z) _ _ (most x y z i j k)));
       }
@@ -165,7 +165,7 @@ module _ (o e b : List (List ℤ)) (vo : validBox o ≡ true) (ve : validBox e �
       only-if h =
           let w = three o e b vo ve vb se sb in
           let l = h point (farthestPoint e point) (closestPoint b point)
-          (in-test (best-in w)) (in-test (farthest-in (best-over-e w))) (in-test (closest-in (best-over-b w))) in
+          (in-test (best-in w)) (in-test (farthest-in (best-match-e w))) (in-test (closest-in (best-match-b w))) in
           closer-test o e b ∙ lt-ltb (maxDist e point) (minDist b point) l
 
   -- .. and exactly when from each corner of O far to E is below near to B: each box is measured once from each corner
@@ -176,7 +176,7 @@ module _ (o e b : List (List ℤ)) (vo : validBox o ≡ true) (ve : validBox e �
       iff-eq (closer o e b) (every test (corners (length o)))
       (λ t. every-holds test (corners (length o)) (λ c l.
       let i = corner-in o vo c in
-      let v = over-in w i in
+      let v = match-in w i in
       lt-ltb (maxDist e (corner o c)) (minDist b (corner o c))
       (closer-exact .0 t (corner o c) (farthestPoint e (corner o c)) (closestPoint b (corner o c))
       (in-test i) (in-test (farthest-in (v .0))) (in-test (closest-in (v .1))))))
@@ -198,8 +198,8 @@ module _ (o e b : List (List ℤ)) (vo : validBox o ≡ true) (ve : validBox e �
       let x = bestPoint o e b in
       let wx = in-limited (best-in w) vo in
       let n = in-length (best-in w) in
-      let f = distance-bound wx (in-limited (farthest-in (best-over-e w)) ve) in
-      let c = distance-bound wx (in-limited (closest-in (best-over-b w)) vb) in
+      let f = distance-bound wx (in-limited (farthest-in (best-match-e w)) ve) in
+      let c = distance-bound wx (in-limited (closest-in (best-match-b w)) vb) in
       let d = abs-difference (D x (farthestPoint e x)) (D x (closestPoint b x)) in
       let m : axisBound * length x ≡ axisBound * length o = ap (λ (k : ℕ). axisBound * k) n in
       omega arith

@@ -21,6 +21,7 @@ use Rattle.prune.specs.Prune.{pruneMarks}
 use Rattle.queue.specs.Inner.Keys.{waits}
 use Rattle.search.specs.Lists.{range, bit, count, member}
 use Rattle.search.specs.Inner.Places.{maxPlaces}
+use Rattle.search.specs.Inner.Walk.{Trace, cutWalks}
 use Rattle.search.specs.Limits.{maxK}
 use Rattle.search.specs.Plan.{Lawful, ranked}
 use Rattle.search.specs.Pruning.{pruned, prunedCount}
@@ -46,7 +47,7 @@ use Rattle.search.proofs.Theorems.{places-used, opened-count, only-tiles}
 use Rattle.serve.proofs.Marking.{marks-end}
 use Rattle.stops.proofs.ArgumentLaws.{few-places}
 use Rattle.stops.proofs.StopLaws.{stops-length}
-use Rattle.join.specs.Inner.Running.{RunReady, walksFor}
+use Rattle.join.specs.Inner.Running.{RunReady}
 use Rattle.join.specs.Join.{End, runFor, filled, ended, runEnd}
 
 -- ---- words for lists
@@ -89,6 +90,10 @@ module _ {f : List ℕ} {h : Header} {cols : List (List ℤ)} {k : ℕ} {out : S
   abbrev n : ℕ
   n = stopCount cols * k
 
+  -- the run as the code goes by it: the walks of all stops over their queues
+  abbrev cutRun : Trace (List (List Place))
+  cutRun = cutWalks (entries f h) k (openingOf f h) (queue (entries f h) O k) (stopsOf cols)
+
   pub few-enough : n ≤ maxPlaces
   few-enough = few-places (r .args .few) (r .args .few-k)
 
@@ -103,7 +108,7 @@ module _ {f : List ℕ} {h : Header} {cols : List (List ℤ)} {k : ℕ} {out : S
   pub run-lawful : Lawful (entries f h) O
   run-lawful = plan-lawful f h O (r .dir) (region .valid) (region .axes)
 
-  alike : Bytes f → Alike [] (runFor f h cols k) (walksFor f h cols k .asked) (walksFor f h cols k .out)
+  alike : Bytes f → Alike [] (runFor f h cols k) (cutRun .asked) (cutRun .out)
   unfolding runFor
   alike b = join-cut (entries f h) O k run-lawful (openingOf f h) (opening-checked f h b) (r .args .some-k)
       (stopsOf cols) (smallest .holds)
@@ -162,7 +167,7 @@ module _ {f : List ℕ} {h : Header} {cols : List (List ℤ)} {k : ℕ} {out : S
             (replicate (h .tiles) 0) (omega arith) (omega arith),
       )
 
-  lists-cover : (ls : List (List Place)) → walksFor f h cols k .out ≡ accepted ls
+  lists-cover : (ls : List (List Place)) → cutRun .out ≡ accepted ls
       → lay (started .lists) 0 (inRows k ls) ≡ lay (out .lists) 0 (inRows k ls)
   lists-cover ls e =
       let a = walks-length _ (stopsOf cols) ls e in
@@ -172,25 +177,25 @@ module _ {f : List ℕ} {h : Header} {cols : List (List ℤ)} {k : ℕ} {out : S
       lay-under (out .lists) 0 0 (replicate n noPlace) (inRows k ls) (omega arith) (omega arith)
 
   pub record Attempted (answer : Outcome ℕ) (out′ : Slices) : Type 0 where
-    pub outcome : answer ≡ andThen (walksFor f h cols k .out) (λ ls. accepted (lastLength 0 ls))
-    pub answered : (ls : List (List Place)) → walksFor f h cols k .out ≡ accepted ls
+    pub outcome : answer ≡ andThen (cutRun .out) (λ ls. accepted (lastLength 0 ls))
+    pub answered : (ls : List (List Place)) → cutRun .out ≡ accepted ls
         → out′ ≡ record {
           lists = lay (out .lists) 0 (inRows k ls);
-          marks = markAll (started .marks) (walksFor f h cols k .asked);
+          marks = markAll (started .marks) (cutRun .asked);
         }
-    pub refused : (number block : ℕ) → walksFor f h cols k .out ≡ refused number block
+    pub refused : (number block : ℕ) → cutRun .out ≡ refused number block
         → out′ ≡ cleared 0 n (h .tiles) out
 
   pub attempted : {from out′ : Slices} {o : Outcome ℕ} → from ≡ started → Serves f h (stopsOf cols) k from o out′
       → Attempted o out′
   unfolding queue
   attempted {from} {out′} {o} begins served =
-      let w : walksOf f h (waiting f h (started .marks)) (stopsOf cols) k ≡ walksFor f h cols k =
+      let w : walksOf f h (waiting f h (started .marks)) (stopsOf cols) k ≡ cutRun =
       ap (λ z. walksOf f h z (stopsOf cols) k) (waiting-is f h O k (out .marks) (r .args .marks)) in
       let s = rw begins at served in
-      let outcome : o ≡ andThen (walksFor f h cols k .out) (λ ls. accepted (lastLength 0 ls)) =
+      let outcome : o ≡ andThen (cutRun .out) (λ ls. accepted (lastLength 0 ls)) =
       rw w at (s .outcome) in
-      let left : out′ ≡ afterStops h (walksFor f h cols k) k n started = rw (w, count-is) at (s .left) in
+      let left : out′ ≡ afterStops h cutRun k n started = rw (w, count-is) at (s .left) in
       record {
         outcome = outcome;
         answered = λ ls e. rw e at left ∙ rw (lists-cover ls e);
@@ -200,10 +205,10 @@ module _ {f : List ℕ} {h : Header} {cols : List (List ℤ)} {k : ℕ} {out : S
   -- ---- its end
 
   module _ (b : Bytes f) where
-    asked-tiles : All (λ t. t < h .tiles) (walksFor f h cols k .asked)
+    asked-tiles : All (λ t. t < h .tiles) (cutRun .asked)
     unfolding runFor member
     asked-tiles =
-        let asked = walksFor f h cols k .asked in
+        let asked = cutRun .asked in
         let a = only-tiles (entries f h) O k (openingOf f h) (stopsOf cols) in
         mem-all asked
         (λ t i. all-mem (λ u. u < h .tiles) a
@@ -211,11 +216,11 @@ module _ {f : List ℕ} {h : Header} {cols : List (List ℤ)} {k : ℕ} {out : S
         (rw (alike b .openings) (withNew-member t [] asked ∙ mem-member t asked i))))
 
     -- the marks that serving leaves are those of the run
-    marks-are : markAll (started .marks) (walksFor f h cols k .asked)
+    marks-are : markAll (started .marks) (cutRun .asked)
         ≡ over (out .marks) 0 (marks (entries f h) O k (runFor f h cols k .openings))
     unfolding pruneMarks
     marks-are =
-        marks-end (entries f h) O k (walksFor f h cols k .asked) (out .marks) (r .args .marks) asked-tiles
+        marks-end (entries f h) O k (cutRun .asked) (out .marks) (r .args .marks) asked-tiles
         ∙ ap (λ u. over (out .marks) 0 (marks (entries f h) O k u)) (sym (alike b .openings))
 
     -- and those opened are counted
@@ -227,7 +232,7 @@ module _ {f : List ℕ} {h : Header} {cols : List (List ℤ)} {k : ℕ} {out : S
         rw (filled-take (mark (entries f h) O k opened) (out .marks) (h .tiles) (r .args .marks))
         (opened-count (entries f h) O k (openingOf f h) (stopsOf cols))
 
-    used-is : (ls : List (List Place)) → walksFor f h cols k .out ≡ accepted ls
+    used-is : (ls : List (List Place)) → cutRun .out ≡ accepted ls
         → lastLength 0 ls ≡ placesUsed (entries f h) k
     unfolding runFor
     used-is ls e =
@@ -242,7 +247,7 @@ module _ {f : List ℕ} {h : Header} {cols : List (List ℤ)} {k : ℕ} {out : S
       pub used-few : {used : ℕ} → answer ≡ accepted used → used ≤ maxK
       unfolding placesUsed
       used-few {used} e =
-          let a = andThen-accepted (walksFor f h cols k .out) (λ ls. accepted (lastLength 0 ls))
+          let a = andThen-accepted (cutRun .out) (λ ls. accepted (lastLength 0 ls))
           (sym (t .outcome) ∙ e) in
           let u : used ≡ placesUsed (entries f h) k = sym (accepted-injective (a .2)) ∙ used-is (a .0) (a .1) in
           omega (arith, r .args .few-k, u)
@@ -255,7 +260,7 @@ module _ {f : List ℕ} {h : Header} {cols : List (List ℤ)} {k : ℕ} {out : S
           } ≡ runEnd f h cols k out
       unfolding runEnd ended filled
       run-answers {used} {opened} {p} e counted o =
-          let a = andThen-accepted (walksFor f h cols k .out) (λ ls. accepted (lastLength 0 ls))
+          let a = andThen-accepted (cutRun .out) (λ ls. accepted (lastLength 0 ls))
           (sym (t .outcome) ∙ e) in
           let ls = a .0 in
           let u : used ≡ placesUsed (entries f h) k = sym (accepted-injective (a .2)) ∙ used-is ls (a .1) in
@@ -272,6 +277,6 @@ module _ {f : List ℕ} {h : Header} {cols : List (List ℤ)} {k : ℕ} {out : S
           → record { outcome = refused x y; slices = out′ } ≡ runEnd f h cols k out
       unfolding runEnd ended
       run-refuses {x} {y} e =
-          let w = andThen-refused (walksFor f h cols k .out) (λ ls. lastLength 0 ls) (sym (t .outcome) ∙ e) in
+          let w = andThen-refused (cutRun .out) (λ ls. lastLength 0 ls) (sym (t .outcome) ∙ e) in
           let run : runFor f h cols k .outcome ≡ refused x y = alike b .outcome ∙ w in
           rw (run, t .refused x y w)

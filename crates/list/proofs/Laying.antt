@@ -2,7 +2,7 @@
 --
 --   places-*         the places from an index on
 --   lay-self         what stands there, laid again
---   lay-lengths      no slice gets longer or shorter
+--   SameLengths, same-lengths, lay-lengths   no slice gets longer or shorter
 --   lay-place(s)     what was laid is read back
 --   lay-before, lay-after   what stands elsewhere stays
 --   lay-nil, lay-next, lay-under   nothing; one list right after another; one that covers another

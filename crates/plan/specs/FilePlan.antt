@@ -40,6 +40,7 @@ plane = record {
   closer = closer;
 }
 
+-- the boxes and counts of the directory; there is no site that does not rank
 abbrev pub entries : List ℕ → Header → Directory plane
 entries f h = record { tiles = h .tiles; box = boxAt f; size = countAt f; muted = λ t. 0 }
 

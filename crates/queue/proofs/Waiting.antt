@@ -53,38 +53,40 @@ next-index : (a i : ℕ) → a + suc i ≡ suc a + i
 next-index a i = omega arith
 
 module _ (keys : List ℕ) where
-  from-all : (a : ℕ) (ts : List ℕ) → ((i : ℕ) → i < length ts → getD keys (a + i) 0 < none) → livingAt keys a ts ≡ ts
+  livingAt-all : (a : ℕ) (ts : List ℕ) → ((i : ℕ) → i < length ts → getD keys (a + i) 0 < none)
+      → livingAt keys a ts ≡ ts
   unfolding livingAt
-  from-all a [] h = refl
-  from-all a (t ∷ ts) h =
+  livingAt-all a [] h = refl
+  livingAt-all a (t ∷ ts) h =
       let k : getD keys a 0 < none = rw add-zero at (h 0 (omega arith)) in
-      let ih = from-all (suc a) ts (λ i l. rw (next-index a i) at (h (suc i) (omega arith))) in
+      let ih = livingAt-all (suc a) ts (λ i l. rw (next-index a i) at (h (suc i) (omega arith))) in
       rw (lt-ltb (getD keys a 0) none k) (ap (λ l. t ∷ l) ih)
 
-  from-none : (a : ℕ) (ts : List ℕ) → ((i : ℕ) → i < length ts → none ≤ getD keys (a + i) 0) → livingAt keys a ts ≡ []
+  livingAt-none : (a : ℕ) (ts : List ℕ) → ((i : ℕ) → i < length ts → none ≤ getD keys (a + i) 0)
+      → livingAt keys a ts ≡ []
   unfolding livingAt
-  from-none a [] h = refl
-  from-none a (t ∷ ts) h =
+  livingAt-none a [] h = refl
+  livingAt-none a (t ∷ ts) h =
       let k : none ≤ getD keys a 0 = rw add-zero at (h 0 (omega arith)) in
-      let ih = from-none (suc a) ts (λ i l. rw (next-index a i) at (h (suc i) (omega arith))) in
+      let ih = livingAt-none (suc a) ts (λ i l. rw (next-index a i) at (h (suc i) (omega arith))) in
       rw (le-ltb (getD keys a 0) none k) ih
 
   -- a key before does not matter
-  from-later : (v i a : ℕ) (ts : List ℕ) → i < a → livingAt (set keys i v) a ts ≡ livingAt keys a ts
+  livingAt-later : (v i a : ℕ) (ts : List ℕ) → i < a → livingAt (set keys i v) a ts ≡ livingAt keys a ts
   unfolding livingAt
-  from-later v i a [] h = refl
-  from-later v i a (t ∷ ts) h =
-      rw (getD-set-other keys i a v 0 (λ e. omega arith), from-later v i (suc a) ts (omega arith))
+  livingAt-later v i a [] h = refl
+  livingAt-later v i a (t ∷ ts) h =
+      rw (getD-set-other keys i a v 0 (λ e. omega arith), livingAt-later v i (suc a) ts (omega arith))
 
 -- the first tile has a key, or none
 module _ (keys : List ℕ) (a t : ℕ) (ts : List ℕ) where
-  from-on : getD keys a 0 < none → livingAt keys a (t ∷ ts) ≡ t ∷ livingAt keys (suc a) ts
+  livingAt-on : getD keys a 0 < none → livingAt keys a (t ∷ ts) ≡ t ∷ livingAt keys (suc a) ts
   unfolding livingAt
-  from-on h = rw (lt-ltb (getD keys a 0) none h)
+  livingAt-on h = rw (lt-ltb (getD keys a 0) none h)
 
-  from-off : none ≤ getD keys a 0 → livingAt keys a (t ∷ ts) ≡ livingAt keys (suc a) ts
+  livingAt-off : none ≤ getD keys a 0 → livingAt keys a (t ∷ ts) ≡ livingAt keys (suc a) ts
   unfolding livingAt
-  from-off h = rw (le-ltb (getD keys a 0) none h)
+  livingAt-off h = rw (le-ltb (getD keys a 0) none h)
 
 -- ---- by key
 
@@ -135,8 +137,8 @@ module _ {G : Geometry} (E : Directory G) (p : G .Stop) where
     stay-first low h ih =
         let l = livingAt keys (suc a) ts in
         let z : a - a ≡ 0 = omega arith in
-        let off = from-off (set keys a none) a t ts (omega (arith, getD-set-same keys a none 0 (omega arith)))
-        ∙ from-later keys none a (suc a) ts (omega arith) in
+        let off = livingAt-off (set keys a none) a t ts (omega (arith, getD-set-same keys a none 0 (omega arith)))
+        ∙ livingAt-later keys none a (suc a) ts (omega arith) in
         let front : insert (byKey E p) t (inOrder E l p) ≡ t ∷ inOrder E l p = by-test (ltb (rest .key) none)
         (λ e.
         let some = ltb-true (rest .key) none e in
@@ -146,13 +148,13 @@ module _ {G : Geometry} (E : Directory G) (p : G .Stop) where
         let later : t ≤ next = omega (arith, n .1) in
         rw (ih some) (insert-stop (byKey E p) t next _ (lex-not-less far later)))
         (λ e.
-        let none-left : l ≡ [] = from-none keys (suc a) ts (λ i b. omega (
+        let none-left : l ≡ [] = livingAt-none keys (suc a) ts (λ i b. omega (
           arith,
           ltb-false (rest .key) none e,
           least-low keys (suc a) (length ts) (suc a + i) (omega arith) (omega arith),
         )) in
         rw none-left (alone t)) in
-        rw (from-on keys a t ts h, z, off) (sort-cons t l ∙ front)
+        rw (livingAt-on keys a t ts h, z, off) (sort-cons t l ∙ front)
 
     -- a later one is
     pass-first : rest .key < getD keys a 0 → rest .key < none → First keys (suc a) ts rest → First keys a (t ∷ ts) rest
@@ -168,21 +170,21 @@ module _ {G : Geometry} (E : Directory G) (p : G .Stop) where
         let n = next-key h in
         let k = own-key on in
         let ahead = lex-less {a = near E p next} {c = near E p t} next t (omega (arith, n .0)) in
-        rw (from-on keys a t ts on, from-on keys′ a t ts (omega arith), d)
+        rw (livingAt-on keys a t ts on, livingAt-on keys′ a t ts (omega arith), d)
         (sort-cons t (livingAt keys (suc a) ts) ∙ ap (insert (byKey E p) t) ih ∙ insert-skip (byKey E p) t next _ ahead
         ∙ ap (λ l. next ∷ l) (sym (sort-cons t (livingAt keys′ (suc a) ts)))))
         (λ e.
         let off = ltb-false (getD keys a 0) none e in
-        rw (from-off keys a t ts off, from-off keys′ a t ts (omega arith), d) ih)
+        rw (livingAt-off keys a t ts off, livingAt-off keys′ a t ts (omega arith), d) ih)
 
-  from-first : (keys : List ℕ) (a : ℕ) (ts : List ℕ) → a + length ts ≤ length keys → OwnKeys keys a ts → Strict ltb ts
-      → leastKey keys a (length ts) .key < none → First keys a ts (leastKey keys a (length ts))
+  livingAt-first : (keys : List ℕ) (a : ℕ) (ts : List ℕ) → a + length ts ≤ length keys → OwnKeys keys a ts
+      → Strict ltb ts → leastKey keys a (length ts) .key < none → First keys a ts (leastKey keys a (length ts))
   unfolding leastKey
-  from-first keys a [] long own rise h = absurd (omega arith)
-  from-first keys a (t ∷ ts) long own rise h =
+  livingAt-first keys a [] long own rise h = absurd (omega arith)
+  livingAt-first keys a (t ∷ ts) long own rise h =
       let r = leastKey keys (suc a) (length ts) in
-      let ih : r .key < none → First keys (suc a) ts r =
-      from-first keys (suc a) ts (omega arith) (λ i l. rw (next-index a i) at (own (suc i) (omega arith))) (rise .1) in
+      let ih : r .key < none → First keys (suc a) ts r = livingAt-first keys (suc a) ts (omega arith)
+      (λ i l. rw (next-index a i) at (own (suc i) (omega arith))) (rise .1) in
       let k = getD keys a 0 in
       by-test (leb k (r .key))
       (λ e. rw e (stay-first keys a t ts long own rise (leb-true k (r .key) e) (rw e at h) ih))
@@ -200,7 +202,7 @@ pub record Keyed {G : Geometry} (E : Directory G) (p : G .Stop) (order keys : Li
 
 -- no key is left: no tile waits
 pub living-none : (order keys : List ℕ) → none ≤ leastKey keys 0 (length order) .key → living order keys ≡ []
-living-none order keys h = from-none keys 0 order
+living-none order keys h = livingAt-none keys 0 order
     (λ i l. omega (arith, least-low keys 0 (length order) (0 + i) (omega arith) (omega arith)))
 
 module _ {G : Geometry} {E : Directory G} {p : G .Stop} {order keys : List ℕ} (q : Keyed E p order keys) (r : Least)
@@ -212,7 +214,7 @@ module _ {G : Geometry} {E : Directory G} {p : G .Stop} {order keys : List ℕ} 
   pub living-next : inOrder E (living order keys) p ≡ getD order (r .at) 0 ∷ inOrder E (living order keys′) p
   living-next =
       let z : r .at - 0 ≡ r .at = omega arith in
-      let first = rw (← e) at (from-first E p keys 0 order (omega (arith, q .long))
+      let first = rw (← e) at (livingAt-first E p keys 0 order (omega (arith, q .long))
       (λ i l. rw (zero-add i) (q .own i l)) (q .rise) (rw e at h)) in
       rw z at first
 
@@ -263,6 +265,6 @@ module _ (f : List ℕ) (h : Header) (dir : directory f ≡ accepted h) {p : Lis
 
   -- all tiles wait
   pub living-start : living order newKeys ≡ order
-  living-start = from-all newKeys 0 order
+  living-start = livingAt-all newKeys 0 order
       (λ i l. rw (zero-add i) (let e = newKeys-at i l in
       omega (arith, near-bounded f h dir v (getD order i 0) (all-getD _ order i 0 l tiles))))

@@ -36,7 +36,7 @@ pub record Geometry : Type 1 where
   -- from the first box, O, the second "is nearer than" the third
   pub closer : Box → Box → Box → Bool
 
--- T, and of each tile's entry the box, the count, and how many of its sites do not rank
+-- T, and of each tile the box and the count of its entry, and how many of its sites do not rank
 pub record Directory (G : Geometry) : Type 0 where
   pub tiles : ℕ
   pub box : ℕ → G .Box
@@ -48,7 +48,7 @@ near {G} E p t = G .minDist p (E .box t)
 
 -- What is assumed: facts of the tiles' boxes and of the stops in the box O.
 pub record Lawful {G : Geometry} (E : Directory G) (O : G .Box) : Type 0 where
-  -- "A tile has 0 to 40 sites"
+  -- "A tile has 0 to 40 sites", and no more of them do not rank
   pub size-small : (t : ℕ) → t < E .tiles → E .size t ≤ slots
   pub muted-few : (t : ℕ) → t < E .tiles → E .muted t ≤ E .size t
   -- near is the least distance: not above any, and reached by a site that ranks, with any other cue
@@ -79,7 +79,8 @@ module _ {G : Geometry} (E : Directory G) where
   unfoldable pub ranked : ℕ → ℕ
   ranked t = size t - muted t
 
-  -- a filling has "the count of its entry and .. all sites inside the box of its entry"
+  -- a filling has "the count of its entry and .. all sites inside the box of its entry"; and as many sites that do not
+  -- rank as the directory says
   pub record Fills (t : ℕ) (f : List Site) : Type 0 where
     pub counted : length f ≡ size t
     pub silent : count (λ s. not (ranks s)) f ≡ muted t

@@ -1,6 +1,5 @@
 // Serving the stops: for each, the waiting tiles by key, until its list is full ahead of the next key.
 ghost use mathlib.Core.Path.{_≡_};
-ghost use Prim.Native.Nat.{_*_};
 ghost use lib.ListN.{length};
 ghost use Rattle.base.specs.Refusal.{accepted, andThen};
 ghost use Rattle.list.specs.Slices.{lent};

@@ -1,6 +1,7 @@
 -- Room for the output: what the code that prints an answer needs of it.
 --
 --   distanceRoom, placeRoom            bytes for the distance of a place, for a place
+--   wordsRoom                          for what a stop's line has besides its places
 --   countsRoom, stopRoom, outputRoom   for the first line, for a stop's, for all
 --   refusedRoom                        for a refusal
 --   Fitting, Printable                 an answer, an outcome that fits
@@ -18,12 +19,13 @@ distanceRoom = 22
 abbrev pub placeRoom : ℕ
 placeRoom = distanceRoom + 11 + 11
 
+-- "stop ", the stop's number, a colon and the end of the line
+abbrev pub wordsRoom : ℕ
+wordsRoom = 5 + 20 + 1 + 1
+
 -- no line of counts, of a stop or of a refusal is longer; so is no output
 abbrev pub countsRoom : ℕ
 countsRoom = 53
-
-abbrev pub wordsRoom : ℕ
-wordsRoom = 27
 
 abbrev pub stopRoom : ℕ
 stopRoom = wordsRoom + placeRoom * maxK

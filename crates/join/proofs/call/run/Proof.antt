@@ -158,11 +158,6 @@ cast-t47 c =
 cast-t48 : tie.Need-cast-t48
 cast-t48 c = let m : tie.After-mark-pruned = search in omega (arith, few m, m .mark-pruned .ensures .0 .1)
 
--- ---- it was refused
-
-enum-known-r : tie.Need-enum-known-r
-enum-known-r c = search needs
-
 same-length : tie.Need-same-length
 same-length c = let v : tie.After-serve = search in lengths v .0
 
@@ -186,6 +181,11 @@ returns c =
     run-answers (start m .pre) (bytes m) (tried v) (ap servingOutcome (u .used .given .1))
     (m .mark-pruned .ensures .0 .0 ∙ ap (λ b. prunedCount (entries (x .f .now) (x .h)) b (x .k)) (a .around .ensures))
     (o .count-opened .ensures .0)
+
+-- ---- it was refused
+
+enum-known-r : tie.Need-enum-known-r
+enum-known-r c = search needs
 
 same-length-5 : tie.Need-same-length-5
 same-length-5 c = let v : tie.After-serve = search in lengths v .0
