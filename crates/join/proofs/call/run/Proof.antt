@@ -60,7 +60,7 @@ gather-stops-requires : tie.Need-gather-stops-requires
 gather-stops-requires c κs =
     let m : tie.After-mark-pruned = search in
     let a = start m .pre .args in
-    (a .same .1 .0, a .few)
+    (omega (arith, a .same .1 .0), a .few)
 
 abbrev before : tie.After-gather-stops → tie.After-mark-pruned
 before g = search
