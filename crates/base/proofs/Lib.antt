@@ -2,6 +2,7 @@ pub mod Tests
 pub mod Outcomes
 pub mod InTurn
 pub mod Every
+pub mod HowMany
 pub mod Lists
 pub mod Tabulate
 pub mod Over

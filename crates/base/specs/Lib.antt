@@ -1,5 +1,6 @@
 pub mod Refusal
 pub mod Every
+pub mod HowMany
 pub mod Lists
 pub mod Tabulate
 pub mod Over

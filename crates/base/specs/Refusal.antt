@@ -1,6 +1,7 @@
--- Document 01, "Numbers given to bad input": the table's numbers under its words, and what a call comes to.
+-- Document 01, "Numbers given to bad input": the table's numbers under its words, those of document 02 after them, and
+-- what a call comes to.
 --
---   #length .. #supply           the numbers 1 to 15, in the table's order
+--   #length .. #muted            the numbers 1 to 15 of the table in its order, then 16 of 02.1
 --   Outcome, accepted, refused   what a call comes to
 --   require                      one row of the table
 --   andThen                      one call after another
@@ -53,7 +54,11 @@ abbrev pub #short : ℕ
 abbrev pub #supply : ℕ
 #supply = 15
 
--- What a call comes to: its values, or a refusal with the table's number and the block position.
+-- 02.1
+abbrev pub #muted : ℕ
+#muted = 16
+
+-- What a call comes to: its values, or a refusal with its number and the block position.
 pub data Outcome (A : Type 0) : Type 0 where
   accepted : A → Outcome A
   refused : ℕ → ℕ → Outcome A

@@ -6,7 +6,7 @@
 --   some-block, entry-block, entry-due   which entry is a tile's
 --   first-block                          what the code goes by behind block 0
 --   block-fits                           where blocks lie in a file with a good directory
---   box-valid, count-small               its entries
+--   box-valid, count-small, muted-few    its entries
 use Prim.Native.Nat.{ℕ, zero, suc, _+_, _-_, _*_, _/_, _%_, _<_, _≤_}
 use mathlib.Core.Bool.{true}
 use mathlib.Core.List.{List, [], _∷_}
@@ -25,9 +25,9 @@ use Rattle.codec.specs.Number.{limit16, i32At}
 use Rattle.base.proofs.Every.{every-at, every-holds}
 use Rattle.blocks.specs.Accepted.{GoodTiles, GoodDirectoryBlock, GoodLength, GoodDirectory}
 use Rattle.blocks.specs.Block.{blockAt, entriesIn, headerIn, blockHead}
-use Rattle.blocks.specs.Directory.{directoryBlocks, entriesDue, entryOffset, entryBox, entryCount, tilesDue}
-use Rattle.blocks.specs.Directory.{entryValid, directoryBlock, directoryBlockAt, lengthDue, directoryRest}
-use Rattle.blocks.specs.Directory.{directory, boxAt, countAt}
+use Rattle.blocks.specs.Directory.{directoryBlocks, entriesDue, entryOffset, entryBox, entryCount, entryMuted}
+use Rattle.blocks.specs.Directory.{tilesDue, entryValid, directoryBlock, directoryBlockAt, lengthDue}
+use Rattle.blocks.specs.Directory.{directoryRest, directory, boxAt, countAt, mutedAt}
 use Rattle.blocks.specs.Layout.{axes, blockSize, maxLength, directoryKind, entriesPerBlock, maxSites, maxTiles}
 use Rattle.blocks.specs.declared.header.Header.{Header}
 use Rattle.blocks.proofs.BlockLaws.{head-good, head-enough}
@@ -84,12 +84,18 @@ entry-ends s i = rw add-zero
 
 module _ (s : List ℕ) (p : ℕ) where
   entry-good : (i : ℕ) → entryValid s i ≡ true → (validBox (entryBox s i) ≡ true) × (entryCount s i ≤ maxSites axes)
+      × (entryMuted s i ≤ entryCount s i)
   unfolding entryValid
-  entry-good i e = let h = and-both _ _ e in (h .0, leb-true (entryCount s i) (maxSites axes) (h .1))
+  entry-good i e =
+      let h = and-both _ _ e in
+      let b = and-both _ _ (h .0) in
+      (b .0, leb-true (entryCount s i) (maxSites axes) (b .1), leb-true (entryMuted s i) (entryCount s i) (h .1))
 
-  entry-enough : (i : ℕ) → validBox (entryBox s i) ≡ true → entryCount s i ≤ maxSites axes → entryValid s i ≡ true
+  entry-enough : (i : ℕ) → validBox (entryBox s i) ≡ true → entryCount s i ≤ maxSites axes →
+      entryMuted s i ≤ entryCount s i → entryValid s i ≡ true
   unfolding entryValid
-  entry-enough i b c = rw (b, le-leb (entryCount s i) (maxSites axes) c)
+  entry-enough i b c m =
+      rw (b, le-leb (entryCount s i) (maxSites axes) c, le-leb (entryMuted s i) (entryCount s i) m)
 
   block-good : (first : Header) (blocks : ℕ) {h : Header} → directoryBlock s p first blocks ≡ accepted h →
       (h ≡ first)
@@ -104,7 +110,8 @@ module _ (s : List ℕ) (p : ℕ) where
       let q : headerIn s ≡ h = accepted-injective (d .1) in
       let n = entriesDue (headerIn s) p in
       let w = tiles-good (headerIn s) first blocks (a .0) in
-      let v : (i : ℕ) → i < n → (validBox (entryBox s i) ≡ true) × (entryCount s i ≤ maxSites axes) =
+      let v : (i : ℕ) → i < n → (validBox (entryBox s i) ≡ true) × (entryCount s i ≤ maxSites axes)
+      × (entryMuted s i ≤ entryCount s i) =
       λ i l. entry-good i (every-at (entryValid s) n i (d .0) l) in
       let g : GoodDirectoryBlock s p (headerIn s) = record {
         head = head-good directoryKind s p (k .1);
@@ -113,6 +120,7 @@ module _ (s : List ℕ) (p : ℕ) where
         padding = c .0;
         boxes = λ i l. v i l .0;
         counts = λ i l. v i l .1;
+        muted = λ i l. v i l .2;
       } in
       (sym q ∙ w .0, rw q at (w .1), rw q at g)
 
@@ -121,7 +129,7 @@ module _ (s : List ℕ) (p : ℕ) where
   unfolding directoryBlock
   block-enough h blocks w g =
       let n = entriesDue h p in
-      let v = every-holds (entryValid s) n (λ i l. entry-enough i (g .boxes i l) (g .counts i l)) in
+      let v = every-holds (entryValid s) n (λ i l. entry-enough i (g .boxes i l) (g .counts i l) (g .muted i l)) in
       rw (
         head-enough directoryKind s p (g .head),
         g .header,
@@ -219,3 +227,8 @@ module _ {f : List ℕ} {h : Header} (g : GoodDirectory f h) where
     unfolding countAt
     count-small =
         g .blocks (t / entriesPerBlock axes) (entry-block h t l) .counts (t % entriesPerBlock axes) (entry-due h t l)
+
+    pub muted-few : mutedAt f t ≤ countAt f t
+    unfolding mutedAt countAt
+    muted-few =
+        g .blocks (t / entriesPerBlock axes) (entry-block h t l) .muted (t % entriesPerBlock axes) (entry-due h t l)

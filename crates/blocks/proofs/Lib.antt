@@ -1,4 +1,5 @@
 pub mod BlockLaws
 pub mod ChecksumLaws
 pub mod DirectoryLaws
+pub mod Document01
 pub mod Theorems

@@ -1,8 +1,8 @@
 -- The theorems of this crate for the reader. The call is `directory::read_directory`, its definition `directory`
 -- (specs/Directory). What it accepts: `directory-exactly` (`GoodDirectory`, specs/Accepted), `entry-of-accepted`. What
--- it depends on: `directory-depends`, `entry-depends`, `same-directory` (`SameDirectory`, specs/Same). Of the check
--- `checksum::agrees`, definition `checkAgrees` (specs/Checksum): `stored-255`. f and g are files, h a header, t a tile.
--- Assumes nothing.
+-- it depends on: `directory-depends`, `entry-depends`, `same-directory` (`SameDirectory`, specs/Same). Of old
+-- files: `directory-like-01` (specs/Document01). Of the check `checksum::agrees`, definition `checkAgrees`
+-- (specs/Checksum): `stored-255`. f and g are files, h a header, t a tile. Assumes nothing.
 use Prim.Native.Nat.{ℕ, min, _+_, _-_, _*_, _/_, _<_, _≤_}
 use mathlib.Core.Bool.{true}
 use mathlib.Core.List.{List}
@@ -21,12 +21,14 @@ use Rattle.blocks.specs.Accepted.{GoodDirectory}
 use Rattle.blocks.specs.Block.{blockAt, headerIn}
 use Rattle.blocks.specs.Checksum.{sums, checkAgrees}
 use Rattle.blocks.specs.Directory.{directoryBlocks, directoryBlockAt, lengthDue, directoryRest, directory, boxAt}
-use Rattle.blocks.specs.Directory.{countAt}
+use Rattle.blocks.specs.Directory.{countAt, mutedAt}
+use Rattle.blocks.specs.Document01.{directory01, EntriesZero}
 use Rattle.blocks.specs.Layout.{axes, blockSize, checkAt, entriesPerBlock, maxSites}
 use Rattle.blocks.specs.Same.{SameDirectory}
 use Rattle.blocks.specs.declared.header.Header.{Header}
 use Rattle.blocks.proofs.ChecksumLaws.{sums-small}
 use Rattle.blocks.proofs.DirectoryLaws as laws
+use Rattle.blocks.proofs.Document01.{directory-like}
 
 -- "a stored 255 never agrees"
 pub stored-255 : (s : List ℕ) → checkAgrees s ≡ true → (getD s checkAt 0 < 255) × (getD s (checkAt + 1) 0 < 255)
@@ -44,12 +46,18 @@ pub directory-exactly : (f : List ℕ) (h : Header) →
     × (GoodDirectory f h → directory f ≡ accepted h)
 directory-exactly f h = (laws.directory-good f, laws.directory-enough f h)
 
--- box and count of a tile of an accepted directory: "coordinate beyond limits, low above high, or count over 40" is
--- refused
+-- the entry of a tile of an accepted directory: "coordinate beyond limits, low above high, or count over 40" is
+-- refused; 02.1: so are more muted sites than the count
 pub entry-of-accepted : (f : List ℕ) (h : Header) (t : ℕ) → directory f ≡ accepted h → t < h .tiles →
     (validBox (boxAt f t) ≡ true)
-    × (countAt f t ≤ maxSites axes)
-entry-of-accepted f h t e l = let g = laws.directory-good f e in (laws.box-valid g t l, laws.count-small g t l)
+    × (countAt f t ≤ maxSites axes) × (mutedAt f t ≤ countAt f t)
+entry-of-accepted f h t e l =
+    let g = laws.directory-good f e in (laws.box-valid g t l, laws.count-small g t l, laws.muted-few g t l)
+
+-- 02.1 leaves old directories as they were: where the last two bytes of every entry are zero, as document 01 has it,
+-- the directory comes to what it comes to there, refused ones too
+pub directory-like-01 : (f : List ℕ) → EntriesZero f → directory f ≡ directory01 f
+directory-like-01 f zero = directory-like f zero
 
 -- files of the same length, equal in every byte of a block, have the same block (the laws below compare blocks)
 pub same-bytes : (f g : List ℕ) (p : ℕ) → length g ≡ length f →
@@ -90,9 +98,9 @@ module _ (f g : List ℕ) (first : blockAt g 0 ≡ blockAt f 0) (s : SameDirecto
 
 -- so does the entry of each of its tiles
 pub entry-depends : (f g : List ℕ) (h : Header) (t : ℕ) → SameDirectory f g h → t < h .tiles → (boxAt g t ≡ boxAt f t)
-    × (countAt g t ≡ countAt f t)
-unfolding boxAt countAt
-entry-depends f g h t s l = let e = s .blocks (t / entriesPerBlock axes) (laws.entry-block h t l) in (rw e, rw e)
+    × (countAt g t ≡ countAt f t) × (mutedAt g t ≡ mutedAt f t)
+unfolding boxAt countAt mutedAt
+entry-depends f g h t s l = let e = s .blocks (t / entriesPerBlock axes) (laws.entry-block h t l) in (rw e, rw e, rw e)
 
 -- a file that agrees with an accepted directory is accepted with the same header
 pub same-directory : (f g : List ℕ) (h : Header) → directory f ≡ accepted h → SameDirectory f g h →

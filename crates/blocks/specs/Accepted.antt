@@ -12,7 +12,8 @@ use lib.ListN.{getD, length}
 use Rattle.geometry.specs.Box.{validBox}
 use Rattle.blocks.specs.Block.{blockAt, positionIn, entriesIn, headerIn, kindDue}
 use Rattle.blocks.specs.Checksum.{checkAgrees}
-use Rattle.blocks.specs.Directory.{directoryBlocks, entriesDue, entryBox, entryCount, directoryPadding}
+use Rattle.blocks.specs.Directory.{directoryBlocks, entriesDue, entryBox, entryCount, entryMuted}
+use Rattle.blocks.specs.Directory.{directoryPadding}
 use Rattle.blocks.specs.Layout.{axes, blockSize, maxLength, syncByte, directoryKind, maxSites, maxTiles}
 use Rattle.blocks.specs.declared.header.Header.{Header}
 
@@ -37,6 +38,7 @@ pub record GoodDirectoryBlock (s : List ℕ) (p : ℕ) (h : Header) : Type 0 whe
   pub padding : directoryPadding s (entriesDue h p) ≡ true
   pub boxes : (i : ℕ) → i < entriesDue h p → validBox (entryBox s i) ≡ true
   pub counts : (i : ℕ) → i < entriesDue h p → entryCount s i ≤ maxSites axes
+  pub muted : (i : ℕ) → i < entriesDue h p → entryMuted s i ≤ entryCount s i
 
 -- the length of a file
 pub record GoodLength (n : ℕ) : Type 0 where

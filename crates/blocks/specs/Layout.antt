@@ -1,11 +1,11 @@
--- The numbers of the house layout (document 01, "Blocks"), each under one name.
+-- The numbers of the house layout (document 01, "Blocks"; 02.1), each under one name.
 --
 --   blockSize, maxLength                bytes of a block, and of the longest file
 --   syncByte, directoryKind, tileKind   what bytes 0 and 1 hold
 --   kindAt .. checkAt                   where each field of a block starts
 --   payloadSize                         room for entries or sites
 --   axes                                how many a town has
---   entrySize, numberOffset, countOffset, zeroOffset   an entry, and where its fields start
+--   entrySize, numberOffset, countOffset, mutedOffset   an entry, and where its fields start
 --   siteSize, cueOffset                 a site, and where its cue starts
 --   entriesPerBlock, maxSites           how many of them a block holds
 --   maxTiles                            the largest T
@@ -60,7 +60,8 @@ payloadSize = 480
 abbrev pub axes : ℕ
 axes = 2
 
--- "A directory entry has 20 bytes: low x, low y, high x, high y (signed, 4 bytes each), count (2), zero (2)"
+-- "A directory entry has 20 bytes: low x, low y, high x, high y (signed, 4 bytes each), count (2), zero (2)"; 02.1:
+-- "Bytes 18-19 of a directory entry hold the number of muted sites"
 abbrev pub entrySize : ℕ → ℕ
 entrySize a = 8 * a + 4
 
@@ -71,8 +72,8 @@ numberOffset i = 4 * i
 abbrev pub countOffset : ℕ → ℕ
 countOffset a = 8 * a
 
-abbrev pub zeroOffset : ℕ → ℕ
-zeroOffset a = 8 * a + 2
+abbrev pub mutedOffset : ℕ → ℕ
+mutedOffset a = 8 * a + 2
 
 -- "24 fit a block"
 abbrev pub entriesPerBlock : ℕ → ℕ

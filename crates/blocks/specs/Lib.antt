@@ -3,5 +3,6 @@ pub mod Checksum
 pub mod Outcome
 pub mod Block
 pub mod Directory
+pub mod Document01
 pub mod Accepted
 pub mod Same

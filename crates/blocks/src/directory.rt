@@ -1,4 +1,4 @@
-// The directory: its blocks in order, and the box and the count of a tile.
+// The directory: its blocks in order, and the box and the counts of a tile.
 ghost use mathlib.Core.Path.{_≡_};
 ghost use Prim.Native.Nat.{_+_, _*_, _<_, _≤_};
 ghost use lib.ListN.{length};
@@ -9,7 +9,7 @@ ghost use Rattle.blocks.specs.Outcome.{directoryOutcome};
 ghost use Rattle.blocks.specs.Block.{blockAt, headerIn};
 ghost use Rattle.blocks.specs.Directory.{directoryBlocks, entriesDue, tilesDue, directoryPadding};
 ghost use Rattle.blocks.specs.Directory.{directoryBlock, directoryBlockAt, lengthDue, directoryRest, directory};
-ghost use Rattle.blocks.specs.Directory.{boxAt, countAt};
+ghost use Rattle.blocks.specs.Directory.{boxAt, countAt, mutedAt};
 use crate::block;
 use crate::entry;
 use crate::header::Header;
@@ -80,10 +80,7 @@ fn directory_padding(s: &[u8], n: usize) -> bool
 {
     let used = entry::entry_offset(n);
     both(
-        both(
-            zeros(s, layout::RESERVED_AT, layout::PAYLOAD_AT),
-            entry::entries_zero(s, n),
-        ),
+        zeros(s, layout::RESERVED_AT, layout::PAYLOAD_AT),
         zeros(s, used, layout::CHECK_AT),
     )
 }
@@ -186,4 +183,14 @@ pub fn count_at(f: &[u8], h: Header, t: usize) -> usize
     let p = t / layout::ENTRIES_PER_BLOCK;
     let i = t % layout::ENTRIES_PER_BLOCK;
     entry::entry_count(block::block_at(f, p), i)
+}
+
+// The number of muted sites of tile t of a file whose directory is accepted.
+pub fn muted_at(f: &[u8], h: Header, t: usize) -> usize
+    requires { ⌜ (directory (now f) ≡ accepted h) × (t < h .tiles) ⌝ }
+    ensures { λ r. ⌜ r ≡ mutedAt (now (f .entry)) t ⌝ }
+{
+    let p = t / layout::ENTRIES_PER_BLOCK;
+    let i = t % layout::ENTRIES_PER_BLOCK;
+    entry::entry_muted(block::block_at(f, p), i)
 }

@@ -4,12 +4,11 @@ ghost use Prim.Native.Nat.{_+_, _*_, _<_, _≤_};
 ghost use lib.ListN.{length};
 ghost use Rattle.base.specs.Every.{every};
 ghost use Rattle.blocks.specs.Layout.{axes, blockSize, payloadAt, entrySize, entriesPerBlock};
-ghost use Rattle.blocks.specs.Directory.{entryOffset, entryBox, entryCount, entryZero, entryValid};
+ghost use Rattle.blocks.specs.Directory.{entryOffset, entryBox, entryCount, entryMuted, entryValid};
 use crate::layout;
 use base::both;
 use codec::reading::i32_at;
 use codec::reading::u16_at;
-use codec::reading::zeros;
 use geometry::limits::valid_box;
 
 pub fn entry_offset(i: usize) -> usize
@@ -38,27 +37,11 @@ pub fn entry_count(s: &[u8], i: usize) -> usize
     u16_at(s, entry_offset(i) + layout::COUNT_OFFSET)
 }
 
-// The last two bytes of an entry are zero.
-fn entry_zero(s: &[u8], i: usize) -> bool
+pub fn entry_muted(s: &[u8], i: usize) -> usize
     requires { ⌜ (i < entriesPerBlock axes) × (length (now s) ≡ blockSize) ⌝ }
-    ensures { λ r. ⌜ r ≡ entryZero (now (s .entry)) i ⌝ }
+    ensures { λ r. ⌜ r ≡ entryMuted (now (s .entry)) i ⌝ }
 {
-    let at = entry_offset(i);
-    zeros(s, at + layout::ZERO_OFFSET, at + layout::ENTRY_SIZE)
-}
-
-pub fn entries_zero(s: &[u8], n: usize) -> bool
-    requires { ⌜ (n ≤ entriesPerBlock axes) × (length (now s) ≡ blockSize) ⌝ }
-    ensures { λ r. ⌜ r ≡ every (entryZero (now (s .entry))) n ⌝ }
-{
-    let mut i = 0;
-    while i < n {
-        if !entry_zero(s, i) {
-            return false;
-        }
-        i += 1;
-    }
-    true
+    u16_at(s, entry_offset(i) + layout::MUTED_OFFSET)
 }
 
 // Test 9 of one entry.
@@ -66,9 +49,10 @@ fn entry_valid(s: &[u8], i: usize) -> bool
     requires { ⌜ (i < entriesPerBlock axes) × (length (now s) ≡ blockSize) ⌝ }
     ensures { λ r. ⌜ r ≡ entryValid (now (s .entry)) i ⌝ }
 {
+    let count = entry_count(s, i);
     both(
-        valid_box(entry_box(s, i)),
-        entry_count(s, i) <= layout::MAX_SITES,
+        both(valid_box(entry_box(s, i)), count <= layout::MAX_SITES),
+        entry_muted(s, i) <= count,
     )
 }
 

@@ -1,4 +1,4 @@
-// The numbers of the house layout (document 01, "Blocks"), each under one name.
+// The numbers of the house layout (document 01, "Blocks"; 02.1), each under one name.
 pub const BLOCK_SIZE: usize = 512;
 
 pub const MAX_LENGTH: usize = 512_000;
@@ -31,7 +31,7 @@ pub const ENTRY_SIZE: usize = 8 * AXES + 4;
 
 pub const COUNT_OFFSET: usize = 8 * AXES;
 
-pub const ZERO_OFFSET: usize = 8 * AXES + 2;
+pub const MUTED_OFFSET: usize = 8 * AXES + 2;
 
 pub const ENTRIES_PER_BLOCK: usize = PAYLOAD_SIZE / ENTRY_SIZE;
 

@@ -1,6 +1,7 @@
 -- "The twelve cases form a table, proved of the definitions by a lone statement."
 use mathlib.Core.Path.{refl}
 use Rattle.base.specs.Every.{every}
+use Rattle.base.specs.HowMany.{howMany}
 use Rattle.base.specs.Over.{over}
 use Rattle.base.specs.Refusal.{inTurn}
 use Rattle.base.specs.Tabulate.{tabulate, joined}
@@ -13,12 +14,12 @@ use Rattle.codec.specs.Number.{u16At, u32At, signed, i32At}
 use Rattle.codec.specs.Zeros.{zeros}
 use Rattle.blocks.specs.Checksum.{sumsFrom, sums, checkAgrees}
 use Rattle.blocks.specs.Block.{blockAt, kindDue, blockHead}
-use Rattle.blocks.specs.Directory.{directoryBlocks, entriesDue, entryOffset, entryBox, entryCount, entryZero, tilesDue}
-use Rattle.blocks.specs.Directory.{directoryPadding, entryValid, directoryBlock, directoryBlockAt, lengthDue}
-use Rattle.blocks.specs.Directory.{directoryRest, directory, boxAt, countAt}
-use Rattle.tiles.specs.Tile.{siteOffset, siteIn, tilePadding, siteInside, tileBlock, tilePosition, openTile, siteAt}
-use Rattle.tiles.specs.Tile.{sitesAt}
-use Rattle.encode.specs.Supply.{boxOf, offset}
+use Rattle.blocks.specs.Directory.{directoryBlocks, entriesDue, entryOffset, entryBox, entryCount, entryMuted}
+use Rattle.blocks.specs.Directory.{tilesDue, directoryPadding, entryValid, directoryBlock, directoryBlockAt, lengthDue}
+use Rattle.blocks.specs.Directory.{directoryRest, directory, boxAt, countAt, mutedAt}
+use Rattle.tiles.specs.Tile.{siteOffset, siteIn, mutedIn, tilePadding, siteInside, tileBlock, tilePosition}
+use Rattle.tiles.specs.Tile.{openTile, siteAt, sitesAt}
+use Rattle.encode.specs.Supply.{boxOf, offset, mutedFrom}
 use Rattle.encode.specs.Encode.{headBytes, checkBytes, bodyBytes, blockBytes, boxBytes, entryBytes, siteBytes}
 use Rattle.encode.specs.Encode.{directoryBytes, tileBytes, tileBytesOf, fileBytes, fileLength}
 use Rattle.writer.specs.Write.{tilesFit, entryFits, listsFit, sitesFit, tileFits, writeTests, writeCall, writeExit}
@@ -41,20 +42,20 @@ use Rattle.console.specs.Output.{emptySlices, answerText, endOf, endText
 use Rattle.console.specs.Cases.{table, AllSay}
 
 pub twelve-cases : AllSay table
-unfolding every withinLimits validAxis validBox validPoint onAxis inside gap square D closest farthest closestPoint
-    farthestPoint minDist maxDist gain bestEnd bestPoint difference reachedFrom reached margin closer equalColumns row
-    rows points foremost least greatest around bytes bytes16 bytes32 bits bytesSigned u16At u32At signed i32At zeros
-    tabulate joined over sumsFrom sums checkAgrees blockAt kindDue blockHead directoryBlocks entriesDue entryOffset
-    entryBox entryCount entryZero tilesDue directoryPadding entryValid directoryBlock directoryBlockAt lengthDue
-    directoryRest directory boxAt countAt inTurn siteOffset siteIn tilePadding siteInside tileBlock tilePosition
-    openTile siteAt sitesAt boxOf offset headBytes checkBytes bodyBytes blockBytes boxBytes entryBytes siteBytes
-    directoryBytes tileBytes tileBytesOf fileBytes fileLength tilesFit entryFits listsFit sitesFit tileFits writeTests
-    writeCall writeExit count total filter member lex insert sort ranked pruned
-    prunedCount rank aheadOf listing placesOf nearest contents opening byKey ahead candidate queue follow enough serve
-    run placesUsed join padded inRows mark marks validK validStop stopsDue stopsValid room arguments lay cleared
-    openingOf runFor tests filled ended runEnd joinFrom joinEnd widthUpTo width digits decimal labelled refusedLine
-    countsLine placeText textAt placesText stopLine kOf stopsAsked coordinates xsOf ysOf headLength fileOf wellFormed
-    emptySlices answerText endOf endText output
+unfolding every howMany withinLimits validAxis validBox validPoint onAxis inside gap square D closest farthest
+    closestPoint farthestPoint minDist maxDist gain bestEnd bestPoint difference reachedFrom reached margin closer
+    equalColumns row rows points foremost least greatest around bytes bytes16 bytes32 bits bytesSigned u16At u32At
+    signed i32At zeros tabulate joined over sumsFrom sums checkAgrees blockAt kindDue blockHead directoryBlocks
+    entriesDue entryOffset entryBox entryCount entryMuted tilesDue directoryPadding entryValid directoryBlock
+    directoryBlockAt lengthDue directoryRest directory boxAt countAt mutedAt inTurn siteOffset siteIn mutedIn
+    tilePadding siteInside tileBlock tilePosition openTile siteAt sitesAt boxOf offset mutedFrom headBytes checkBytes
+    bodyBytes blockBytes boxBytes entryBytes siteBytes directoryBytes tileBytes tileBytesOf fileBytes fileLength
+    tilesFit entryFits listsFit sitesFit tileFits writeTests writeCall writeExit count total filter member lex insert
+    sort ranked pruned prunedCount rank aheadOf listing placesOf nearest contents opening byKey ahead candidate queue
+    follow enough serve run placesUsed join padded inRows mark marks validK validStop stopsDue stopsValid room arguments
+    lay cleared openingOf runFor tests filled ended runEnd joinFrom joinEnd widthUpTo width digits decimal labelled
+    refusedLine countsLine placeText textAt placesText stopLine kOf stopsAsked coordinates xsOf ysOf headLength fileOf
+    wellFormed emptySlices answerText endOf endText output
 twelve-cases = (
   refl,
   (

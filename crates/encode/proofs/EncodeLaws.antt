@@ -21,7 +21,7 @@ use Rattle.base.specs.Tabulate.{joined}
 use Rattle.blocks.specs.Checksum.{sumsFrom, sums}
 use Rattle.blocks.specs.Directory.{directoryBlocks, entriesDue}
 use Rattle.blocks.specs.Layout.{axes, syncByte, directoryKind, tileKind, kindAt, positionAt, entriesAt, tilesAt}
-use Rattle.blocks.specs.Layout.{countOffset, zeroOffset, blockSize, reservedAt, payloadAt, checkAt, entrySize}
+use Rattle.blocks.specs.Layout.{countOffset, mutedOffset, blockSize, reservedAt, payloadAt, checkAt, entrySize}
 use Rattle.blocks.specs.Layout.{entriesPerBlock, siteSize, cueOffset, maxSites}
 use Rattle.blocks.specs.declared.checksum.Sums.{Sums}
 use Rattle.blocks.specs.declared.header.Header.{Header}
@@ -34,25 +34,26 @@ use Rattle.blocks.proofs.ChecksumLaws.{sums-small}
 use Rattle.codec.proofs.Holds.{Holds, holds-over, holds-part, holds-front}
 use Rattle.encode.specs.Encode.{headBytes, checkBytes, bodyBytes, blockBytes, boxBytes, entryBytes, siteBytes}
 use Rattle.encode.specs.Encode.{directoryBytes, tileBytes, tileBytesOf}
-use Rattle.encode.specs.Supply.{headerOf, boxNumber, countOf, offset}
+use Rattle.encode.specs.Supply.{headerOf, boxNumber, countOf, offset, mutedOf}
 
 -- ---- lengths
 pub length-head : (kind p n t : ℕ) → length (headBytes kind p n t) ≡ reservedAt
 unfolding headBytes bytes16 bytes
 length-head kind p n t = refl
 
-pub length-entry : (boxes : List ℤ) (counts : List ℕ) (t : ℕ) → length (entryBytes boxes counts t) ≡ entrySize axes
+pub length-entry : (boxes : List ℤ) (counts cues : List ℕ) (t : ℕ) →
+    length (entryBytes boxes counts cues t) ≡ entrySize axes
 unfolding entryBytes boxBytes joined bytesSigned bytes32 bytes16 bytes
-length-entry boxes counts t = refl
+length-entry boxes counts cues t = refl
 
 pub length-site : (spots : List (List ℤ)) (cues : List ℕ) (i : ℕ) → length (siteBytes spots cues i) ≡ siteSize axes
 unfolding siteBytes joined bytesSigned bytes32 bytes
 length-site spots cues i = refl
 
-pub length-entries : (boxes : List ℤ) (counts : List ℕ) (t n : ℕ) →
-    length (joined (entryBytes boxes counts) t n) ≡ entrySize axes * n
-length-entries boxes counts t n =
-    length-joined (entryBytes boxes counts) (entrySize axes) t n (λ i l. length-entry boxes counts (t + i))
+pub length-entries : (boxes : List ℤ) (counts cues : List ℕ) (t n : ℕ) →
+    length (joined (entryBytes boxes counts cues) t n) ≡ entrySize axes * n
+length-entries boxes counts cues t n =
+    length-joined (entryBytes boxes counts cues) (entrySize axes) t n (λ i l. length-entry boxes counts cues (t + i))
 
 pub length-sites : (spots : List (List ℤ)) (cues : List ℕ) (i n : ℕ) →
     length (joined (siteBytes spots cues) i n) ≡ siteSize axes * n
@@ -77,19 +78,25 @@ module _ (h : Header) where
   unfolding directoryBlocks entriesDue
   due-within p l = omega arith
 
+  -- before the last block all entries are used
+  pub due-next : (p : ℕ) → p + 1 < directoryBlocks h →
+      entriesPerBlock axes * p + entriesDue h p ≡ entriesPerBlock axes * (p + 1)
+  unfolding directoryBlocks entriesDue
+  due-next p l = omega arith
+
   pub blocks-few : directoryBlocks h ≤ h .tiles
   unfolding directoryBlocks
   blocks-few = omega arith
 
-pub length-directory-block : (boxes : List ℤ) (counts : List ℕ) (p : ℕ) →
-    length (directoryBytes boxes counts p) ≡ blockSize
+pub length-directory-block : (boxes : List ℤ) (counts cues : List ℕ) (p : ℕ) →
+    length (directoryBytes boxes counts cues p) ≡ blockSize
 unfolding directoryBytes
-length-directory-block boxes counts p =
+length-directory-block boxes counts cues p =
     let n = entriesDue (headerOf counts) p in
     length-blockBytes (headBytes directoryKind p n (length counts))
-    (joined (entryBytes boxes counts) (entriesPerBlock axes * p) n)
+    (joined (entryBytes boxes counts cues) (entriesPerBlock axes * p) n)
     (length-head directoryKind p n (length counts))
-    (omega (arith, length-entries boxes counts (entriesPerBlock axes * p) n, due-few (headerOf counts) p))
+    (omega (arith, length-entries boxes counts cues (entriesPerBlock axes * p) n, due-few (headerOf counts) p))
 
 pub length-tile-block : (spots : List (List ℤ)) (cues : List ℕ) (p i n : ℕ) → n ≤ maxSites axes →
     length (tileBytes spots cues p i n) ≡ blockSize
@@ -157,18 +164,17 @@ module _ (l : List ℕ) (at : ℕ) where
       also l at (at + 12) (end 0 ++ end 1 ++ end 2) (end 3)
       (also l at (at + 8) (end 0 ++ end 1) (end 2) (also l at (at + 4) (end 0) (end 1) e₁ e₂ refl) e₃ refl) e₄ refl
 
-  pub entry-row : (boxes : List ℤ) (counts : List ℕ) (t : ℕ) {d₁ d₂ d₃ : List ℕ} → d₁ ≡ over l at (boxBytes boxes t) →
+  pub entry-row : (boxes : List ℤ) (counts cues : List ℕ) (t : ℕ) {d₁ d₂ d₃ : List ℕ} →
+      d₁ ≡ over l at (boxBytes boxes t) →
       d₂ ≡ over d₁ (at + countOffset axes) (bytes16 (countOf counts t)) →
-      d₃ ≡ over d₂ (at + zeroOffset axes) (replicate (at + entrySize axes - (at + zeroOffset axes)) 0) →
-      d₃ ≡ over l at (entryBytes boxes counts t)
+      d₃ ≡ over d₂ (at + mutedOffset axes) (bytes16 (mutedOf counts cues t)) →
+      d₃ ≡ over l at (entryBytes boxes counts cues t)
   unfolding entryBytes boxBytes joined bytesSigned bytes32 bytes16 bytes
-  entry-row boxes counts t {d₁} {d₂} e₁ e₂ e₃ =
-      let z : at + entrySize axes - (at + zeroOffset axes) ≡ entrySize axes - zeroOffset axes = omega arith in
+  entry-row boxes counts cues t e₁ e₂ e₃ =
       let a = boxBytes boxes t in
       let b = a ++ bytes16 (countOf counts t) in
-      also l at (at + zeroOffset axes) b (replicate (entrySize axes - zeroOffset axes) 0)
-      (also l at (at + countOffset axes) a (bytes16 (countOf counts t)) e₁ e₂ refl)
-      (e₃ ∙ ap (λ k. over d₂ (at + zeroOffset axes) (replicate k 0)) z) refl
+      also l at (at + mutedOffset axes) b (bytes16 (mutedOf counts cues t))
+      (also l at (at + countOffset axes) a (bytes16 (countOf counts t)) e₁ e₂ refl) e₃ refl
 
   pub site-row : (xs ys : List ℤ) (cues : List ℕ) (i : ℕ) {d₁ d₂ d₃ : List ℕ} →
       d₁ ≡ over l at (bytesSigned (getD xs i (pos 0))) →

@@ -1,4 +1,4 @@
--- Where a tile's sites stand in the lists. Assumes nothing.
+-- Where a tile's sites stand in the lists, and that at most all of them are muted. Assumes nothing.
 use Prim.Native.Nat.{ℕ, zero, suc, _+_, _*_, _<_, _≤_}
 use mathlib.Core.List.{List}
 use mathlib.Core.Logic.{⊎-elim}
@@ -7,7 +7,8 @@ use native.Mathlib.Nat.{not-suc-le-zero, eq-or-lt-of-le, le-of-suc-le-suc}
 use native.Mathlib.Numerals.{add-one}
 use native.Mathlib.Omega.{arith}
 use Rattle.blocks.specs.Layout.{axes, maxSites}
-use Rattle.encode.specs.Supply.{countOf, offset}
+use Rattle.base.proofs.HowMany.{how-many-most}
+use Rattle.encode.specs.Supply.{countOf, offset, mutedFrom}
 
 module _ (counts : List ℕ) where
   pub offset-next : (t : ℕ) → offset counts (t + 1) ≡ offset counts t + countOf counts t
@@ -25,3 +26,7 @@ module _ (counts : List ℕ) where
   unfolding offset
   offset-small zero h = omega arith
   offset-small (suc t) h = let a = offset-small t (λ i l. h i (omega arith)) in omega (arith, h t (omega arith))
+
+pub muted-most : (cues : List ℕ) (i n : ℕ) → mutedFrom cues i n ≤ n
+unfolding mutedFrom
+muted-most cues i n = how-many-most _ n

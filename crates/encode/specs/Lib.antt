@@ -1,2 +1,3 @@
 pub mod Supply
 pub mod Encode
+pub mod Document01

@@ -1,19 +1,22 @@
--- The writer's lists (document 01, "Writer, full check, host, program"): "boxes, counts, and x, y, cue lists in tile
--- order"; the spots are columns, a list of coordinates for each axis.
+-- The writer's lists (document 01, "Writer, full check, host, program"; 02.1): "boxes, counts, and x, y, cue lists in
+-- tile order"; the spots are columns, a list of coordinates for each axis.
 --
 --   Supply, supply                    the lists as one value
 --   headerOf, tilesOf                 T, as a header and as a number
 --   numbersPerBox, boxNumber, boxOf   the boxes: how many numbers each, one of them, a box
 --   countOf, offset, siteTotal        the sites: of a tile, of all tiles before it, of all
+--   mutedFrom, mutedOf                the muted sites: of a run of sites, of a tile
 --   suppliedSite, siteOf              a site by its index, by tile and slot
 use Prim.Native.Nat.{ℕ, zero, suc, _+_, _*_}
 use mathlib.Core.List.{List, [], _∷_}
 use lib.IntN.{ℤ, pos}
 use lib.ListN.{getD, length}
+use Rattle.base.specs.HowMany.{howMany}
 use Rattle.base.specs.Tabulate.{tabulate}
 use Rattle.blocks.specs.Layout.{axes}
 use Rattle.blocks.specs.declared.header.Header.{Header}
 use Rattle.geometry.specs.Around.{row}
+use Rattle.tiles.specs.Tile.{mutedCue}
 use Rattle.tiles.specs.declared.tile.Site.{Site}
 
 pub record Supply : Type 0 where
@@ -56,6 +59,13 @@ offset counts (suc t) = offset counts t + countOf counts t
 -- "the sum of counts"
 abbrev pub siteTotal : List ℕ → ℕ
 siteTotal counts = offset counts (length counts)
+
+-- 02.1: "the writer counts them from the cues": among n sites from site i on, and those of tile t
+unfoldable pub mutedFrom : List ℕ → ℕ → ℕ → ℕ
+mutedFrom cues i n = howMany (λ slot. mutedCue (getD cues (i + slot) 0)) n
+
+abbrev pub mutedOf : List ℕ → List ℕ → ℕ → ℕ
+mutedOf counts cues t = mutedFrom cues (offset counts t) (countOf counts t)
 
 -- site i of the lists, and the site of a tile's slot
 abbrev pub suppliedSite : List (List ℤ) → List ℕ → ℕ → Site

@@ -4,14 +4,15 @@ ghost use Prim.Native.Nat.{_+_, _*_, _<_, _≤_};
 ghost use lib.ListN.{length};
 ghost use Rattle.base.specs.Over.{over};
 ghost use Rattle.base.specs.Tabulate.{joined};
-ghost use Rattle.blocks.specs.Directory.{directoryBlocks};
-ghost use Rattle.blocks.specs.Layout.{axes, blockSize, entrySize, countOffset, maxTiles};
+ghost use Rattle.blocks.specs.Directory.{directoryBlocks, entriesDue};
+ghost use Rattle.blocks.specs.Layout.{axes, blockSize, entrySize, countOffset, entriesPerBlock, maxTiles};
 ghost use Rattle.encode.specs.Encode.{boxBytes, entryBytes, directoryBytes};
-ghost use Rattle.encode.specs.Supply.{headerOf, numbersPerBox};
+ghost use Rattle.encode.specs.Supply.{headerOf, numbersPerBox, offset, siteTotal};
 use crate::head::put_checksum;
 use crate::head::put_head;
 use crate::lists::NUMBERS_PER_BOX;
 use crate::lists::header_of;
+use crate::lists::muted_from;
 use crate::lists::wide;
 use blocks::directory::directory_blocks;
 use blocks::directory::entries_due;
@@ -33,78 +34,120 @@ fn put_box(d: &mut [u8], at: usize, boxes: &[i32], t: usize)
     put_i32(d, at + 12, boxes[b + 3]);
 }
 
-// The entry of tile t.
-fn put_entry(d: &mut [u8], at: usize, boxes: &[i32], counts: &[u32], t: usize)
+// The entry of tile t, whose sites stand in the lists from site `site` on; gives where those of the next tile start.
+fn put_entry(
+    d: &mut [u8],
+    at: usize,
+    boxes: &[i32],
+    counts: &[u32],
+    cues: &[u32],
+    t: usize,
+    site: usize,
+) -> usize
     requires { ⌜
         (at + entrySize axes ≤ length (now d)) × (numbersPerBox * t + numbersPerBox ≤ length (now boxes))
-        × (t < length (now counts)) ⌝ }
-    ensures { λ _. ⌜
-        now (d .exit) ≡ over (now (d .entry)) at (entryBytes (now (boxes .entry)) (now (counts .entry)) t) ⌝ }
+        × (t < length (now counts)) × (length (now cues) ≡ siteTotal (now counts)) × (site ≡ offset (now counts) t) ⌝ }
+    ensures { λ r. ⌜
+        (now (d .exit) ≡ over (now (d .entry)) at
+        (entryBytes (now (boxes .entry)) (now (counts .entry)) (now (cues .entry)) t))
+        × (r ≡ offset (now (counts .entry)) (t + 1)) ⌝ }
 {
+    let n = wide(counts[t]);
     put_box(d, at, boxes, t);
-    put_u16(d, at + layout::COUNT_OFFSET, wide(counts[t]));
-    put_zeros(d, at + layout::ZERO_OFFSET, at + layout::ENTRY_SIZE);
+    put_u16(d, at + layout::COUNT_OFFSET, n);
+    put_u16(d, at + layout::MUTED_OFFSET, muted_from(cues, site, n));
+    site + n
 }
 
-// The entries of n tiles from tile `first` on.
-fn put_entries(d: &mut [u8], start: usize, boxes: &[i32], counts: &[u32], first: usize, n: usize)
+// The entries of n tiles from tile `first` on, whose sites start at `site`; gives where those of the next tile start.
+fn put_entries(
+    d: &mut [u8],
+    start: usize,
+    boxes: &[i32],
+    counts: &[u32],
+    cues: &[u32],
+    first: usize,
+    n: usize,
+    site: usize,
+) -> usize
     requires { ⌜
         (start + entrySize axes * n ≤ length (now d)) × (numbersPerBox * (first + n) ≤ length (now boxes))
-        × (first + n ≤ length (now counts)) ⌝ }
-    ensures { λ _. ⌜
-        now (d .exit) ≡ over (now (d .entry)) start
-        (joined (entryBytes (now (boxes .entry)) (now (counts .entry))) first n) ⌝ }
+        × (first + n ≤ length (now counts)) × (length (now cues) ≡ siteTotal (now counts))
+        × (site ≡ offset (now counts) first) ⌝ }
+    ensures { λ r. ⌜
+        (now (d .exit) ≡ over (now (d .entry)) start
+        (joined (entryBytes (now (boxes .entry)) (now (counts .entry)) (now (cues .entry))) first n))
+        × (r ≡ offset (now (counts .entry)) (first + n)) ⌝ }
 {
     let mut at = start;
     let mut t = first;
     let mut left = n;
+    let mut next = site;
     while 0 < left {
-        put_entry(d, at, boxes, counts, t);
+        next = put_entry(d, at, boxes, counts, cues, t, next);
         at += layout::ENTRY_SIZE;
         t += 1;
         left -= 1;
     }
+    next
 }
 
-// The directory block at position p.
-fn put_directory_block(d: &mut [u8], boxes: &[i32], counts: &[u32], p: usize)
+// The directory block at position p, the sites of whose first tile start at `site`; gives where those of the next
+// block's first tile start.
+fn put_directory_block(
+    d: &mut [u8],
+    boxes: &[i32],
+    counts: &[u32],
+    cues: &[u32],
+    p: usize,
+    site: usize,
+) -> usize
     requires { ⌜
         (blockSize * p + blockSize ≤ length (now d)) × (length (now boxes) ≡ numbersPerBox * length (now counts))
-        × (length (now counts) ≤ maxTiles) × (p < directoryBlocks (headerOf (now counts))) ⌝ }
-    ensures { λ _. ⌜
-        now (d .exit) ≡ over (now (d .entry)) (blockSize * p)
-        (directoryBytes (now (boxes .entry)) (now (counts .entry)) p) ⌝ }
+        × (length (now counts) ≤ maxTiles) × (p < directoryBlocks (headerOf (now counts)))
+        × (length (now cues) ≡ siteTotal (now counts)) × (site ≡ offset (now counts) (entriesPerBlock axes * p)) ⌝ }
+    ensures { λ r. ⌜
+        (now (d .exit) ≡ over (now (d .entry)) (blockSize * p)
+        (directoryBytes (now (boxes .entry)) (now (counts .entry)) (now (cues .entry)) p))
+        × (r ≡ offset (now (counts .entry))
+        (entriesPerBlock axes * p + entriesDue (headerOf (now (counts .entry))) p)) ⌝ }
 {
     let at = layout::BLOCK_SIZE * p;
     let n = entries_due(header_of(counts), p);
     let used = entry_offset(n);
     put_head(d, at, layout::DIRECTORY_KIND, p, n, counts.len());
     put_zeros(d, at + layout::RESERVED_AT, at + layout::PAYLOAD_AT);
-    put_entries(
+    let next = put_entries(
         d,
         at + layout::PAYLOAD_AT,
         boxes,
         counts,
+        cues,
         layout::ENTRIES_PER_BLOCK * p,
         n,
+        site,
     );
     put_zeros(d, at + used, at + layout::CHECK_AT);
     put_checksum(d, at);
+    next
 }
 
 // All directory blocks.
-pub fn put_directory(d: &mut [u8], boxes: &[i32], counts: &[u32])
+pub fn put_directory(d: &mut [u8], boxes: &[i32], counts: &[u32], cues: &[u32])
     requires { ⌜
         (blockSize * directoryBlocks (headerOf (now counts)) ≤ length (now d))
-        × (length (now boxes) ≡ numbersPerBox * length (now counts)) × (length (now counts) ≤ maxTiles) ⌝ }
+        × (length (now boxes) ≡ numbersPerBox * length (now counts)) × (length (now counts) ≤ maxTiles)
+        × (length (now cues) ≡ siteTotal (now counts)) ⌝ }
     ensures { λ _. ⌜
-        now (d .exit) ≡ over (now (d .entry)) 0 (joined (directoryBytes (now (boxes .entry)) (now (counts .entry))) 0
+        now (d .exit) ≡ over (now (d .entry)) 0
+        (joined (directoryBytes (now (boxes .entry)) (now (counts .entry)) (now (cues .entry))) 0
         (directoryBlocks (headerOf (now (counts .entry))))) ⌝ }
 {
     let mut p = 0;
+    let mut site = 0;
     let mut left = directory_blocks(header_of(counts));
     while 0 < left {
-        put_directory_block(d, boxes, counts, p);
+        site = put_directory_block(d, boxes, counts, cues, p, site);
         p += 1;
         left -= 1;
     }

@@ -36,7 +36,8 @@ use Rattle.base.proofs.Over.{over-under, length-over}
 use Rattle.geometry.proofs.Theorems.{all-points, row-axes, around-smallest}
 use Rattle.list.proofs.Laying.{lay-under, lay-long}
 use Rattle.list.proofs.Padding.{clear-all}
-use Rattle.plan.proofs.Tables.{filled-at, filled-take, table-length, bit-small}
+use Rattle.base.proofs.HowMany.{bit-small}
+use Rattle.plan.proofs.Tables.{filled-at, filled-take, table-length}
 use Rattle.plan.proofs.Theorems.{plan-lawful, opening-checked}
 use Rattle.search.proofs.Cut.{join-cut}
 use Rattle.search.proofs.Equation.{Alike, withNew-member}

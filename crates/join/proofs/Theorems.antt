@@ -14,46 +14,49 @@ use borrow.Author.Tests.{le-leb}
 use Rattle.base.specs.Lists.{All}
 use Rattle.base.specs.Refusal.{Outcome, accepted, refused}
 use Rattle.blocks.specs.Block.{blockAt}
-use Rattle.blocks.specs.Directory.{directory}
+use Rattle.blocks.specs.Directory.{directory, mutedAt}
 use Rattle.blocks.specs.Same.{SameDirectory}
 use Rattle.blocks.specs.declared.header.Header.{Header}
 use Rattle.codec.specs.Number.{Bytes}
 use Rattle.geometry.specs.Around.{around}
 use Rattle.geometry.specs.Box.{inside}
 use Rattle.list.specs.Slices.{Long, Slices, placeAt}
+use Rattle.plan.specs.Document01.{openingOf01}
 use Rattle.plan.specs.FilePlan.{axisCount, plane, entries, openingOf, townOf}
 use Rattle.prune.specs.Claims.{PrunesExactly}
 use Rattle.prune.specs.Prune.{Counts, pruneCall}
 use Rattle.search.specs.Claims.{FullSearch, RunAnswers}
-use Rattle.search.specs.FullSearch.{firstOf, fullSearch}
+use Rattle.search.specs.FullSearch.{SiteOf, firstOf, fullSearch}
 use Rattle.search.specs.Lists.{Distinct}
 use Rattle.search.specs.Limits.{validK, maxK}
 use Rattle.search.specs.Plan.{ranked, Town}
 use Rattle.search.specs.Pruning.{pruned, prunedCount}
 use Rattle.search.specs.Run.{join, mark, padded, noPlace, inRows, placesUsed, marks}
+use Rattle.search.specs.Document01.{entries01, LikeDocument01}
 use Rattle.search.specs.declared.Place.{Place}
 use Rattle.stops.specs.Arguments.{arguments}
 use Rattle.stops.specs.Stops.{stopCount, stopsOf}
+use Rattle.tiles.specs.Document01.{Audible}
 use Rattle.tiles.specs.Tile.{tilePosition, openTile, sitesAt}
 use Rattle.tiles.specs.Validate.{validate}
 use Rattle.base.proofs.Outcomes.{accepted-injective, accepted-refused, andThen-refused, by-outcome}
 use Rattle.base.proofs.Over.{getD-after}
-use Rattle.base.proofs.Tests.{both-and}
+use Rattle.base.proofs.Tests.{both-and, clash}
 use Rattle.blocks.proofs.Theorems.{same-directory, directory-exactly}
 use Rattle.list.proofs.Laying.{lay-place, lay-after, lay-long}
 use Rattle.plan.proofs.Tables.{filled-at, filled-take}
 use Rattle.plan.proofs.Theorems.{opening-checked, join-depends, pruned-count-depends, marks-depend, used-depends}
 use Rattle.plan.proofs.Theorems.{good-opens, good-agrees}
 use Rattle.prune.proofs.Theorems.{prunes-exactly}
-use Rattle.search.proofs.Lists.{all-map, all-both}
-use Rattle.search.proofs.Marks.{inRows-length, marks-at}
+use Rattle.search.proofs.Lists.{all-map, all-both, all-getD}
+use Rattle.search.proofs.Marks.{inRows-length, padded-used, marks-at}
 use Rattle.search.proofs.Queue.{candidate-unpruned, candidate-some}
 use Rattle.search.proofs.Run.{join-refused}
 use Rattle.search.proofs.Theorems as run
 use Rattle.stops.specs.Inner.Good.{GoodArguments}
 use Rattle.stops.proofs.ArgumentLaws.{arguments-good}
 use Rattle.stops.proofs.StopLaws.{stops-length}
-use Rattle.tiles.proofs.Theorems.{opening-refused, validate-exactly}
+use Rattle.tiles.proofs.Theorems.{opening-refused, opening-like-01, validate-exactly}
 use Rattle.join.specs.Claims.{fullRunFor, SameAnswer, RefusedRun, PrunesAlike, opened, slicesLeft, Agreeing}
 use Rattle.join.specs.Claims.{Demand2, Demand3, UnlikeStruck, PastStays}
 use Rattle.join.specs.Inner.Running.{RunReady}
@@ -74,6 +77,30 @@ pub never-pruned : (f : List ℕ) (h : Header) (cols : List (List ℤ)) (k : ℕ
     → All (λ t. pruned (entries f h) (around cols) k t ≡ false) (runFor f h cols k .openings)
 unfolding runFor
 never-pruned f h cols k = run.never-pruned (entries f h) (around cols) k (openingOf f h) (stopsOf cols)
+
+-- 02.1: "a tile with none is treated as empty": no tile is opened that has muted sites only
+pub only-audible : (f : List ℕ) (h : Header) (cols : List (List ℤ)) (k : ℕ)
+    → All (λ t. 0 < ranked (entries f h) t) (runFor f h cols k .openings)
+unfolding runFor
+only-audible f h cols k = run.never-empty (entries f h) (around cols) k (openingOf f h) (stopsOf cols)
+
+-- 02.1 leaves files without muted sites as they were: where the directory has none and the tiles that are opened have
+-- no cue 0, the run is that of document 01 alone, in which every site ranks and an opening does not look at cues
+pub run-like-01 : (f : List ℕ) (h : Header) (cols : List (List ℤ)) (k : ℕ) → Bytes f
+    → ((t : ℕ) → t < h .tiles → mutedAt f t ≡ 0) → All (Audible f h) (runFor f h cols k .openings)
+    → LikeDocument01 (entries f h) (around cols) k
+    × (runFor f h cols k ≡ join (entries01 (entries f h)) (around cols) k (openingOf01 f h) (stopsOf cols))
+unfolding runFor openingOf openingOf01
+run-like-01 f h cols k b none sounds =
+    let E = entries f h in
+    let O = around cols in
+    let ps = stopsOf cols in
+    let like = run.like-document-01 E O k none in
+    let same = like .ran (openingOf f h) (opening-checked f h b) ps in
+    let alike = all-both (λ t. t < h .tiles) (Audible f h) (λ t. openingOf01 f h t ≡ openingOf f h t)
+    (runFor f h cols k .openings) (λ t l s. rw (opening-like-01 f h t (none t l) s))
+    (run.only-tiles E O k (openingOf f h) ps) sounds in
+    (like, same ∙ sym (run.same-run (entries01 E) O k (openingOf f h) (openingOf01 f h) ps (rw (← same) alike)))
 
 -- The outcome looks at nothing of the slices but their lengths, of every file.
 pub lengths-decide : (f : List ℕ) (cols : List (List ℤ)) (k : ℕ) (out out′ : Slices) → lengthsOf out′ ≡ lengthsOf out
@@ -387,8 +414,8 @@ module _ (f : List ℕ) (cols : List (List ℤ)) (k : ℕ) (out : Slices) where
           rw (← i) (run.town-exists (entries f (a .h)) (around cols) k (run-lawful (a .ready axes)) (openingOf f (a .h))
           (opening-checked f (a .h) b) (stopsOf cols) (a .ls) (a .lists) (p .0) (p .1))
 
-      -- What a full search gives, as a reader would want it: the town's sites, each once, in their ranking, and every
-      -- site left out behind every listed one.
+      -- What a full search gives, as a reader would want it: the town's sites that rank, each once, in their ranking,
+      -- and every one left out behind every listed one.
       pub full-search : (town : Town plane) → Agreeing f cols k out h town
           → All (λ p. FullSearch (entries f h) k p town) (stopsOf cols)
       full-search town g =
@@ -397,6 +424,31 @@ module _ (f : List ℕ) (cols : List (List ℤ)) (k : ℕ) (out : Slices) where
           all-map (stopsOf cols)
           (λ p home. run.full-search (entries f h) (around cols) k (rw i at (run-lawful (a .ready axes))) p home town
           (g .directory)) (smallest (a .ready axes) .holds)
+
+      -- 02.1: "only sites with another cue rank": no used place of a list has cue 0
+      pub never-muted : Bytes f → (i j : ℕ) → i < stopCount cols → j < r .used
+          → placeAt (slicesLeft f cols k out h .lists) (i * k + j) .cue ≡ 0 → ⊥
+      unfolding fullSearch
+      never-muted b i j l u muted =
+          let a = answered r e in
+          let same : a .h ≡ h = accepted-injective (sym (a .dir) ∙ d) in
+          let three = demand-3 r e in
+          let E = entries f h in
+          let p = getD (stopsOf cols) i [] in
+          let fit = answer-fits r e in
+          let town = town-exists b in
+          let used : r .used ≡ placesUsed E k = rw same at (ap (λ (z : Result). z .used) (a .result)) in
+          let found = all-getD (λ p. FullSearch E k p (town .0)) (stopsOf cols) i []
+          (omega (arith, stops-length cols)) (full-search (town .0) (town .1)) in
+          let listed : j < length (firstOf E k p (town .0)) = omega (arith, used, found .used) in
+          let site = all-getD (SiteOf E p (town .0)) (firstOf E k p (town .0)) j noPlace listed (found .sites) in
+          let place = subst (λ x. Demand3 f cols k out x r)
+          (accepted-injective (sym (three .1 .header) ∙ d)) (three .1) .lists (town .0) (town .1) i j l
+          (omega (arith, fit .1 .0))
+          ∙ padded-used k (firstOf E k p (town .0)) j noPlace listed (omega (arith, fit .1 .0))
+          ∙ site .place in
+          let zero : site .it .cue ≡ 0 = sym (ap (λ (z : Place). z .cue) place) ∙ muted in
+          clash (site .ranked) (rw zero)
 
     -- ---- demand 2
 

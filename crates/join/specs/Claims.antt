@@ -49,7 +49,7 @@ pub record SameAnswer (cols : List (List ℤ)) (k : ℕ) (h : Header) (a b : End
   pub marks : (t : ℕ) → t < h .tiles → getD (b .slices .marks) t 0 ≡ getD (a .slices .marks) t 0
 
 -- "no struck tile is opened, not even in a refused run": number and block of the refusal are those of a tile that is
--- neither struck nor empty
+-- neither struck nor empty: it has a site that ranks
 pub record RefusedRun (f : List ℕ) (h : Header) (cols : List (List ℤ)) (k number block : ℕ) : Type 0 where
   pub tile : ℕ
   pub below : tile < h .tiles
@@ -103,13 +103,14 @@ module _ (f : List ℕ) (cols : List (List ℤ)) (k : ℕ) (out : Slices) (h : H
     pub lists : (i j : ℕ) → i < stopCount cols → j < k
         → placeAt (slicesLeft .lists) (i * k + j)
         ≡ getD (fullSearch (entries f h) k (getD (stopsOf cols) i []) (townOf f h)) j noPlace
-    -- what that is: the town's sites, each once, in their ranking, and every site left out behind every listed one
+    -- what that is: the town's sites that rank, each once, in their ranking, and every one left out behind every listed
+    -- one
     pub first : All (λ p. FullSearch (entries f h) k p (townOf f h)) (stopsOf cols)
     -- "by Euclidean distance, ties by tile and slot"
     pub ranking : (p : List ℤ) (a b : Place) (s : SiteOf (entries f h) p (townOf f h) a)
         (u : SiteOf (entries f h) p (townOf f h) b)
         → (rank a b ≡ true) ↔ ByDistanceTileSlot (entries f h) s u
-    -- and the town has T tiles, each with the count of its entry and all sites inside the box of its entry
+    -- and the town has T tiles, each with the count and the muted number of its entry and all sites inside its box
     pub agrees : Agrees (entries f h) (townOf f h)
 
   -- "Suppose the join answers"

@@ -29,6 +29,11 @@ first-ready {o} {at} {used} {k} ready full =
       sorted = places-sorted o at used (k - 1) (omega arith) (ready .sorted);
     }
 
+-- ---- no place put in
+pub put-nothing : (o : Lists) (at used k : ℕ) → Adds o at used k [] used o
+unfolding inserts
+put-nothing o at used k = record { number = sym (places-length o at used); laid = sym (lay-self o at used) }
+
 -- ---- a place x put in
 module _ {o : Lists} {at used k : ℕ} (ready : Ready o at used k) (x : Place) where
   pub put-room : {o′ : Lists} → used < k → o′ ≡ withPlace o at used x → Adds o at used k (x ∷ []) (used + 1) o′

@@ -1,5 +1,6 @@
 -- The sites of a block put into the list of a stop, one after another.
 use Prim.Native.Nat.{ℕ, zero, suc, _+_, _-_, _<_, _≤_}
+use mathlib.Core.Bool.{true, false}
 use mathlib.Core.List.{List, [], _∷_}
 use mathlib.Core.Path.{_≡_, refl, sym, ap, _∙_}
 use native.Mathlib.Nat.{add-zero}
@@ -18,7 +19,7 @@ use Rattle.search.specs.Run.{rank, listing}
 use Rattle.search.specs.declared.Place.{Place}
 use Rattle.base.proofs.Tests.{by-test}
 use Rattle.list.proofs.Added.{added-list, added-ready, added-laid}
-use Rattle.list.proofs.Full.{put-none}
+use Rattle.list.proofs.Full.{put-nothing, put-none}
 use Rattle.list.proofs.Laying.{places-length, lay-self, SameLengths, same-lengths, lay-lengths}
 use Rattle.search.proofs.Pairs.{lex-less}
 use Rattle.places.specs.Inner.Adding.{Farther, Skipped}
@@ -28,16 +29,29 @@ use Rattle.places.specs.declared.tile.Target.{Target}
 abbrev from : List ℕ → List ℤ → ℕ → ℕ → ℕ → List Place
 from s p first n slot = listing plane p (first + slot) (tabulate (siteIn s) slot (n - slot))
 
+-- that of one slot, if it ranks
+abbrev pub the : List ℕ → List ℤ → ℕ → ℕ → List Place
+the s p first slot = listing plane p (first + slot) (siteIn s slot ∷ [])
+
+pub the-ranking : (s : List ℕ) (p : List ℤ) (first slot : ℕ) → plane .ranks (siteIn s slot) ≡ true
+    → the s p first slot ≡ sitePlace p (first + slot) (siteIn s slot) ∷ []
+unfolding listing
+the-ranking s p first slot e = rw e
+
+pub the-muted : (s : List ℕ) (p : List ℤ) (first slot : ℕ) → plane .ranks (siteIn s slot) ≡ false
+    → the s p first slot ≡ []
+unfolding listing
+the-muted s p first slot e = rw e
+
 module _ (s : List ℕ) (p : List ℤ) (k first slot n : ℕ) (l : List Place) where
   sites-turn : slot < n
-      → inserts rank k (from s p first n (slot + 1))
-      (inserts rank k (sitePlace p (first + slot) (siteIn s slot) ∷ []) l)
+      → inserts rank k (from s p first n (slot + 1)) (inserts rank k (the s p first slot) l)
       ≡ inserts rank k (from s p first n slot) l
   unfolding inserts listing tabulate
   sites-turn h =
       let e : n - slot ≡ suc (n - (slot + 1)) = omega arith in
       let a : first + (slot + 1) ≡ suc (first + slot) = omega arith in
-      rw (e, a)
+      by-test (plane .ranks (siteIn s slot)) (λ t. rw (e, a, t)) (λ t. rw (e, a, t))
 
   sites-done : n ≤ slot → inserts rank k (from s p first n slot) l ≡ l
   unfolding inserts listing tabulate
@@ -64,18 +78,18 @@ module _ {s : List ℕ} {n first : ℕ} {target : Target} {o₀ : Lists} {used :
   pub adding-lengths : SameLengths o o₀
   adding-lengths = rw (a .laid) (lay-lengths o₀ (target .at) (places o (target .at) m) (same-lengths o₀))
 
-  pub adding-turn : slot < n → (x : Place) → x ≡ sitePlace (target .stop) (first + slot) (siteIn s slot)
-      → {r : ℕ} {o′ : Lists} → Adds o (target .at) m (target .k) (x ∷ []) r o′
+  pub adding-turn : slot < n → {r : ℕ} {o′ : Lists}
+      → Adds o (target .at) m (target .k) (the s (target .stop) first slot) r o′
       → Adding s n first target o₀ used o′ r (slot + 1)
-  adding-turn h x e added =
+  adding-turn h added =
       let p = target .stop in
       let k = target .k in
       let here = places o (target .at) m in
-      let put = added-list (a .ready) added ∙ ap (λ z. inserts rank k (z ∷ []) here) e in
       record {
         ready = added-ready (a .ready) added;
         laid = added-laid (a .ready) added o₀ (a .laid);
-        rest = ap (inserts rank k (from s p first n (slot + 1))) put ∙ sites-turn s p k first slot n here h ∙ a .rest;
+        rest = ap (inserts rank k (from s p first n (slot + 1))) (added-list (a .ready) added)
+            ∙ sites-turn s p k first slot n here h ∙ a .rest;
       }
 
   pub adding-done : n ≤ slot
@@ -96,10 +110,15 @@ module _ {s : List ℕ} {n first : ℕ} {target : Target} {o₀ : Lists} {used :
   adding-past full (suc j) h far =
       let e : slot + suc j ≡ slot + j + 1 = omega arith in
       let b = adding-past full j (omega arith) (λ i l u. far i l (omega arith)) in
-      let x = sitePlace (target .stop) (first + (slot + j)) (siteIn s (slot + j)) in
+      let p = target .stop in
+      let x = sitePlace p (first + (slot + j)) (siteIn s (slot + j)) in
       let y = placeAt o (target .at + (target .k - 1)) in
       let ahead = lex-less (y .site) (x .site) (far (slot + j) (omega arith) (omega arith)) in
-      rw e (adding-turn b (omega arith) x refl (put-none (b .ready) x full y refl ahead))
+      let stays : Adds o (target .at) m (target .k) (the s p first (slot + j)) m o =
+      by-test (plane .ranks (siteIn s (slot + j)))
+      (λ t. rw (the-ranking s p first (slot + j) t) (put-none (b .ready) x full y refl ahead))
+      (λ t. rw (the-muted s p first (slot + j) t) (put-nothing o (target .at) m (target .k))) in
+      rw e (adding-turn b (omega arith) stays)
 
   pub adding-skip : {r : ℕ} → Skipped s n slot target m (o .dist) r → Adding s n first target o₀ used o m r
   adding-skip {r} skipped =

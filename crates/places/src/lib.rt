@@ -1,2 +1,2 @@
-// The sites of a tile put into the list of a stop.
+// The sites of a tile that rank put into the list of a stop.
 pub mod tile;

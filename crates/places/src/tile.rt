@@ -1,4 +1,5 @@
-// The sites of an opened tile put into the list of a stop.
+// The sites of an opened tile that rank put into the list of a stop.
+ghost use mathlib.Core.List.{[], _∷_};
 ghost use Prim.Native.Nat.{_+_, _<_, _≤_, _^_};
 ghost use lib.ListN.{length};
 ghost use Rattle.base.specs.Tabulate.{tabulate};
@@ -37,7 +38,7 @@ fn next_within(s: &[u8], n: usize, from: usize, p: Stop, bound: u64) -> usize
     i
 }
 
-// From a slot on, the first one whose site can get into the list: of a full list, no farther than its last place.
+// From a slot on, the first one whose site is near enough for the list: of a full list, no farther than its last place.
 fn next_slot(s: &[u8], n: usize, from: usize, target: Target, used: usize, dist: &[u64]) -> usize
     requires { ⌜ Sited (now s) n × (from ≤ n) × ValidStop (target .stop)
         × (0 < target .k) × (target .at + target .k ≤ length (now dist)) ⌝ }
@@ -52,7 +53,36 @@ fn next_slot(s: &[u8], n: usize, from: usize, target: Target, used: usize, dist:
     next_within(s, n, from, p, dist[at + (k - 1)])
 }
 
-// The n sites of a tile's block, in slot order, numbered from first on, put into the list.
+// The site of a slot, if it ranks, put into the list; the sites are numbered from first on.
+fn add_site(
+    s: &[u8],
+    n: usize,
+    slot: usize,
+    first: u32,
+    target: Target,
+    used: usize,
+    dist: &mut [u64],
+    site: &mut [u32],
+    cue: &mut [u32],
+) -> usize
+    requires { ⌜ Sited (now s) n × (slot < n) × (first + n < 2 ^ 32) × ValidStop (target .stop)
+        × Ready (lists (now dist) (now site) (now cue)) (target .at) used (target .k) ⌝ }
+    ensures { λ r. ⌜ Adds (lists (now (dist .entry)) (now (site .entry)) (now (cue .entry)))
+        (target .at) used (target .k) (listing plane (target .stop) (first + slot) (siteIn (now (s .entry)) slot ∷ []))
+        r (lists (now (dist .exit)) (now (site .exit)) (now (cue .exit))) ⌝ }
+{
+    let p = target.stop;
+    let at = target.at;
+    let k = target.k;
+    let number = first + (slot as u32);
+    let x = sites::place_in(s, n, slot, number, p);
+    if !sites::ranks(x.cue) {
+        return used;
+    }
+    insert_place(dist, site, cue, at, used, k, x)
+}
+
+// Of the n sites of a tile's block, in slot order, numbered from first on, those that rank put into the list.
 fn add_sites(
     s: &[u8],
     n: usize,
@@ -69,21 +99,16 @@ fn add_sites(
         (target .at) used (target .k) (listing plane (target .stop) first (tabulate (siteIn (now (s .entry))) 0 n)) r
         (lists (now (dist .exit)) (now (site .exit)) (now (cue .exit))) ⌝ }
 {
-    let p = target.stop;
-    let at = target.at;
-    let k = target.k;
     let mut m = used;
     let mut slot = next_slot(s, n, 0, target, m, dist);
     while slot < n {
-        let number = first + (slot as u32);
-        let x = sites::place_in(s, n, slot, number, p);
-        m = insert_place(dist, site, cue, at, m, k, x);
+        m = add_site(s, n, slot, first, target, m, dist, site, cue);
         slot = next_slot(s, n, slot + 1, target, m, dist);
     }
     m
 }
 
-// All sites of tile t of a file, which opens, put into the list of a stop: the number of places used then.
+// The sites that rank of tile t of a file, which opens, put into the list of a stop: the number of places used then.
 pub fn add_tile(
     f: &[u8],
     h: Header,

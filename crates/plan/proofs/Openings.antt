@@ -1,30 +1,31 @@
 -- What opens agrees with the directory, and is the file's own town there. Assumes nothing.
 use Prim.Native.Nat.{ℕ, zero, suc, _+_, _<_, _^_}
-use mathlib.Core.Bool.{false}
+use mathlib.Core.Bool.{Bool, true, false, not}
 use mathlib.Core.List.{List}
 use mathlib.Core.Path.{_≡_, refl, sym, ap, _∙_}
 use native.Mathlib.Nat.{add-zero, zero-add}
 use native.Mathlib.Omega.{arith}
 use lib.ListN.{length}
+use Rattle.base.specs.HowMany.{howMany}
 use Rattle.base.specs.Refusal.{accepted, andThen}
 use Rattle.base.specs.Tabulate.{tabulate}
 use Rattle.blocks.specs.Block.{blockAt}
 use Rattle.blocks.specs.Directory.{directoryBlocks, boxAt, countAt}
 use Rattle.blocks.specs.declared.header.Header.{Header}
 use Rattle.codec.specs.Number.{Bytes}
-use Rattle.search.specs.Lists.{All}
+use Rattle.search.specs.Lists.{count, All}
 use Rattle.search.specs.Plan.{Fills, Agrees}
 use Rattle.search.specs.Run.{Checked}
 use Rattle.tiles.specs.Accepted.{GoodFile}
-use Rattle.tiles.specs.Tile.{siteIn, tilePosition, openTile, siteAt, sitesAt}
+use Rattle.tiles.specs.Tile.{siteIn, mutedCue, tilePosition, openTile, siteAt, sitesAt}
 use Rattle.tiles.specs.declared.tile.Site.{Site}
+use Rattle.base.proofs.HowMany.{how-many-first, how-many-same}
 use Rattle.base.proofs.Outcomes.{accepted-injective, andThen-accepted, by-outcome}
 use Rattle.blocks.proofs.BlockLaws.{length-block, block-bytes}
 use Rattle.blocks.proofs.DirectoryLaws.{directory-good, block-fits, box-valid, count-small}
 use Rattle.codec.proofs.Bytes.{u32-small}
 use Rattle.geometry.proofs.Theorems.{inside-valid}
-use Rattle.search.proofs.Lists.{all-any, count-none}
-use Rattle.tiles.proofs.Theorems.{opening-exactly, opened-number, opened-inside, sites-length}
+use Rattle.tiles.proofs.Theorems.{opening-exactly, opened-number, opened-inside, opened-muted, sites-length}
 use Rattle.plan.specs.FilePlan.{entries, openingOf, townOf}
 use Rattle.plan.specs.Inner.Seam.{TileOf, Opens, BlockOf}
 
@@ -44,6 +45,22 @@ all-tabulate P g a (suc n) h = (
   rw add-zero at (h 0 (omega arith)),
   all-tabulate P g (a + 1) n (λ i l. let e : a + 1 + i ≡ a + suc i = omega arith in rw e (h (suc i) (omega arith))),
 )
+
+count-tabulate : {A : Type 0} (p : A → Bool) (g : ℕ → A) (a n : ℕ) →
+    count p (tabulate g a n) ≡ howMany (λ i. p (g (a + i))) n
+unfolding tabulate count howMany
+count-tabulate p g a zero = refl
+count-tabulate p g a (suc n) =
+    let f : ℕ → Bool = λ i. p (g (a + i)) in
+    let later : (i : ℕ) → i < n → p (g (a + 1 + i)) ≡ f (suc i) =
+    λ i l. let e : a + 1 + i ≡ a + suc i = omega arith in rw e in
+    let rest = count-tabulate p g (a + 1) n ∙ how-many-same _ (λ i. f (suc i)) n later in
+    let first : p (g a) ≡ f 0 = rw add-zero in
+    rw (rest, first) (sym (how-many-first f n))
+
+not-not : (b : Bool) → not (not b) ≡ b
+not-not true = refl
+not-not false = refl
 
 module _ (f : List ℕ) (h : Header) (t : ℕ) where
   pub opening-town : {l : List Site} → openingOf f h t ≡ accepted l → l ≡ townOf f h t
@@ -84,7 +101,9 @@ module _ (f : List ℕ) (h : Header) (t : ℕ) where
     unfolding sitesAt
     opened-fills e = record {
       counted = sites-length f h t;
-      silent = count-none (λ s. false) (townOf f h t) (all-any _ (townOf f h t) (λ s. refl));
+      muted-counted = count-tabulate _ (siteAt f h t) 0 (countAt f t)
+          ∙ how-many-same _ _ (countAt f t) (λ i l. rw (zero-add i) (not-not (mutedCue (siteAt f h t i .cue))))
+          ∙ opened-muted f h t e;
       inside = all-tabulate _ (siteAt f h t) 0 (countAt f t)
           (λ i l. rw (zero-add i) (opened-inside f h t e i l, cue-small f bytes h t i));
     }

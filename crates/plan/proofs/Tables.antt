@@ -1,17 +1,14 @@
--- For the crates above: a table filled element by element (one turn of the loop, its end, and reading it), and tests as
--- numbers.
+-- For the crates above: a table filled element by element: one turn of the loop, its end, and reading it.
 use Prim.Native.Nat.{ℕ, suc, _+_, _-_, _<_, _≤_}
-use mathlib.Core.Bool.{Bool, true, false}
 use mathlib.Core.List.{List, map}
-use mathlib.Core.Path.{_≡_, refl, sym, ap, _∙_}
+use mathlib.Core.Path.{_≡_, sym, ap, _∙_}
 use native.Mathlib.Nat.{zero-add}
 use native.Mathlib.Numerals.{add-one}
 use native.Mathlib.Omega.{arith}
 use lib.ListN.{length, getD, set, take, length-map}
 use lib.Seq.{take-at}
-use mir.Val.{boolByte}
 use Rattle.base.specs.Over.{over}
-use Rattle.search.specs.Lists.{range, bit}
+use Rattle.search.specs.Lists.{range}
 use Rattle.search.proofs.Lists.{getD-map-lt, range-length, range-getD}
 use Rattle.base.proofs.Over.{over-eq, over-nil, over-cons, getD-run}
 
@@ -43,13 +40,3 @@ module _ (g : ℕ → ℕ) where
   filled-take d n h =
       let l = table-length 0 n in
       rw (over-eq d 0 (map g (range 0 n)) (omega arith)) (take-at (map g (range 0 n)) _ n l)
-
--- ---- a test as a number
-
-pub bit-small : (b : Bool) → bit b ≤ 1
-bit-small true = omega arith
-bit-small false = omega arith
-
-pub bit-byte : (b : Bool) → boolByte b ≡ bit b
-bit-byte true = refl
-bit-byte false = refl

@@ -3,12 +3,12 @@
 use Prim.Native.Nat.{ℕ, _<_}
 use mathlib.Core.Bool.{true}
 use mathlib.Core.List.{List}
-use mathlib.Core.Path.{_≡_, refl, _∙_}
+use mathlib.Core.Path.{_≡_, _∙_}
 use lib.IntN.{ℤ}
 use lib.ListN.{length}
 use Rattle.base.specs.Refusal.{accepted}
 use Rattle.blocks.specs.Block.{blockAt}
-use Rattle.blocks.specs.Directory.{directory, boxAt, countAt}
+use Rattle.blocks.specs.Directory.{directory, boxAt, countAt, mutedAt}
 use Rattle.blocks.specs.Same.{SameDirectory}
 use Rattle.blocks.specs.declared.header.Header.{Header}
 use Rattle.codec.specs.Number.{Bytes}
@@ -39,7 +39,7 @@ module _ (f : List ℕ) (h : Header) where
   pub opens-own-town : (t : ℕ) {l : List Site} → openingOf f h t ≡ accepted l → l ≡ townOf f h t
   opens-own-town = opening-town f h
 
-  -- and agrees with the directory: count, box, and a cue of 32 bits
+  -- and agrees with the directory: count, muted number, box, and a cue of 32 bits
   pub opening-checked : Bytes f → Checked (entries f h) (openingOf f h)
   opening-checked = openings-checked f h
 
@@ -53,11 +53,11 @@ module _ (f : List ℕ) (h : Header) where
 -- "Any file of the same length, equal to this one in every byte of the directory and of the opened tiles": g against f
 module _ (f g : List ℕ) (h : Header) (same : SameDirectory f g h) where
   entry-same : (t : ℕ) → t < h .tiles
-      → (boxAt g t ≡ boxAt f t) × (countAt g t ≡ countAt f t) × (entries g h .muted t ≡ entries f h .muted t)
-  entry-same t l = let e = entry-depends f g h t same l in (e .0, e .1, refl)
+      → (boxAt g t ≡ boxAt f t) × (countAt g t ≡ countAt f t) × (mutedAt g t ≡ mutedAt f t)
+  entry-same t l = entry-depends f g h t same l
 
   pub used-depends : (k : ℕ) → placesUsed (entries g h) k ≡ placesUsed (entries f h) k
-  used-depends = same-used (entries f h) (boxAt g) (countAt g) (entries g h .muted) entry-same
+  used-depends = same-used (entries f h) (boxAt g) (countAt g) (mutedAt g) entry-same
 
   -- a tile whose block is the same opens alike
   pub openings-depend : (t : ℕ) → t < h .tiles → blockAt g (tilePosition h t) ≡ blockAt f (tilePosition h t)
@@ -65,18 +65,18 @@ module _ (f g : List ℕ) (h : Header) (same : SameDirectory f g h) where
   unfolding openingOf
   openings-depend t l block =
       let e = entry-same t l in
-      rw (opening-depends f g h t block (e .1) (e .0), sites-depend f g h t block (e .1))
+      rw (opening-depends f g h t block (e .1) (e .0) (e .2), sites-depend f g h t block (e .1))
 
   -- the same tiles are struck, the same marks and counts follow from the same openings
   module _ (o : List (List ℤ)) (k : ℕ) where
     pub pruned-depends : (t : ℕ) → t < h .tiles → pruned (entries g h) o k t ≡ pruned (entries f h) o k t
-    pruned-depends = same-pruned (entries f h) (boxAt g) (countAt g) (entries g h .muted) entry-same o k
+    pruned-depends = same-pruned (entries f h) (boxAt g) (countAt g) (mutedAt g) entry-same o k
 
     pub pruned-count-depends : prunedCount (entries g h) o k ≡ prunedCount (entries f h) o k
-    pruned-count-depends = same-pruned-count (entries f h) (boxAt g) (countAt g) (entries g h .muted) entry-same o k
+    pruned-count-depends = same-pruned-count (entries f h) (boxAt g) (countAt g) (mutedAt g) entry-same o k
 
     pub marks-depend : (opened : List ℕ) → marks (entries g h) o k opened ≡ marks (entries f h) o k opened
-    marks-depend = same-marks (entries f h) (boxAt g) (countAt g) (entries g h .muted) entry-same o k
+    marks-depend = same-marks (entries f h) (boxAt g) (countAt g) (mutedAt g) entry-same o k
 
     -- "gets an answer with the same lists": the same run, where the blocks of the tiles opened are the same
     pub join-depends : (ps : List (List ℤ))
@@ -86,7 +86,7 @@ module _ (f g : List ℕ) (h : Header) (same : SameDirectory f g h) where
     join-depends ps alike =
         let E = entries f h in
         let opened = join E o k (openingOf f h) ps .openings in
-        same-join E (boxAt g) (countAt g) (entries g h .muted) entry-same o k (openingOf g h) ps
+        same-join E (boxAt g) (countAt g) (mutedAt g) entry-same o k (openingOf g h) ps
         ∙ same-run E o k (openingOf f h) (openingOf g h) ps
         (all-both (λ t. t < h .tiles) (λ t. blockAt g (tilePosition h t) ≡ blockAt f (tilePosition h t))
         (λ t. openingOf g h t ≡ openingOf f h t) opened openings-depend (only-tiles E o k (openingOf f h) ps) alike)

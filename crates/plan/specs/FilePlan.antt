@@ -1,17 +1,18 @@
 -- A file whose directory is accepted, as the search sees it.
 --
 --   axisCount    the axes of a town
---   plane        document 01's geometry
---   entries      the directory's boxes and counts
+--   cueRanks     whether a site with this cue ranks
+--   plane        the geometry of documents 01 and 02
+--   entries      the directory's boxes, counts and muted numbers
 --   openingOf    what opening a tile gives
 --   townOf       the file's own town
 use Prim.Native.Nat.{ℕ, _<_}
-use mathlib.Core.Bool.{true}
+use mathlib.Core.Bool.{Bool, true, not}
 use mathlib.Core.List.{List}
 use mathlib.Core.Path.{_≡_}
 use lib.IntN.{ℤ}
 use Rattle.base.specs.Refusal.{Outcome, accepted, andThen}
-use Rattle.blocks.specs.Directory.{boxAt, countAt}
+use Rattle.blocks.specs.Directory.{boxAt, countAt, mutedAt}
 use Rattle.blocks.specs.Layout as layout
 use Rattle.blocks.specs.declared.header.Header.{Header}
 use Rattle.codec.specs.Number.{limit32}
@@ -19,20 +20,24 @@ use Rattle.geometry.specs.Box.{inside}
 use Rattle.geometry.specs.Distance.{D, minDist}
 use Rattle.geometry.specs.Margin.{closer}
 use Rattle.search.specs.Plan.{Geometry, Directory}
-use Rattle.tiles.specs.Tile.{sitePoint, openTile, sitesAt}
+use Rattle.tiles.specs.Tile.{sitePoint, mutedCue, openTile, sitesAt}
 pub use Rattle.tiles.specs.declared.tile.Site.{Site}
 
 abbrev pub axisCount : ℕ
 axisCount = layout.axes
 
--- points by their coordinates; "a cue (unsigned 32 bits, any number)"; every site ranks
+-- 02.1: "Town builders mute a site by giving it cue 0 .. only sites with another cue rank"
+abbrev pub cueRanks : ℕ → Bool
+cueRanks cue = not (mutedCue cue)
+
+-- points by their coordinates; "a cue (unsigned 32 bits, any number)"
 abbrev pub plane : Geometry
 plane = record {
   Site = Site;
   Stop = List ℤ;
   Box = List (List ℤ);
   cue = λ s. s .cue;
-  ranks = λ s. true;
+  ranks = λ s. cueRanks (s .cue);
   Inside = λ b s. (inside b (sitePoint s) ≡ true) × (s .cue < limit32);
   Within = λ b p. inside b p ≡ true;
   D = λ p s. D p (sitePoint s);
@@ -40,9 +45,9 @@ plane = record {
   closer = closer;
 }
 
--- the boxes and counts of the directory; there is no site that does not rank
+-- the boxes, counts and muted numbers of the directory
 abbrev pub entries : List ℕ → Header → Directory plane
-entries f h = record { tiles = h .tiles; box = boxAt f; size = countAt f; muted = λ t. 0 }
+entries f h = record { tiles = h .tiles; box = boxAt f; size = countAt f; muted = mutedAt f }
 
 -- "opened, which checks its block": its sites by slot, or the refusal
 unfoldable pub openingOf : List ℕ → Header → ℕ → Outcome (List Site)

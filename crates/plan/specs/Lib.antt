@@ -1,2 +1,3 @@
 pub mod FilePlan
+pub mod Document01
 pub mod Inner

@@ -1,4 +1,4 @@
-// The sites of a tile: how many rank, its opening, its block in place, and the place of a slot.
+// The sites of a tile: how many rank, its opening, its block in place, the place of a slot, and whether it ranks.
 ghost use mathlib.Core.Path.{_≡_};
 ghost use Prim.Native.Nat.{_<_, _≤_};
 ghost use lib.ListN.{length};
@@ -6,7 +6,7 @@ ghost use Rattle.base.specs.Refusal.{accepted, andThen};
 ghost use Rattle.search.specs.Plan.{slots, ranked};
 ghost use Rattle.tiles.specs.Inner.Opening.{openingOutcome};
 ghost use Rattle.tiles.specs.Tile.{siteIn};
-ghost use Rattle.plan.specs.FilePlan.{entries, openingOf, townOf};
+ghost use Rattle.plan.specs.FilePlan.{cueRanks, entries, openingOf, townOf};
 ghost use Rattle.plan.specs.Inner.Seam.{TileOf, ValidStop, Opens, Sited, BlockOf, sitePlace};
 use crate::region::Stop;
 use blocks::block;
@@ -22,7 +22,7 @@ pub fn ranked(f: &[u8], h: Header, t: usize) -> usize
     requires { ⌜ TileOf (now f) h t ⌝ }
     ensures { λ r. ⌜ (r ≡ ranked (entries (now (f .entry)) h) t) × (r ≤ slots) ⌝ }
 {
-    directory::count_at(f, h, t)
+    directory::count_at(f, h, t) - directory::muted_at(f, h, t)
 }
 
 // How many sites tile t has.
@@ -62,4 +62,11 @@ pub fn place_in(s: &[u8], n: usize, slot: usize, number: u32, p: Stop) -> Place
         site: number,
         cue: found.cue,
     }
+}
+
+// Whether a site with this cue ranks.
+pub fn ranks(cue: u32) -> bool
+    ensures { λ r. ⌜ r ≡ cueRanks cue ⌝ }
+{
+    cue != tile::MUTED_CUE
 }

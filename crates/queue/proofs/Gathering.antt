@@ -15,7 +15,7 @@ use Rattle.search.specs.Lists.{range, bit, filter, All}
 use Rattle.search.specs.Order.{Strict}
 use Rattle.base.proofs.Over.{over-eq, over-nil, over-cons, over-set}
 use Rattle.base.proofs.Tests.{by-test}
-use Rattle.plan.proofs.Tables.{bit-small}
+use Rattle.base.proofs.HowMany.{bit-small}
 use Rattle.search.proofs.Lists.{all-map, filter-all, range-below, range-above, range-length}
 use Rattle.queue.specs.Inner.Keys.{spare, Gathers}
 

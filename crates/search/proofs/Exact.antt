@@ -122,14 +122,14 @@ module _ {G : Geometry} (E : Directory G) (O : G .Box) (k : ℕ) where
     it : Site
     later : List Site
     parts : l ≡ earlier ++ it ∷ later
-    silent : All (λ s. ranks s ≡ false) earlier
-    loud : ranks it ≡ true
+    unranked : All (λ s. ranks s ≡ false) earlier
+    ranking : ranks it ≡ true
 
   first : (l : List Site) → 0 < count ranks l → First l
   unfolding count
   first [] h = absurd (omega arith)
   first (s ∷ l) h = by-test (ranks s)
-      (λ e. record { earlier = []; it = s; later = l; parts = refl; silent = tt; loud = e })
+      (λ e. record { earlier = []; it = s; later = l; parts = refl; unranked = tt; ranking = e })
       (λ e.
       let r = first l (let g = rw e at h in omega arith) in
       record {
@@ -137,18 +137,18 @@ module _ {G : Geometry} (E : Directory G) (O : G .Box) (k : ℕ) where
         it = r .it;
         later = r .later;
         parts = ap (λ m. s ∷ m) (r .parts);
-        silent = (e, r .silent);
-        loud = r .loud;
+        unranked = (e, r .unranked);
+        ranking = r .ranking;
       })
 
   -- sites that do not rank take numbers and no places
-  listing-silent : (p : Stop) (a : ℕ) (f₀ f : List Site) → All (λ s. ranks s ≡ false) f₀
+  listing-unranked : (p : Stop) (a : ℕ) (f₀ f : List Site) → All (λ s. ranks s ≡ false) f₀
       → listing G p a (f₀ ++ f) ≡ listing G p (a + length f₀) f
   unfolding listing
-  listing-silent p a [] f h = rw (add-zero a)
-  listing-silent p a (s ∷ f₀) f h =
+  listing-unranked p a [] f h = rw (add-zero a)
+  listing-unranked p a (s ∷ f₀) f h =
       let e : suc a + length f₀ ≡ a + suc (length f₀) = omega arith in
-      rw (h .0, ← e) (listing-silent p (suc a) f₀ f (h .1))
+      rw (h .0, ← e) (listing-unranked p (suc a) f₀ f (h .1))
 
   -- it has a place
   first-listed : (p : Stop) (g : Town G) (t : ℕ) (f₀ : List Site) (q : Site) (f : List Site) (ts : List ℕ)
@@ -157,7 +157,7 @@ module _ {G : Geometry} (E : Directory G) (O : G .Box) (k : ℕ) where
       → List·Memᴰ (record { dist = D p q; site = t * slots + length f₀; cue = cue q }) (placesOf G p g ts)
   unfolding placesOf listing
   first-listed p g t f₀ q f ts e h l (List·Memᴰ·head i) =
-      rw (← i, e, listing-silent p (t * slots) f₀ (q ∷ f) h, l) (List·Memᴰ·head refl)
+      rw (← i, e, listing-unranked p (t * slots) f₀ (q ∷ f) h, l) (List·Memᴰ·head refl)
   first-listed p g t f₀ q f ts e h l (List·Memᴰ·tail {x = w} {xs = us} m) =
       Memᴰ·append-right (tilePlaces G p w (g w)) (first-listed p g t f₀ q f us e h l m)
 
@@ -200,7 +200,8 @@ module _ {G : Geometry} (E : Directory G) (O : G .Box) (k : ℕ) where
     ag′ : Agrees E g′
     unfolding g′ fresh q
     ag′ =
-        refill-agrees E g t fresh ag (refit E t (b .earlier) (b .later) (b .it) q (rw (b .parts) at (ag t ht)) (b .loud)
+        refill-agrees E g t fresh ag
+        (refit E t (b .earlier) (b .later) (b .it) q (rw (b .parts) at (ag t ht)) (b .ranking)
         (other .4) (other .1))
 
     -- the place that it has now
@@ -211,7 +212,7 @@ module _ {G : Geometry} (E : Directory G) (O : G .Box) (k : ℕ) where
     unfolding g′ now rank fresh slot q
     here-none = all-both (λ x. t * slots + length (b .earlier) ≤ x .site) (Known E p g′ t) _ (tilePlaces G p t (g′ t))
         (λ x i j. lex-not-less (rw (other .2) (j .least)) i)
-        (rw (refill-here E g t fresh, listing-silent p (t * slots) (b .earlier) (q ∷ b .later) (b .silent))
+        (rw (refill-here E g t fresh, listing-unranked p (t * slots) (b .earlier) (q ∷ b .later) (b .unranked))
         (listing-from E p (t * slots + length (b .earlier)) (q ∷ b .later)))
         (known E L p home g′ t (ht, ag′ t ht))
 
@@ -253,7 +254,8 @@ module _ {G : Geometry} (E : Directory G) (O : G .Box) (k : ℕ) where
     unfolding firstOf nearest now g′ fresh slot q
     now-listed = listed rank rank-order (Own E p g′) (own-tight E p g′) k now (placesOf G p g′ (range 0 tiles))
         (own-places E L p home g′ (range 0 tiles) (agrees-filled E g′ ag′ (range 0 tiles) (tiles-below E)))
-        (first-listed p g′ t (b .earlier) q (b .later) (range 0 tiles) (refill-here E g t fresh) (b .silent) (other .4)
+        (first-listed p g′ t (b .earlier) q (b .later) (range 0 tiles) (refill-here E g t fresh) (b .unranked)
+        (other .4)
         (range-mem t 0 tiles (omega arith) (omega arith)))
         (let c = few (range 0 tiles) (tiles-below E) in omega arith)
 

@@ -34,7 +34,7 @@ module _ {G : Geometry} (E : Directory G) where
 
   pub ranked-count : (t : ℕ) (f : List Site) → Fills E t f → count ranks f ≡ ranked E t
   unfolding ranked
-  ranked-count t f h = omega (arith, count-both ranks f, h .counted, h .silent)
+  ranked-count t f h = omega (arith, count-both ranks f, h .counted, h .muted-counted)
 
   -- another site that ranks in the slot of one
   pub refit : (t : ℕ) (a b : List Site) (s q : Site) → Fills E t (a ++ s ∷ b) → ranks s ≡ true → ranks q ≡ true
@@ -42,10 +42,10 @@ module _ {G : Geometry} (E : Directory G) where
   unfolding count
   refit t a b s q h rs rq i = record {
     counted = let u = h .counted in let v = length-append a (s ∷ b) in let w = length-append a (q ∷ b) in omega arith;
-    silent =
+    muted-counted =
         let v = rw rs at (count-append mute a (s ∷ b)) in
         let w = rw rq at (count-append mute a (q ∷ b)) in
-        omega (arith, h .silent);
+        omega (arith, h .muted-counted);
     inside = all-append (Inside (box t)) a (q ∷ b) (all-left (Inside (box t)) a (s ∷ b) (h .inside))
         (i, all-right (Inside (box t)) a (s ∷ b) (h .inside) .1);
   }
@@ -84,7 +84,7 @@ module _ {G : Geometry} (E : Directory G) where
               length-replicate (size t - muted t) q,
               L .muted-few t ht,
             );
-            silent = omega (
+            muted-counted = omega (
               arith,
               count-append mute a b,
               count-mute (muted t) m rm,

@@ -19,6 +19,7 @@ pub mod Ranking
 pub mod Answered
 pub mod FullQueue
 pub mod SameEntries
+pub mod Document01
 pub mod Theorems
 -- for the code of the join
 pub mod Cut

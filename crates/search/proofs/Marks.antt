@@ -8,7 +8,7 @@ use native.Mathlib.Nat.{zero-mul, suc-mul, zero-add}
 use native.Mathlib.Omega.{arith}
 use lib.Dec.{eqb}
 use lib.ListN.{length, take, getD, replicate, length-append, length-take, length-replicate, List·getD-append}
-use lib.Seq.{getD-append-add}
+use lib.Seq.{getD-append-add, getD-take}
 use Rattle.base.proofs.Tests.{clash, by-test}
 use Rattle.search.specs.Lists.{range, count, filter, member, All, Distinct}
 use Rattle.search.specs.Plan.{Geometry, Directory}
@@ -128,6 +128,11 @@ module _ (k : ℕ) where
       let b = length-append l zeros in
       let c = length-replicate {A = Place} k noPlace in
       omega arith
+
+  -- a used place
+  pub padded-used : (l : List Place) (j : ℕ) (d : Place) → j < length l → j < k → getD (padded k l) j d ≡ getD l j d
+  unfolding padded
+  padded-used l j d h i = getD-take k (l ++ replicate k noPlace) j d i ∙ List·getD-append l (replicate k noPlace) d j h
 
   -- padding loses nothing of lists of one length
   pub unpad : (a b : List Place) → length a ≡ length b → length a ≤ k → padded k a ≡ padded k b → a ≡ b

@@ -4,7 +4,6 @@ use mathlib.Core.Bool.{true, false, not}
 use mathlib.Core.List.{List·Memᴰ, Permᴰ·symm}
 use mathlib.Core.Path.{_≡_}
 use native.Mathlib.Omega.{arith}
-use lib.Dec.{ltb}
 use borrow.Author.Tests.{ltb-true, not-true}
 use Rattle.base.proofs.Tests.{and-both}
 use Rattle.search.specs.Inner.Cut.{Sorted}
@@ -24,11 +23,11 @@ module _ {G : Geometry} (E : Directory G) (O : G .Box) (k : ℕ) where
 
   pub candidate-unpruned : (t : ℕ) → candidate E O k t ≡ true → pruned E O k t ≡ false
   unfolding candidate
-  candidate-unpruned t e = not-true (pruned E O k t) (and-both (not (pruned E O k t)) (ltb 0 (ranked E t)) e .0)
+  candidate-unpruned t e = not-true (pruned E O k t) (and-both _ _ e .0)
 
   pub candidate-some : (t : ℕ) → candidate E O k t ≡ true → 0 < ranked E t
   unfolding candidate
-  candidate-some t e = ltb-true 0 (ranked E t) (and-both (not (pruned E O k t)) (ltb 0 (ranked E t)) e .1)
+  candidate-some t e = ltb-true 0 (ranked E t) (and-both (not (pruned E O k t)) _ e .1)
 
   -- a tile of the directory that is taken by key
   abbrev pub Chosen : ℕ → Type 0

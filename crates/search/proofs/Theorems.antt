@@ -17,6 +17,7 @@ use Rattle.search.specs.Pruning.{pruned, prunedCount}
 use Rattle.search.specs.Run.{Reading, Place, Run, Checked, rank, placesOf, queue, fullQueue, run, join}
 use Rattle.search.specs.Run.{placesUsed, marks}
 use Rattle.search.specs.Run.{openedMark, prunedMark, noMark}
+use Rattle.search.specs.Document01.{LikeDocument01}
 use Rattle.search.proofs.Answered.{readTown, join-town, some-town, answer-padded, answer-places, answer-used}
 use Rattle.search.proofs.Answered.{opened-changes, changes-opened}
 use Rattle.search.proofs.FullQueue.{full-alike}
@@ -30,6 +31,7 @@ use Rattle.search.proofs.Ranking.{rank-exactly, site-here, first-strict
 use Rattle.search.proofs.Ranking.{first-length}
 use Rattle.search.proofs.Run.{join-chosen, join-once, join-same}
 use Rattle.search.proofs.Sound as sound
+use Rattle.search.proofs.Document01 as document01
 
 module _ {G : Geometry} (E : Directory G) (O : G .Box) (k : ℕ) where
   open Geometry G using (Stop, Within, closer)
@@ -43,7 +45,7 @@ module _ {G : Geometry} (E : Directory G) (O : G .Box) (k : ℕ) where
   never-pruned read ps =
       all-map (join E O k read ps .openings) (λ t c. candidate-unpruned E O k t (c .1)) (join-chosen E O k read ps)
 
-  -- "the tiles that are not struck and not empty"
+  -- "the tiles that are not struck and not empty", which a tile with no site that ranks counts as
   pub never-empty : (read : Reading G) (ps : List Stop) → All (λ t. 0 < ranked E t) (join E O k read ps .openings)
   never-empty read ps =
       all-map (join E O k read ps .openings) (λ t c. candidate-some E O k t (c .1)) (join-chosen E O k read ps)
@@ -87,6 +89,10 @@ module _ {G : Geometry} (E : Directory G) (O : G .Box) (k : ℕ) where
       → count (λ m. eqb m prunedMark) (marks E O k (join E O k read ps .openings)) ≡ prunedCount E O k
   pruned-count read ps = marks-pruned E O k (join E O k read ps .openings) (never-pruned read ps)
 
+  -- 02.1 leaves a town without muted sites as it was: all is given that document 01 alone gives
+  pub like-document-01 : ((t : ℕ) → t < tiles → E .muted t ≡ 0) → LikeDocument01 E O k
+  like-document-01 none = document01.like-document-01 E none O k
+
   -- ---- every run, where what opens agrees with the directory
 
   module _ (L : Lawful E O) where
@@ -96,12 +102,13 @@ module _ {G : Geometry} (E : Directory G) (O : G .Box) (k : ℕ) where
         → run E k (fullQueue E) read ps [] ≡ join E O k read ps
     pruning-opens-alike = full-alike E O k L
 
-    -- Why striking is right: the tiles nearer than a struck tile that are not struck themselves have k sites or more,
+    -- Why striking is right: the tiles nearer than a struck tile that are not struck themselves have k sites
+    -- that rank or more,
     pub pruned-by-free : (b : ℕ) → b < tiles → pruned E O k b ≡ true
         → k ≤ total (λ e. not (pruned E O k e) && closer O (box e) (box b)) (ranked E) (range 0 tiles)
     pruned-by-free = pruning.pruned-by-free E O k L
 
-    -- and every site of it is behind k sites of tiles that a stop may come to
+    -- and every site of it that ranks is behind k sites of tiles that a stop may come to
     pub pruned-behind : (p : Stop) → Within O p → (g : Town G) → Agrees E g → (y : Place) (u : SiteOf E p g y)
         → pruned E O k (u .tile) ≡ true → k ≤ count (λ x. rank x y) (placesOf G p g (queue E O k p))
     pruned-behind p home g ag y u s =
@@ -158,7 +165,7 @@ module _ {G : Geometry} (E : Directory G) (O : G .Box) (k : ℕ) where
         × Fits E read (join E O k read ps .openings) g
     town-exists = some-town L k
 
-    -- "Places used for each stop: the smaller of k and all sites."
+    -- "Places used for each stop: the smaller of k and all sites", those that rank
     pub places-used : (read : Reading G) → Checked E read → (ps : List Stop) → All (Within O) ps
         → (ls : List (List Place))
         → join E O k read ps .outcome ≡ accepted ls → All (λ l. length l ≡ placesUsed E k) ls

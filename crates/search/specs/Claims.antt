@@ -14,8 +14,8 @@ use Rattle.search.specs.Pruning.{pruned, prunedCount}
 use Rattle.search.specs.Run.{Reading, Place, noPlace, rank, join, padded, inRows, placesUsed, marks, openedMark}
 use Rattle.search.specs.Run.{prunedMark, noMark}
 
--- What a full search gives: the town's sites, each once, in their ranking, and every site left out behind every listed
--- one.
+-- What a full search gives: the town's sites that rank, each once, in their ranking, and every one left out behind
+-- every listed one.
 pub record FullSearch {G : Geometry} (E : Directory G) (k : ℕ) (p : G .Stop) (g : Town G) : Type 0 where
   pub sites : All (SiteOf E p g) (firstOf E k p g)
   pub once : Distinct (map (λ a. a .site) (firstOf E k p g))

@@ -20,7 +20,7 @@ module _ {G : Geometry} (E : Directory G) where
   open Geometry G using (Site, Stop, D, cue, ranks)
   open Directory E using (tiles)
 
-  -- a is the place of a site of the town: "each place with D, tile × 40 + slot, and cue"
+  -- a is the place of a site of the town that ranks: "each place with D, tile × 40 + slot, and cue"
   pub record SiteOf (p : Stop) (g : Town G) (a : Place) : Type 0 where
     pub tile : ℕ
     pub slot : ℕ
@@ -43,7 +43,7 @@ module _ {G : Geometry} (E : Directory G) where
     pub blocks : All (λ t. read t ≡ accepted (g t)) opened
 
   module _ (k : ℕ) where
-    -- "the town's sites in their ranking, cut after k of them"
+    -- "the town's sites in their ranking, cut after k of them"; 02.1: "only sites with another cue rank"
     unfoldable pub firstOf : Stop → Town G → List Place
     firstOf p g = nearest G k p g (range 0 tiles)
 

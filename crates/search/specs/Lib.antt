@@ -6,4 +6,5 @@ pub mod Pruning
 pub mod Run
 pub mod FullSearch
 pub mod Claims
+pub mod Document01
 pub mod Inner

@@ -1,19 +1,16 @@
 -- Words for lists. Nothing here knows of sites or tiles.
 use Prim.Native.Nat.{ℕ, zero, suc, _+_}
-use mathlib.Core.Bool.{Bool, true, false, cond, _||_}
+use mathlib.Core.Bool.{Bool, false, cond, _||_}
 use mathlib.Core.List.{List, [], _∷_}
 use mathlib.Core.Path.{_≡_}
 use lib.Dec.{eqb}
+pub use Rattle.base.specs.HowMany.{bit}
 pub use Rattle.base.specs.Lists.{All}
 
 -- the n numbers from a on
 abbrev pub range : ℕ → ℕ → List ℕ
 range a zero = []
 range a (suc n) = a ∷ range (suc a) n
-
-abbrev pub bit : Bool → ℕ
-bit true = 1
-bit false = 0
 
 -- how many elements pass a test
 unfoldable pub count : {A : Type 0} → (A → Bool) → List A → ℕ

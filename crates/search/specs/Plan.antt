@@ -1,4 +1,4 @@
--- Document 01, the opening paragraphs: sites, boxes, tiles and towns, over any geometry.
+-- Document 01, the opening paragraphs, with 02.1: sites, boxes, tiles and towns, over any geometry.
 --
 --   slots             the slots of a tile in a site number
 --   Geometry          sites, stops and boxes, and the distances between them
@@ -48,7 +48,7 @@ near {G} E p t = G .minDist p (E .box t)
 
 -- What is assumed: facts of the tiles' boxes and of the stops in the box O.
 pub record Lawful {G : Geometry} (E : Directory G) (O : G .Box) : Type 0 where
-  -- "A tile has 0 to 40 sites", and no more of them do not rank
+  -- "A tile has 0 to 40 sites", and at most all of them do not rank
   pub size-small : (t : ℕ) → t < E .tiles → E .size t ≤ slots
   pub muted-few : (t : ℕ) → t < E .tiles → E .muted t ≤ E .size t
   -- near is the least distance: not above any, and reached by a site that ranks, with any other cue
@@ -79,13 +79,14 @@ module _ {G : Geometry} (E : Directory G) where
   unfoldable pub ranked : ℕ → ℕ
   ranked t = size t - muted t
 
-  -- a filling has "the count of its entry and .. all sites inside the box of its entry"; and as many sites that do not
-  -- rank as the directory says
+  -- a filling has "the count of its entry and .. all sites inside the box of its entry"; 02.1: "A filling of a tile
+  -- keeps both numbers", the count and how many do not rank
   pub record Fills (t : ℕ) (f : List Site) : Type 0 where
     pub counted : length f ≡ size t
-    pub silent : count (λ s. not (ranks s)) f ≡ muted t
+    pub muted-counted : count (λ s. not (ranks s)) f ≡ muted t
     pub inside : All (Inside (box t)) f
 
-  -- "A town agrees with the directory when it has T tiles, each with .."
+  -- "A town agrees with the directory when it has T tiles, each with .."; 02.1: "only when each of its tiles has the
+  -- muted number of its entry too"
   abbrev pub Agrees : Town G → Type 0
   Agrees g = (t : ℕ) → t < tiles → Fills t (g t)

@@ -1,4 +1,4 @@
--- Document 01, "The join": the ranking, the run over the stops, and what it gives out.
+-- Document 01, "The join", with 02.1: the ranking, the run over the stops, and what it gives out.
 --
 --   rank, aheadOf                   sites in their ranking; a place ahead of a key
 --   listing, tilePlaces, placesOf   the places of sites, of a tile, of some tiles of a town
@@ -85,7 +85,8 @@ module _ (G : Geometry) where
   opening (accepted f) openings rest = rest
   opening (refused number block) openings rest = record { openings = openings; outcome = refused number block }
 
--- what opens agrees with the directory: an opening tests its entries (7) and each of its sites (10)
+-- what opens agrees with the directory: an opening tests its entries (7), each of its sites (10) and how many are muted
+-- (16)
 abbrev pub Checked : {G : Geometry} → Directory G → Reading G → Type 0
 Checked {G} E read = (t : ℕ) (f : List (G .Site)) → t < E .tiles → read t ≡ accepted f → Fills E t f
 
@@ -105,7 +106,8 @@ module _ {G : Geometry} (E : Directory G) where
   unfoldable pub ahead : Stop → ℕ → Place → Bool
   ahead p t a = aheadOf a (near E p t) t
 
-  -- "the tiles that are not struck and not empty are taken by key"
+  -- "the tiles that are not struck and not empty are taken by key"; 02.1: a tile with no sounding site "is treated as
+  -- empty"
   module _ (O : G .Box) (k : ℕ) where
     unfoldable pub candidate : ℕ → Bool
     candidate t = not (pruned E O k t) && ltb 0 (ranked E t)
@@ -159,7 +161,7 @@ module _ {G : Geometry} (E : Directory G) (k : ℕ) where
       let stop = serve read p (tilesOf p) opened in
       follow stop (run tilesOf read ps (stop .openings))
 
-  -- "Places used for each stop: the smaller of k and all sites."
+  -- "Places used for each stop: the smaller of k and all sites"; 02.1: "places used counts only these", that rank
   unfoldable pub placesUsed : ℕ
   placesUsed = min k (total (λ t. true) (ranked E) (range 0 tiles))
 

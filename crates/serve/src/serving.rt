@@ -29,7 +29,7 @@ pub enum Serving {
     Refused(Refusal),
 }
 
-// Takes tile t for a stop: opens it, once a run, and puts its sites into the list.
+// Takes tile t for a stop: opens it, once a run, and puts its sites that rank into the list.
 fn take_tile(
     f: &[u8],
     h: Header,

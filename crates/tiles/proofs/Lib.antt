@@ -1,2 +1,3 @@
 pub mod Theorems
 pub mod TileLaws
+pub mod Document01

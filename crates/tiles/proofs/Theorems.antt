@@ -1,26 +1,34 @@
 -- The theorems of this crate for the reader. The call is `validate::validate`, its definition `validate`
 -- (specs/Validate), its theorem `validate-exactly` (`GoodFile`, specs/Accepted). The call inside it is
 -- `tile::open_tile`, its definition `openTile` (specs/Tile). What it accepts and gives: `opening-exactly` (`GoodTile`,
--- specs/Accepted), `opened-count`, `opened-inside`, `opening-refused`; what it depends on: `opening-depends`. f and g
--- are files, h a header, t a tile. Assumes nothing.
+-- specs/Accepted), `opened-number`, `opened-inside`, `opened-muted`, `opening-refused`; what it depends on:
+-- `opening-depends`. Of old files: `opening-then-16`, `opening-like-01`, `validate-like-01` (specs/Document01). f and g are
+-- files, h a header, t a tile. Assumes nothing.
 use Prim.Native.Nat.{ℕ, _<_}
 use mathlib.Core.Bool.{true}
 use mathlib.Core.List.{List}
 use mathlib.Core.Path.{_≡_, sym, ap, _∙_}
 use native.Mathlib.Nat.{zero-add}
+use lib.Dec.{eqb}
 use lib.ListN.{length, getD}
-use Rattle.base.specs.Refusal.{accepted, refused}
+use Rattle.base.specs.HowMany.{howMany}
+use Rattle.base.specs.Refusal.{accepted, refused, require, andThen, #muted}
 use Rattle.base.specs.Tabulate.{tabulate}
 use Rattle.blocks.specs.Block.{blockAt}
-use Rattle.blocks.specs.Directory.{boxAt, countAt}
+use Rattle.blocks.specs.Directory.{directory, boxAt, countAt, mutedAt}
+use Rattle.blocks.specs.Document01.{EntriesZero}
 use Rattle.blocks.specs.declared.header.Header.{Header}
 use Rattle.geometry.specs.Box.{inside}
-use Rattle.base.proofs.Outcomes.{accepted-injective}
+use Rattle.base.proofs.HowMany.{how-many-none}
+use Rattle.base.proofs.Outcomes.{accepted-injective, andThen-accepted}
 use Rattle.base.proofs.Tabulate.{length-tabulate, getD-tabulate}
 use Rattle.tiles.specs.Accepted.{GoodTile, GoodFile}
-use Rattle.tiles.specs.Tile.{siteIn, sitePoint, tilePosition, openTile, siteAt, sitesAt}
+use Rattle.tiles.specs.Document01.{openTile01, validate01, Audible}
+use Rattle.tiles.specs.Tile.{siteIn, sitePoint, mutedCue, mutedIn, tilePosition, openTile}
+use Rattle.tiles.specs.Tile.{siteAt, sitesAt}
 use Rattle.tiles.specs.Validate.{validate}
 use Rattle.tiles.specs.declared.tile.Site.{Site}
+use Rattle.tiles.proofs.Document01 as document01
 use Rattle.tiles.proofs.TileLaws as laws
 
 -- a file passes the full check, with the header h, exactly when its directory and all its tiles are good
@@ -44,6 +52,31 @@ module _ (f : List ℕ) (h : Header) (t : ℕ) where
   unfolding siteAt
   opened-inside e slot l = laws.open-good f h t e .inside slot l
 
+  -- 02.1: its muted sites are as many as the directory says
+  pub opened-muted : {n : ℕ} → openTile f h t ≡ accepted n →
+      howMany (λ slot. mutedCue (siteAt f h t slot .cue)) (countAt f t) ≡ mutedAt f t
+  unfolding siteAt mutedIn
+  opened-muted e = laws.open-good f h t e .muted-counted
+
+  -- 16 is the last test: an opening is that of document 01 alone, then 16. "Old files with a cue 0 must be written again":
+  -- what document 01 opens is refused, at the tile's own position, where the directory has another muted number
+  pub opening-then-16 : openTile f h t
+      ≡ andThen (openTile01 f h t) (λ n.
+      require (eqb (howMany (λ slot. mutedCue (siteAt f h t slot .cue)) (countAt f t)) (mutedAt f t)) #muted
+      (tilePosition h t) (accepted n))
+  unfolding siteAt mutedIn
+  opening-then-16 = document01.open-then-16 f h t
+
+  -- a tile that opens and has no muted site, by its cues, has none by the directory
+  pub audible-tile : {n : ℕ} → openTile f h t ≡ accepted n → Audible f h t → mutedAt f t ≡ 0
+  audible-tile e sounds =
+      let opens = andThen-accepted (openTile01 f h t) _ (sym opening-then-16 ∙ e) in
+      sym (opened-muted e) ∙ how-many-none _ (countAt f t) (λ slot l. sounds (opens .0) slot (opens .1) l)
+
+  -- one that has none by both opens as in document 01, or is refused as there
+  pub opening-like-01 : mutedAt f t ≡ 0 → Audible f h t → openTile f h t ≡ openTile01 f h t
+  opening-like-01 = document01.open-like-01 f h t
+
   -- a refused opening names the tile's own block
   pub opening-refused : {n p : ℕ} → openTile f h t ≡ refused n p → p ≡ tilePosition h t
   opening-refused = laws.open-at f h t
@@ -57,6 +90,12 @@ module _ (f : List ℕ) (h : Header) (t : ℕ) where
   unfolding sitesAt
   sites-slot d slot l = getD-tabulate (siteAt f h t) d 0 (countAt f t) slot l ∙ ap (siteAt f h t) (zero-add slot)
 
+-- 02.1 leaves old files as they were: where the last two bytes of every entry are zero and no tile that document 01
+-- opens has a cue 0, the full check is that of document 01, refusals included
+pub validate-like-01 : (f : List ℕ) → EntriesZero f →
+    ((h : Header) (t : ℕ) → directory f ≡ accepted h → t < h .tiles → Audible f h t) → validate f ≡ validate01 f
+validate-like-01 f zero sounds = document01.validate-like f zero sounds
+
 -- what an opening comes to, and the tile's sites, depend on its own block, its entry and the header alone
 module _ (f g : List ℕ) (h : Header) (t : ℕ) (block : blockAt g (tilePosition h t) ≡ blockAt f (tilePosition h t)) where
   pub site-depends : (slot : ℕ) → siteAt g h t slot ≡ siteAt f h t slot
@@ -68,6 +107,6 @@ module _ (f g : List ℕ) (h : Header) (t : ℕ) (block : blockAt g (tilePositio
     unfolding sitesAt siteAt
     sites-depend = ap (λ s. tabulate (siteIn s) 0 (countAt g t)) block ∙ ap (tabulate (siteAt f h t) 0) count
 
-    pub opening-depends : boxAt g t ≡ boxAt f t → openTile g h t ≡ openTile f h t
+    pub opening-depends : boxAt g t ≡ boxAt f t → mutedAt g t ≡ mutedAt f t → openTile g h t ≡ openTile f h t
     unfolding openTile
-    opening-depends bounds = rw (block, bounds, count)
+    opening-depends bounds muted = rw (block, bounds, count, muted)

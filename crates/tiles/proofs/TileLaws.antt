@@ -10,7 +10,7 @@ use lib.ListN.{getD}
 use borrow.Author.Tests.{eqb-true, eq-eqb}
 use Rattle.base.specs.Every.{every}
 use Rattle.base.specs.Refusal.{Outcome, accepted, refused, require, andThen, #sync, #check, #kind, #position, inTurn}
-use Rattle.base.specs.Refusal.{#entries, #padding, #stray}
+use Rattle.base.specs.Refusal.{#entries, #padding, #stray, #muted}
 use Rattle.blocks.specs.Block.{positionIn, entriesIn, kindDue, blockHead}
 use Rattle.blocks.specs.Checksum.{checkAgrees}
 use Rattle.blocks.specs.Directory.{directory, countAt}
@@ -22,7 +22,7 @@ use Rattle.blocks.proofs.BlockLaws.{head-good, head-enough}
 use Rattle.blocks.proofs.DirectoryLaws.{directory-good, directory-enough}
 use Rattle.base.proofs.Every.{every-at, every-holds}
 use Rattle.tiles.specs.Accepted.{GoodTileBlock, GoodTile, GoodFile}
-use Rattle.tiles.specs.Tile.{tileBlock, tilePadding, siteInside, tilePosition, openTile}
+use Rattle.tiles.specs.Tile.{tileBlock, tilePadding, siteInside, mutedIn, tilePosition, openTile}
 use Rattle.tiles.specs.Validate.{openAll, validate}
 
 -- what refuses at block p: a row of the table, or what comes next
@@ -48,47 +48,51 @@ head-at s p e =
     (λ e. at-require (eqb (positionIn s) p) #position p (accepted tt) e
     (λ e. accepted-refused refl e))))
 
-module _ (s : List ℕ) (p : ℕ) (bounds : List (List ℤ)) (count : ℕ) where
-  pub tile-good : {n : ℕ} → tileBlock s p bounds count ≡ accepted n → GoodTileBlock s p bounds count
+module _ (s : List ℕ) (p : ℕ) (bounds : List (List ℤ)) (count muted : ℕ) where
+  pub tile-good : {n : ℕ} → tileBlock s p bounds count muted ≡ accepted n → GoodTileBlock s p bounds count muted
   unfolding tileBlock siteInside
   tile-good e =
       let h = andThen-accepted (blockHead tileKind s p) _ e in
       let a = require-accepted _ _ _ _ (h .2) in
       let b = require-accepted _ _ _ _ (a .1) in
       let c = require-accepted _ _ _ _ (b .1) in
+      let d = require-accepted _ _ _ _ (c .1) in
       record {
         head = head-good tileKind s p (h .1);
         entries = eqb-true (entriesIn s) count (a .0);
         padding = b .0;
         inside = λ slot l. every-at (siteInside bounds s) count slot (c .0) l;
+        muted-counted = eqb-true (mutedIn s count) muted (d .0);
       }
 
-  tile-enough : GoodTileBlock s p bounds count → tileBlock s p bounds count ≡ accepted count
+  tile-enough : GoodTileBlock s p bounds count muted → tileBlock s p bounds count muted ≡ accepted count
   unfolding tileBlock siteInside
   tile-enough g =
       let v = every-holds (siteInside bounds s) count (g .inside) in
-      rw (head-enough tileKind s p (g .head), eq-eqb (entriesIn s) count (g .entries), g .padding, v)
+      let m = eq-eqb (mutedIn s count) muted (g .muted-counted) in
+      rw (head-enough tileKind s p (g .head), eq-eqb (entriesIn s) count (g .entries), g .padding, v, m)
 
-  tile-at : {n q : ℕ} → tileBlock s p bounds count ≡ refused n q → q ≡ p
+  tile-at : {n q : ℕ} → tileBlock s p bounds count muted ≡ refused n q → q ≡ p
   unfolding tileBlock
   tile-at e = at-then (blockHead tileKind s p) _ e (head-at s p)
       (λ _ e. at-require (eqb (entriesIn s) count) #entries p _ e
       (λ e. at-require (tilePadding s count) #padding p _ e
-      (λ e. at-require (every (siteInside bounds s) count) #stray p (accepted count) e
-      (λ e. accepted-refused refl e))))
+      (λ e. at-require (every (siteInside bounds s) count) #stray p _ e
+      (λ e. at-require (eqb (mutedIn s count) muted) #muted p (accepted count) e
+      (λ e. accepted-refused refl e)))))
 
 module _ (f : List ℕ) (h : Header) where
   pub open-at : (t : ℕ) {n p : ℕ} → openTile f h t ≡ refused n p → p ≡ tilePosition h t
   unfolding openTile
-  open-at t e = tile-at _ _ _ _ e
+  open-at t e = tile-at _ _ _ _ _ e
 
   pub open-good : (t : ℕ) {n : ℕ} → openTile f h t ≡ accepted n → GoodTile f h t
   unfolding openTile
-  open-good t e = tile-good _ _ _ _ e
+  open-good t e = tile-good _ _ _ _ _ e
 
   pub open-enough : (t : ℕ) → GoodTile f h t → openTile f h t ≡ accepted (countAt f t)
   unfolding openTile
-  open-enough t g = tile-enough _ _ _ _ g
+  open-enough t g = tile-enough _ _ _ _ _ g
 
 pub validate-good : (f : List ℕ) {h : Header} → validate f ≡ accepted h → GoodFile f h
 unfolding validate openAll

@@ -1,5 +1,6 @@
 pub mod Outcome
 pub mod Tile
 pub mod Validate
+pub mod Document01
 pub mod Accepted
 pub mod Inner

@@ -9,7 +9,7 @@ ghost use Rattle.blocks.specs.Layout.{axes, blockSize, payloadAt, siteSize, max
 ghost use Rattle.blocks.specs.Directory.{directory};
 ghost use Rattle.tiles.specs.Inner.Opening.{openingOutcome};
 ghost use Rattle.tiles.specs.Tile.{siteOffset, siteIn, tilePadding, siteInside, tileBlock, tilePosition};
-ghost use Rattle.tiles.specs.Tile.{openTile};
+ghost use Rattle.tiles.specs.Tile.{mutedIn, openTile};
 use base::Refusal;
 use base::both;
 use blocks::block;
@@ -21,6 +21,9 @@ use codec::reading::u16_at;
 use codec::reading::u32_at;
 use codec::reading::zeros;
 use geometry::limits::inside;
+
+// The cue of a muted site.
+pub const MUTED_CUE: u32 = 0;
 
 pub struct Site {
     pub x: i32,
@@ -64,6 +67,28 @@ pub fn site_in(s: &[u8], slot: usize) -> Site
     Site { x, y, cue }
 }
 
+// The cue of the site of a slot.
+fn cue_in(s: &[u8], slot: usize) -> u32
+    requires { ⌜ (slot < maxSites axes) × (length (now s) ≡ blockSize) ⌝ }
+    ensures { λ r. ⌜ r ≡ siteIn (now (s .entry)) slot .cue ⌝ }
+{
+    u32_at(s, site_offset(slot) + layout::CUE_OFFSET)
+}
+
+// How many of the first n sites are muted, counted without a branch.
+fn muted_in(s: &[u8], n: usize) -> usize
+    requires { ⌜ (n ≤ maxSites axes) × (length (now s) ≡ blockSize) ⌝ }
+    ensures { λ r. ⌜ r ≡ mutedIn (now (s .entry)) n ⌝ }
+{
+    let mut muted: usize = 0;
+    let mut slot: usize = 0;
+    while slot < n {
+        muted += (cue_in(s, slot) == MUTED_CUE) as usize;
+        slot += 1;
+    }
+    muted
+}
+
 // Test 8, of a tile with n sites.
 fn tile_padding(s: &[u8], n: usize) -> bool
     requires { ⌜ (n ≤ maxSites axes) × (length (now s) ≡ blockSize) ⌝ }
@@ -101,10 +126,10 @@ fn sites_inside(bounds: [[i32; 2]; 2], s: &[u8], n: usize) -> bool
     true
 }
 
-// A tile's block, by box and count of its entry: the first test that fails decides.
-fn tile_block(s: &[u8], p: usize, bounds: [[i32; 2]; 2], count: usize) -> Opening
+// A tile's block, by box, count and muted number of its entry: the first test that fails decides.
+fn tile_block(s: &[u8], p: usize, bounds: [[i32; 2]; 2], count: usize, muted: usize) -> Opening
     requires { ⌜ (length (now s) ≡ blockSize) × (p < limit16) × (count ≤ maxSites axes) ⌝ }
-    ensures { λ r. ⌜ openingOutcome r ≡ tileBlock (now (s .entry)) p bounds count ⌝ }
+    ensures { λ r. ⌜ openingOutcome r ≡ tileBlock (now (s .entry)) p bounds count muted ⌝ }
 {
     let head = block::head_number(s, layout::TILE_KIND, p);
     if head != 0 {
@@ -118,6 +143,9 @@ fn tile_block(s: &[u8], p: usize, bounds: [[i32; 2]; 2], count: usize) -> Openin
     }
     if !sites_inside(bounds, s, count) {
         return refused(base::STRAY, p);
+    }
+    if muted_in(s, count) != muted {
+        return refused(base::MUTED, p);
     }
     Opening::Opened(count)
 }
@@ -138,5 +166,6 @@ pub fn open_tile(f: &[u8], h: Header, t: usize) -> Opening
     let p = tile_position(f, h, t);
     let bounds = directory::box_at(f, h, t);
     let count = directory::count_at(f, h, t);
-    tile_block(block::block_at(f, p), p, bounds, count)
+    let muted = directory::muted_at(f, h, t);
+    tile_block(block::block_at(f, p), p, bounds, count, muted)
 }

@@ -14,15 +14,15 @@ use Rattle.base.specs.Lists.{All}
 use Rattle.base.specs.Tabulate.{tabulate, joined}
 use Rattle.blocks.specs.Block.{positionIn, entriesIn, headerIn}
 use Rattle.blocks.specs.Checksum.{sums, checkAgrees}
-use Rattle.blocks.specs.Directory.{entryOffset, entryNumber, entryBox, entryCount, entryZero}
+use Rattle.blocks.specs.Directory.{entryOffset, entryNumber, entryBox, entryCount, entryMuted}
 use Rattle.blocks.specs.Layout.{axes, positionAt, entriesAt, tilesAt, countOffset, blockSize, syncByte, kindAt}
-use Rattle.blocks.specs.Layout.{numberOffset, reservedAt, cueOffset, payloadAt, checkAt, zeroOffset, entrySize}
+use Rattle.blocks.specs.Layout.{numberOffset, reservedAt, cueOffset, payloadAt, checkAt, mutedOffset}
 use Rattle.blocks.specs.declared.checksum.Sums.{Sums}
 use Rattle.codec.specs.Bytes.{bytes, bytes16, bytes32, bytesSigned}
 use Rattle.codec.specs.Zeros.{zeros}
 use Rattle.codec.specs.Number.{limit16, Bytes}
 use Rattle.encode.specs.Encode.{headBytes, checkBytes, bodyBytes, blockBytes, boxBytes, entryBytes, siteBytes}
-use Rattle.encode.specs.Supply.{numbersPerBox, boxNumber, boxOf, countOf, suppliedSite}
+use Rattle.encode.specs.Supply.{numbersPerBox, boxNumber, boxOf, countOf, offset, mutedOf, suppliedSite}
 use Rattle.geometry.specs.Around.{row}
 use Rattle.tiles.specs.Tile.{siteOffset, siteIn, sitePoint}
 use Rattle.tiles.specs.declared.tile.Site.{Site}
@@ -33,6 +33,7 @@ use Rattle.codec.proofs.Holds.{Holds, holds-run, holds-cons, holds-head, holds-
 use Rattle.codec.proofs.Holds.{holds-append, holds-each, holds-joined, zeros-held, held-zeros}
 use Rattle.base.proofs.Lists.{two}
 use Rattle.encode.proofs.EncodeLaws.{length-head, length-body, sums-body}
+use Rattle.encode.proofs.SupplyLaws.{muted-most}
 use Rattle.writer.specs.Made.{Signed, Unsigned, boxNumbers}
 
 pub record Fields (s : List ℕ) (kind p n t : ℕ) (payload : List ℕ) : Type 0 where
@@ -144,7 +145,7 @@ module _ (s : List ℕ) (size : length s ≡ blockSize) where
           holds-append s 0 body (checkBytes body) e b (check-held body m b (g .check))
 
 -- ---- the entry of tile t, as entry i of a block
-module _ (s : List ℕ) (i : ℕ) (boxes : List ℤ) (counts : List ℕ) (t : ℕ) where
+module _ (s : List ℕ) (i : ℕ) (boxes : List ℤ) (counts cues : List ℕ) (t : ℕ) where
   abbrev end : ℕ → List ℕ
   end n = bytesSigned (boxNumber boxes t n)
 
@@ -164,37 +165,37 @@ module _ (s : List ℕ) (i : ℕ) (boxes : List ℤ) (counts : List ℕ) (t : �
       ∙ ap bytesSigned (sym (getD-tabulate (entryNumber s i) (pos 0) 0 numbersPerBox n l)
       ∙ ap (λ b. getD (boxNumbers b) n (pos 0)) e ∙ getD-tabulate (boxNumber boxes t) (pos 0) 0 numbersPerBox n l)))
 
-  pub entry-read : Signed boxes → countOf counts t < limit16 → Holds s (entryOffset i) (entryBytes boxes counts t) →
+  pub entry-read : Signed boxes → countOf counts t < limit16 →
+      Holds s (entryOffset i) (entryBytes boxes counts cues t) →
       (entryBox s i ≡ boxOf boxes t)
       × (entryCount s i ≡ countOf counts t)
-      × (entryZero s i ≡ true)
-  unfolding entryCount entryZero entryBytes boxBytes joined bytesSigned bytes32 bytes16 bytes
+      × (entryMuted s i ≡ mutedOf counts cues t)
+  unfolding entryCount entryMuted entryBytes boxBytes joined bytesSigned bytes32 bytes16 bytes
   entry-read signed small h =
       let at = entryOffset i in
       let four = boxBytes boxes t in
       let count = bytes16 (countOf counts t) in
-      let gap : List ℕ = replicate (entrySize axes - zeroOffset axes) 0 in
-      let g = holds-left s at (four ++ count) gap h in
-      let z : at + entrySize axes - (at + zeroOffset axes) ≡ entrySize axes - zeroOffset axes = omega arith in (
+      let muted = bytes16 (mutedOf counts cues t) in
+      let g = holds-left s at (four ++ count) muted h in
+      let most = muted-most cues (offset counts t) (countOf counts t) in
+      let few : mutedOf counts cues t < limit16 = omega (arith, most) in (
         box-read signed (holds-left s at four count g),
         read-16 s (at + countOffset axes) small (holds-right s at four count refl g),
-        held-zeros s (at + zeroOffset axes) (at + entrySize axes)
-            (holds-run (holds-right s at (four ++ count) gap refl h) (ap (λ k. replicate k 0) (sym z))),
+        read-16 s (at + mutedOffset axes) few (holds-right s at (four ++ count) muted refl h),
       )
 
-  pub entry-held : Bytes s → entryBox s i ≡ boxOf boxes t → entryCount s i ≡ countOf counts t → entryZero s i ≡ true →
-      Holds s (entryOffset i) (entryBytes boxes counts t)
-  unfolding entryCount entryZero entryBytes boxBytes joined bytesSigned bytes32 bytes16 bytes
-  entry-held byte box number null =
+  pub entry-held : Bytes s → entryBox s i ≡ boxOf boxes t → entryCount s i ≡ countOf counts t →
+      entryMuted s i ≡ mutedOf counts cues t → Holds s (entryOffset i) (entryBytes boxes counts cues t)
+  unfolding entryCount entryMuted entryBytes boxBytes joined bytesSigned bytes32 bytes16 bytes
+  entry-held byte box number muted-number =
       let at = entryOffset i in
       let four = boxBytes boxes t in
       let count = bytes16 (countOf counts t) in
-      let gap : List ℕ = replicate (entrySize axes - zeroOffset axes) 0 in
-      let z : at + entrySize axes - (at + zeroOffset axes) ≡ entrySize axes - zeroOffset axes = omega arith in
+      let muted = bytes16 (mutedOf counts cues t) in
       let g = holds-append s at four count refl (box-held byte box)
       (holds-run (held-16 s (at + countOffset axes) byte) (ap bytes16 number)) in
-      holds-append s at (four ++ count) gap refl g
-      (holds-run (zeros-held s (at + zeroOffset axes) (at + entrySize axes) null) (ap (λ k. replicate k 0) z))
+      holds-append s at (four ++ count) muted refl g
+      (holds-run (held-16 s (at + mutedOffset axes) byte) (ap bytes16 muted-number))
 
 -- ---- site i of the lists, as the site of a slot of a block
 pub row-signed : (spots : List (List ℤ)) → All Signed spots → (i : ℕ) → Signed (row spots i)

@@ -13,7 +13,7 @@ use Rattle.base.specs.Lists.{All}
 use Rattle.base.specs.Tabulate.{joined}
 use Rattle.blocks.specs.Accepted.{GoodHead, GoodDirectoryBlock}
 use Rattle.blocks.specs.Block.{headerIn, kindDue}
-use Rattle.blocks.specs.Directory.{directoryBlocks, entriesDue, entryOffset, entryBox, entryCount, entryZero}
+use Rattle.blocks.specs.Directory.{directoryBlocks, entriesDue, entryOffset, entryBox, entryCount, entryMuted}
 use Rattle.blocks.specs.Directory.{directoryPadding}
 use Rattle.blocks.specs.Layout.{axes, blockSize, kindAt, tilesAt, reservedAt, payloadAt, checkAt, entrySize}
 use Rattle.blocks.specs.Layout.{entriesPerBlock, siteSize, maxSites, maxTiles, directoryKind, tileKind}
@@ -21,18 +21,19 @@ use Rattle.blocks.specs.declared.header.Header.{Header}
 use Rattle.codec.specs.Zeros.{zeros}
 use Rattle.codec.specs.Number.{limit16, Bytes, u16At}
 use Rattle.encode.specs.Encode.{entryBytes, siteBytes, directoryBytes, tileBytes}
-use Rattle.encode.specs.Supply.{headerOf, boxOf, countOf, suppliedSite}
+use Rattle.encode.specs.Supply.{headerOf, boxOf, countOf, offset, mutedFrom, mutedOf, suppliedSite}
 use Rattle.geometry.specs.Around.{row}
 use Rattle.geometry.specs.Box as geometry
 use Rattle.tiles.specs.Accepted.{GoodTileBlock}
-use Rattle.tiles.specs.Tile.{siteOffset, siteIn, sitePoint, tilePadding}
+use Rattle.tiles.specs.Tile.{siteOffset, siteIn, sitePoint, mutedCue, mutedIn, tilePadding}
 use Rattle.tiles.specs.declared.tile.Site.{Site}
 use Rattle.base.proofs.Tests.{and-both, both-and, by-test}
-use Rattle.base.proofs.Every.{every-at, every-holds}
+use Rattle.base.proofs.HowMany.{how-many-same}
 use Rattle.codec.proofs.Zeros.{zeros-at, zeros-hold}
 use Rattle.codec.proofs.Holds.{Holds, holds-each, holds-joined}
 use Rattle.encode.proofs.EncodeLaws.{length-entry, length-site, length-entries, length-sites, due-few, due-within}
 use Rattle.encode.proofs.EncodeLaws.{blocks-few}
+use Rattle.encode.proofs.SupplyLaws.{muted-most}
 use Rattle.writer.specs.Made.{Signed, Unsigned}
 use Rattle.writer.proofs.BlockFields.{Fields, fields-read, fields-held, entry-read, entry-held, site-read}
 use Rattle.writer.proofs.BlockFields.{site-held, row-signed, supplied-point}
@@ -54,46 +55,46 @@ module _ {s : List ℕ} {kind p : ℕ} where
 
 -- ---- a directory block
 -- its entries are those of its tiles
-abbrev pub Entries : List ℤ → List ℕ → List ℕ → ℕ → Type 0
-Entries boxes counts s p = (i : ℕ) → i < entriesDue (headerOf counts) p →
+abbrev pub Entries : List ℤ → List ℕ → List ℕ → List ℕ → ℕ → Type 0
+Entries boxes counts cues s p = (i : ℕ) → i < entriesDue (headerOf counts) p →
     (entryBox s i ≡ boxOf boxes (entriesPerBlock axes * p + i))
     × (entryCount s i ≡ countOf counts (entriesPerBlock axes * p + i))
+    × (entryMuted s i ≡ mutedOf counts cues (entriesPerBlock axes * p + i))
 
-module _ (boxes : List ℤ) (counts : List ℕ) (s : List ℕ) (p : ℕ) (size : length s ≡ blockSize) where
+module _ (boxes : List ℤ) (counts cues : List ℕ) (s : List ℕ) (p : ℕ) (size : length s ≡ blockSize) where
   payload : List ℕ
-  payload = joined (entryBytes boxes counts) (entriesPerBlock axes * p) (entriesDue (headerOf counts) p)
+  payload = joined (entryBytes boxes counts cues) (entriesPerBlock axes * p) (entriesDue (headerOf counts) p)
 
   entries-fit : payloadAt + length payload ≤ checkAt
   unfolding payload
   entries-fit =
       omega (
         arith,
-        length-entries boxes counts (entriesPerBlock axes * p) (entriesDue (headerOf counts) p),
+        length-entries boxes counts cues (entriesPerBlock axes * p) (entriesDue (headerOf counts) p),
         due-few (headerOf counts) p,
       )
 
   payload-end : payloadAt + length payload ≡ entryOffset (entriesDue (headerOf counts) p)
   unfolding payload entryOffset
-  payload-end = omega (arith, length-entries boxes counts (entriesPerBlock axes * p) (entriesDue (headerOf counts) p))
+  payload-end =
+      let n = entriesDue (headerOf counts) p in
+      omega (arith, length-entries boxes counts cues (entriesPerBlock axes * p) n)
 
   module _ (signed : Signed boxes) (few : length counts ≤ maxTiles) (here : p < directoryBlocks (headerOf counts))
       (small : (t : ℕ) → t < length counts → countOf counts t ≤ maxSites axes)
       (valid : (t : ℕ) → t < length counts → geometry.validBox (boxOf boxes t) ≡ true) where
-    entries-read : Holds s payloadAt payload → (i : ℕ) → i < entriesDue (headerOf counts) p →
-        (entryBox s i ≡ boxOf boxes (entriesPerBlock axes * p + i))
-        × (entryCount s i ≡ countOf counts (entriesPerBlock axes * p + i))
-        × (entryZero s i ≡ true)
+    entries-read : Holds s payloadAt payload → Entries boxes counts cues s p
     unfolding payload entryOffset
     entries-read h i l =
         let t = entriesPerBlock axes * p + i in
         let k : t < length counts = omega (arith, due-within (headerOf counts) p here) in
-        entry-read s i boxes counts t signed (omega (arith, small t k))
-        (holds-each s (entryBytes boxes counts) (entrySize axes) payloadAt (entriesPerBlock axes * p)
+        entry-read s i boxes counts cues t signed (omega (arith, small t k))
+        (holds-each s (entryBytes boxes counts cues) (entrySize axes) payloadAt (entriesPerBlock axes * p)
         (entriesDue (headerOf counts) p)
-        (λ j m. length-entry boxes counts (entriesPerBlock axes * p + j)) h i l)
+        (λ j m. length-entry boxes counts cues (entriesPerBlock axes * p + j)) h i l)
 
-    pub directory-read : Holds s 0 (directoryBytes boxes counts p) →
-        GoodDirectoryBlock s p (headerOf counts) × Entries boxes counts s p
+    pub directory-read : Holds s 0 (directoryBytes boxes counts cues p) →
+        GoodDirectoryBlock s p (headerOf counts) × Entries boxes counts cues s p
     unfolding directoryBytes payload directoryPadding
     directory-read h =
         let n = entriesDue (headerOf counts) p in
@@ -107,32 +108,32 @@ module _ (boxes : List ℤ) (counts : List ℕ) (s : List ℕ) (p : ℕ) (size :
             head = head-of g;
             header = ap (λ t. record { tiles = t }) (g .tiles);
             entries = g .entries;
-            padding = both-and (both-and (g .reserved) (every-holds (entryZero s) n (λ i l. e i l .2)))
-                (ap (λ k. zeros s k checkAt) (sym payload-end) ∙ g .unused);
+            padding = both-and (g .reserved) (ap (λ k. zeros s k checkAt) (sym payload-end) ∙ g .unused);
             boxes = λ i l. rw (e i l .0) (valid (entriesPerBlock axes * p + i) (tile i l));
             counts = λ i l. rw (e i l .1) (small (entriesPerBlock axes * p + i) (tile i l));
+            muted = λ i l. rw (e i l .1, e i l .2) (muted-most cues (offset counts (entriesPerBlock axes * p + i))
+                (countOf counts (entriesPerBlock axes * p + i)));
           },
-          λ i l. (e i l .0, e i l .1),
+          e,
         )
 
-  pub directory-held : Bytes s → GoodDirectoryBlock s p (headerOf counts) → Entries boxes counts s p →
-      Holds s 0 (directoryBytes boxes counts p)
+  pub directory-held : Bytes s → GoodDirectoryBlock s p (headerOf counts) → Entries boxes counts cues s p →
+      Holds s 0 (directoryBytes boxes counts cues p)
   unfolding directoryBytes payload directoryPadding entryOffset
   directory-held byte g e =
       let n = entriesDue (headerOf counts) p in
       let z = and-both _ _ (g .padding) in
-      let y = and-both _ _ (z .0) in
       fields-held s size directoryKind p n (length counts) payload entries-fit byte (record {
         sync = g .head .sync;
         kinds = kind-of (g .head);
         position = g .head .position;
         entries = g .entries;
         tiles = ap (λ (h : Header). h .tiles) (g .header);
-        reserved = y .0;
-        held = holds-joined s (entryBytes boxes counts) (entrySize axes) payloadAt (entriesPerBlock axes * p) n
-            (λ j m. length-entry boxes counts (entriesPerBlock axes * p + j))
-            (λ i l. entry-held s i boxes counts (entriesPerBlock axes * p + i) byte (e i l .0) (e i l .1)
-            (every-at (entryZero s) n i (y .1) l));
+        reserved = z .0;
+        held = holds-joined s (entryBytes boxes counts cues) (entrySize axes) payloadAt (entriesPerBlock axes * p) n
+            (λ j m. length-entry boxes counts cues (entriesPerBlock axes * p + j))
+            (λ i l.
+            entry-held s i boxes counts cues (entriesPerBlock axes * p + i) byte (e i l .0) (e i l .1) (e i l .2));
         unused = ap (λ k. zeros s k checkAt) payload-end ∙ z .1;
         check = g .head .check;
       })
@@ -163,6 +164,12 @@ module _ (s : List ℕ) where
 abbrev pub Sites : List (List ℤ) → List ℕ → List ℕ → ℕ → ℕ → Type 0
 Sites spots cues s first n = (slot : ℕ) → slot < n → siteIn s slot ≡ suppliedSite spots cues (first + slot)
 
+-- so that as many of them are muted
+pub sites-muted : (spots : List (List ℤ)) (cues s : List ℕ) (first n : ℕ) → Sites spots cues s first n →
+    mutedIn s n ≡ mutedFrom cues first n
+unfolding mutedIn mutedFrom
+sites-muted spots cues s first n e = how-many-same _ _ n (λ slot l. ap (λ (q : Site). mutedCue (q .cue)) (e slot l))
+
 module _ (spots : List (List ℤ)) (cues : List ℕ) (s : List ℕ) (p first n : ℕ) (size : length s ≡ blockSize)
     (few : n ≤ maxSites axes) where
   sites : List ℕ
@@ -178,7 +185,8 @@ module _ (spots : List (List ℤ)) (cues : List ℕ) (s : List ℕ) (p first n :
 
   pub tile-read : All Signed spots → length spots ≡ axes → Unsigned cues → p < limit16 → (bounds : List (List ℤ)) →
       ((slot : ℕ) → slot < n → geometry.inside bounds (row spots (first + slot)) ≡ true) →
-      Holds s 0 (tileBytes spots cues p first n) → GoodTileBlock s p bounds n × Sites spots cues s first n
+      Holds s 0 (tileBytes spots cues p first n) →
+      GoodTileBlock s p bounds n (mutedFrom cues first n) × Sites spots cues s first n
   unfolding tileBytes sites tilePadding siteOffset
   tile-read sp a sc lp bounds inside h =
       let g = fields-read s size tileKind p n 0 sites sites-fit lp (omega arith) (omega arith) h in
@@ -193,12 +201,13 @@ module _ (spots : List (List ℤ)) (cues : List ℕ) (s : List ℕ) (p first n :
               ∙ g .unused);
           inside = λ slot l. ap (λ (q : Site). geometry.inside bounds (sitePoint q)) (e slot l)
               ∙ ap (geometry.inside bounds) (supplied-point spots cues (first + slot) a) ∙ inside slot l;
+          muted-counted = sites-muted spots cues s first n e;
         },
         e,
       )
 
-  pub tile-held : Bytes s → {bounds : List (List ℤ)} → GoodTileBlock s p bounds n → Sites spots cues s first n →
-      Holds s 0 (tileBytes spots cues p first n)
+  pub tile-held : Bytes s → {bounds : List (List ℤ)} {muted : ℕ} → GoodTileBlock s p bounds n muted →
+      Sites spots cues s first n → Holds s 0 (tileBytes spots cues p first n)
   unfolding tileBytes sites tilePadding siteOffset
   tile-held byte g e =
       let z = and-both _ _ (g .padding) in

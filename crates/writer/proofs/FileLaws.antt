@@ -9,13 +9,13 @@ use lib.ListN.{length, length-append}
 use Rattle.base.specs.Tabulate.{joined}
 use Rattle.blocks.specs.Accepted.{GoodDirectoryBlock}
 use Rattle.blocks.specs.Block.{blockAt}
-use Rattle.blocks.specs.Directory.{directoryBlocks, boxAt, countAt}
+use Rattle.blocks.specs.Directory.{directoryBlocks, boxAt, countAt, mutedAt}
 use Rattle.blocks.specs.Layout.{axes, blockSize, entriesPerBlock, maxSites}
 use Rattle.codec.specs.Number.{Bytes}
 use Rattle.encode.specs.Encode.{directoryBytes, tileBytesOf, fileBytes, fileLength}
-use Rattle.encode.specs.Supply.{Supply, headerOf, tilesOf, boxOf, countOf, offset, siteOf}
+use Rattle.encode.specs.Supply.{Supply, headerOf, tilesOf, boxOf, countOf, offset, mutedOf, siteOf}
 use Rattle.tiles.specs.Accepted.{GoodTileBlock, GoodFile}
-use Rattle.tiles.specs.Tile.{siteIn, tilePosition, siteAt}
+use Rattle.tiles.specs.Tile.{siteIn, mutedIn, tilePosition, siteAt}
 use Rattle.base.proofs.Joined.{length-joined}
 use Rattle.blocks.proofs.BlockLaws as blocks
 use Rattle.blocks.proofs.BlockLaws.{block-bytes}
@@ -25,7 +25,7 @@ use Rattle.codec.proofs.Holds.{holds-each, holds-joined}
 use Rattle.encode.proofs.EncodeLaws.{length-directory-block, length-tile-block, due-few, due-within, blocks-few}
 use Rattle.writer.specs.Accepted.{GoodSupply}
 use Rattle.writer.specs.Made.{Typed}
-use Rattle.writer.proofs.BlockRound.{Entries, directory-read, directory-held, tile-read, tile-held}
+use Rattle.writer.proofs.BlockRound.{Entries, directory-read, directory-held, sites-muted, tile-read, tile-held}
 
 -- what is read from a file is what these lists say: box and count of each tile, and the site of each slot
 pub record Reads (f : List ℕ) (s : Supply) : Type 0 where
@@ -44,7 +44,7 @@ entry-of p i l = (omega arith, omega arith)
 
 module _ (s : Supply) where
   abbrev directoryPart : ℕ → List ℕ
-  directoryPart = directoryBytes (s .boxes) (s .counts)
+  directoryPart = directoryBytes (s .boxes) (s .counts) (s .cues)
 
   abbrev tile : ℕ → List ℕ
   tile = tileBytesOf (s .counts) (s .spots) (s .cues)
@@ -52,7 +52,7 @@ module _ (s : Supply) where
   length-all : length (joined directoryPart 0 (directoryBlocks (headerOf (s .counts))))
       ≡ blockSize * directoryBlocks (headerOf (s .counts))
   length-all = length-joined directoryPart blockSize 0 (directoryBlocks (headerOf (s .counts)))
-      (λ i l. length-directory-block (s .boxes) (s .counts) (0 + i))
+      (λ i l. length-directory-block (s .boxes) (s .counts) (s .cues) (0 + i))
 
   module _ (few : (t : ℕ) → t < tilesOf s → countOf (s .counts) t ≤ maxSites axes) where
     length-tile : (t : ℕ) → t < tilesOf s → length (tile t) ≡ blockSize
@@ -83,8 +83,8 @@ module _ (s : Supply) where
           let g = holds-left f 0 (joined directoryPart 0 (directoryBlocks (headerOf (s .counts))))
           (joined tile 0 (tilesOf s)) h in
           let e = holds-each f directoryPart blockSize 0 0 (directoryBlocks (headerOf (s .counts)))
-          (λ i m. length-directory-block (s .boxes) (s .counts) (0 + i)) g p l in
-          let m = length-directory-block (s .boxes) (s .counts) p in
+          (λ i m. length-directory-block (s .boxes) (s .counts) (s .cues) (0 + i)) g p l in
+          let m = length-directory-block (s .boxes) (s .counts) (s .cues) p in
           holds-part (holds-run e (ap directoryPart (zero-add p))) blockSize (blockSize * p) 0 (omega arith)
           (omega arith)
 
@@ -107,8 +107,9 @@ module _ (s : Supply) where
           let d = directoryBlocks (headerOf (s .counts)) in
           let u : blockSize * d ≡ 0 + length (joined directoryPart 0 d) = omega (arith, length-all) in
           holds-append f 0 (joined directoryPart 0 d) (joined tile 0 (tilesOf s)) u
-          (holds-joined f directoryPart blockSize 0 0 d (λ i m. length-directory-block (s .boxes) (s .counts) (0 + i))
-          (λ p l. let m = length-directory-block (s .boxes) (s .counts) p in
+          (holds-joined f directoryPart blockSize 0 0 d
+          (λ i m. length-directory-block (s .boxes) (s .counts) (s .cues) (0 + i))
+          (λ p l. let m = length-directory-block (s .boxes) (s .counts) (s .cues) p in
           holds-run (part-holds blockSize (blockSize * p) (h p l) (omega arith) (omega arith))
           (ap directoryPart (sym (zero-add p)))))
           (holds-joined f tile blockSize (blockSize * d) 0 (tilesOf s) tile-width
@@ -126,24 +127,25 @@ module _ (s : Supply) (g : GoodSupply s) (typed : Typed s) (f : List ℕ)
 
   directory-at : (p : ℕ) → p < directoryBlocks (headerOf (s .counts)) →
       GoodDirectoryBlock (blockAt f p) p (headerOf (s .counts))
-      × Entries (s .boxes) (s .counts) (blockAt f p) p
+      × Entries (s .boxes) (s .counts) (s .cues) (blockAt f p) p
   directory-at p l =
-      directory-read (s .boxes) (s .counts) (blockAt f p) p (fits p (omega arith)) (typed .boxes) (g .most)
+      directory-read (s .boxes) (s .counts) (s .cues) (blockAt f p) p (fits p (omega arith)) (typed .boxes) (g .most)
       l (g .counts)
       (g .boxes)
       (file-directory s (g .counts) f h p l)
 
   entry-at : (t : ℕ) → t < tilesOf s → (boxAt f t ≡ boxOf (s .boxes) t) × (countAt f t ≡ countOf (s .counts) t)
-  unfolding boxAt countAt
+      × (mutedAt f t ≡ mutedOf (s .counts) (s .cues) t)
+  unfolding boxAt countAt mutedAt
   entry-at t l =
       let e = directory-at (t / entriesPerBlock axes) (entry-block (headerOf (s .counts)) t l) .1
       (t % entriesPerBlock axes)
       (entry-due (headerOf (s .counts)) t l) in
       let q = tile-entry t in
-      (e .0 ∙ ap (boxOf (s .boxes)) q, e .1 ∙ ap (countOf (s .counts)) q)
+      (e .0 ∙ ap (boxOf (s .boxes)) q, e .1 ∙ ap (countOf (s .counts)) q, e .2 ∙ ap (mutedOf (s .counts) (s .cues)) q)
 
   tile-at : (t : ℕ) (l : t < tilesOf s) → let p = tilePosition (headerOf (s .counts)) t in
-      GoodTileBlock (blockAt f p) p (boxOf (s .boxes) t) (countOf (s .counts) t)
+      GoodTileBlock (blockAt f p) p (boxOf (s .boxes) t) (countOf (s .counts) t) (mutedOf (s .counts) (s .cues) t)
       × ((slot : ℕ) → slot < countOf (s .counts) t → siteIn (blockAt f p) slot ≡ siteOf s t slot)
   unfolding tileBytesOf tilePosition
   tile-at t l =
@@ -161,6 +163,9 @@ module _ (s : Supply) (g : GoodSupply s) (typed : Typed s) (f : List ℕ)
     site = λ t slot l k. tile-at t l .1 slot k;
   }
 
+  pub written-muted : (t : ℕ) → t < tilesOf s → mutedAt f t ≡ mutedOf (s .counts) (s .cues) t
+  written-muted t l = entry-at t l .2
+
   pub written-good : GoodFile f (headerOf (s .counts))
   unfolding fileLength directoryBlocks
   written-good = record {
@@ -173,21 +178,21 @@ module _ (s : Supply) (g : GoodSupply s) (typed : Typed s) (f : List ℕ)
       tiles = record { least = g .least; most = g .most; sum = omega (arith, size) };
       blocks = λ p l. directory-at p l .0;
     };
-    opened = λ t l. let e = entry-at t l in rw (e .0, e .1) (tile-at t l .0);
+    opened = λ t l. let e = entry-at t l in rw (e .0, e .1, e .2) (tile-at t l .0);
   }
 
 -- ---- what is read, written
 pub good-holds : (f : List ℕ) (s : Supply) → Bytes f → GoodFile f (headerOf (s .counts)) → Reads f s →
     Holds f 0 (fileBytes s)
-unfolding boxAt countAt siteAt tileBytesOf tilePosition
+unfolding boxAt countAt mutedAt siteAt tileBytesOf tilePosition
 good-holds f s byte g r =
     blocks-file s few f
-    (λ p l. directory-held (s .boxes) (s .counts) (blockAt f p) p (size p (omega arith)) (block-bytes f p byte)
-    (g .directory .blocks p l)
+    (λ p l. directory-held (s .boxes) (s .counts) (s .cues) (blockAt f p) p (size p (omega arith))
+    (block-bytes f p byte) (g .directory .blocks p l)
     (λ i k. let a = entry-of p i (omega (arith, due-few (headerOf (s .counts)) p)) in
     let t = entriesPerBlock axes * p + i in
     let m : t < tilesOf s = omega (arith, due-within (headerOf (s .counts)) p l) in
-    (rw (a .0, a .1) at (r .box t m), rw (a .0, a .1) at (r .count t m))))
+    (rw (a .0, a .1) at (r .box t m), rw (a .0, a .1) at (r .count t m), rw (a .0, a .1) at (muted-number t m))))
     (λ t l. let p = tilePosition (headerOf (s .counts)) t in
     tile-held (s .spots) (s .cues) (blockAt f p) p (offset (s .counts) t) (countOf (s .counts) t)
     (size p (position t l)) (few t l) (block-bytes f p byte)
@@ -195,6 +200,13 @@ good-holds f s byte g r =
   where
     few : (t : ℕ) → t < tilesOf s → countOf (s .counts) t ≤ maxSites axes
     few t l = rw (r .count t l) at (count-small (g .directory) t l)
+
+    muted-number : (t : ℕ) → t < tilesOf s → mutedAt f t ≡ mutedOf (s .counts) (s .cues) t
+    muted-number t l =
+        let p = tilePosition (headerOf (s .counts)) t in
+        sym (g .opened t l .muted-counted) ∙ ap (mutedIn (blockAt f p)) (r .count t l)
+        ∙ sites-muted (s .spots) (s .cues) (blockAt f p) (offset (s .counts) t) (countOf (s .counts) t)
+        (λ slot k. r .site t slot l k)
 
     size : (p : ℕ) → p < directoryBlocks (headerOf (s .counts)) + tilesOf s → length (blockAt f p) ≡ blockSize
     size p l = blocks.length-block f p (block-fits (g .directory) p l)

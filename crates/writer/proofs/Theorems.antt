@@ -1,23 +1,25 @@
 -- The theorems of this crate for the reader. The call is `write::write`, its definitions `writeCall` and `writeExit`
 -- (specs/Write). What it accepts: `write-exactly` (`GoodSupply`, specs/Accepted); what it leaves: `written-file`,
 -- `written-passes`. Demand 2: `passes-exactly` (`Made`, specs/Made), with `read-back`, `only-town`, `different-towns`.
--- s is the lists, f the file, h its header. Assumes nothing.
+-- Of old files: `bytes-like-01`. s is the lists, f the file, h its header. Assumes nothing.
 use Prim.Native.Nat.{ℕ, _<_, _≤_}
+use mathlib.Core.Bool.{false}
 use mathlib.Core.List.{List, _++_}
 use mathlib.Core.Path.{_≡_, refl, sym, ap, _∙_}
 use native.Mathlib.Nat.{zero-add}
 use native.Mathlib.Omega.{arith}
-use lib.ListN.{length, take, drop}
+use lib.ListN.{length, getD, take, drop}
 use lib.Seq.{take-at, drop-at}
 use Rattle.base.specs.Refusal.{accepted}
 use Rattle.base.specs.Tabulate.{tabulate}
-use Rattle.blocks.specs.Directory.{boxAt, countAt}
+use Rattle.blocks.specs.Directory.{boxAt, countAt, mutedAt}
 use Rattle.blocks.specs.declared.header.Header.{Header}
 use Rattle.codec.specs.Number.{Bytes}
+use Rattle.encode.specs.Document01.{fileBytes01}
 use Rattle.encode.specs.Encode.{fileBytes, fileLength}
-use Rattle.encode.specs.Supply.{Supply, headerOf, tilesOf, boxOf, countOf, siteOf}
+use Rattle.encode.specs.Supply.{Supply, headerOf, tilesOf, boxOf, countOf, siteTotal, mutedOf, siteOf}
 use Rattle.tiles.specs.Accepted.{GoodFile}
-use Rattle.tiles.specs.Tile.{siteAt, sitesAt}
+use Rattle.tiles.specs.Tile.{mutedCue, siteAt, sitesAt}
 use Rattle.tiles.specs.Validate.{validate}
 use Rattle.base.proofs.Outcomes.{accepted-injective, andThen-accepted}
 use Rattle.base.proofs.Over.{over-eq}
@@ -27,7 +29,8 @@ use Rattle.tiles.proofs.Theorems.{validate-exactly}
 use Rattle.writer.specs.Accepted.{GoodSupply}
 use Rattle.writer.specs.Made.{Typed, Made, supplyOf}
 use Rattle.writer.specs.Write.{writeTests, writeCall, writeExit}
-use Rattle.writer.proofs.FileLaws.{Reads, length-file, written-reads, written-good, good-holds}
+use Rattle.writer.proofs.Document01.{file-like}
+use Rattle.writer.proofs.FileLaws.{Reads, length-file, written-reads, written-muted, written-good, good-holds}
 use Rattle.writer.proofs.SupplyOf.{reads-own, header-own, good-own, typed-own, only-own}
 use Rattle.writer.proofs.WriteLaws.{tests-good, tests-enough, call-accepted, exit-accepted}
 
@@ -118,7 +121,7 @@ module _ (f : List ℕ) (h : Header) where
       × ((s : Supply) × Made f h s → validate f ≡ accepted h)
   passes-exactly byte = (λ e. (supplyOf f h, makes byte (validate-exactly f h .0 e)), λ m. passes (m .0) (m .1))
 
-  -- reading back what was written gives the same boxes, counts and sites
+  -- reading back what was written gives the same boxes, counts, muted numbers and sites
   module _ (s : Supply) (m : Made f h s) where
     made-reads : Reads f s
     made-reads = written-reads s (made-good s m) (m .typed) f (made-length s m) (made-holds s m)
@@ -126,6 +129,7 @@ module _ (f : List ℕ) (h : Header) where
     pub read-back : (t : ℕ) → t < h .tiles →
         (boxAt f t ≡ boxOf (s .boxes) t)
         × (countAt f t ≡ countOf (s .counts) t)
+        × (mutedAt f t ≡ mutedOf (s .counts) (s .cues) t)
         × (sitesAt f h t ≡ tabulate (siteOf s t) 0 (countOf (s .counts) t))
     unfolding sitesAt
     read-back t l =
@@ -134,6 +138,7 @@ module _ (f : List ℕ) (h : Header) where
         let n : t < tilesOf s = rw (ap (λ (h : Header). h .tiles) k) l in (
           r .box t n,
           r .count t n,
+          written-muted s (made-good s m) (m .typed) f (made-length s m) (made-holds s m) t n,
           rw (r .count t n) (tabulate-same (siteAt f h t) (siteOf s t) 0 (countOf (s .counts) t)
               (λ slot o. let z = zero-add slot in rw z (rw k at (r .site t slot n o)))),
         )
@@ -141,6 +146,11 @@ module _ (f : List ℕ) (h : Header) where
     -- and no lists but these make the file
     pub only-town : s ≡ supplyOf f h
     only-town = only-own f s (made-good s m) made-reads (m .typed .axes) ∙ ap (supplyOf f) (m .header)
+
+-- 02.1 leaves old files as they were: lists without a cue 0 give the bytes of document 01
+pub bytes-like-01 : (s : Supply) → ((i : ℕ) → i < siteTotal (s .counts) → mutedCue (getD (s .cues) i 0) ≡ false) →
+    fileBytes s ≡ fileBytes01 s
+bytes-like-01 s sounds = file-like s sounds
 
 -- ---- the same about what the call leaves in an output slice
 module _ (s : Supply) (typed : Typed s) (out : List ℕ) (n : ℕ) (e : writeCall s (length out) ≡ accepted n) where

@@ -131,15 +131,16 @@ module _ (s : Supply) (out : List ℕ) where
   exit-accepted e = rw e
 
   pub file-row : {d₁ d₂ : List ℕ} →
-      d₁ ≡ over out 0 (joined (directoryBytes (s .boxes) (s .counts)) 0 (directoryBlocks (headerOf (s .counts)))) →
+      d₁ ≡ over out 0
+      (joined (directoryBytes (s .boxes) (s .counts) (s .cues)) 0 (directoryBlocks (headerOf (s .counts)))) →
       d₂ ≡ over d₁ (blockSize * directoryBlocks (headerOf (s .counts)))
       (joined (tileBytesOf (s .counts) (s .spots) (s .cues)) 0 (tilesOf s)) →
       d₂ ≡ over out 0 (fileBytes s)
   unfolding fileBytes
   file-row e₁ e₂ =
-      let g = directoryBytes (s .boxes) (s .counts) in
+      let g = directoryBytes (s .boxes) (s .counts) (s .cues) in
       let n = length-joined g blockSize 0 (directoryBlocks (headerOf (s .counts)))
-      (λ i l. length-directory-block (s .boxes) (s .counts) (0 + i)) in
+      (λ i l. length-directory-block (s .boxes) (s .counts) (s .cues) (0 + i)) in
       also out 0 (blockSize * directoryBlocks (headerOf (s .counts)))
       (joined g 0 (directoryBlocks (headerOf (s .counts))))
       (joined (tileBytesOf (s .counts) (s .spots) (s .cues)) 0 (tilesOf s)) e₁ e₂ (omega (arith, n))

@@ -13,7 +13,7 @@ use lib.IntN.{ℤ}
 use lib.ListN.{length}
 use Rattle.base.specs.Over.{over}
 use Rattle.base.specs.Refusal.{Outcome, accepted, refused, require, andThen, #tiles, #box, #stray, #short, #supply}
-use Rattle.blocks.specs.Directory.{validEntry}
+use Rattle.blocks.specs.Directory.{validBoxCount}
 use Rattle.blocks.specs.Layout.{maxTiles}
 use Rattle.base.specs.Every.{every}
 use Rattle.encode.specs.Encode.{fileBytes, fileLength}
@@ -27,9 +27,9 @@ use Rattle.writer.specs.declared.write.WriteAnswer.the-variants.{Written
 unfoldable pub tilesFit : ℕ → Bool
 tilesFit t = leb 1 t && leb t maxTiles
 
--- 9 of tile t: the directory's test of its entry
+-- 9 of tile t: the directory's test of box and count; the muted number, which is counted, is at most the count
 unfoldable pub entryFits : List ℤ → List ℕ → ℕ → Bool
-entryFits boxes counts t = validEntry (boxOf boxes t) (countOf counts t)
+entryFits boxes counts t = validBoxCount (boxOf boxes t) (countOf counts t)
 
 -- 15: "a site list's length is not the sum of counts"
 unfoldable pub listsFit : ℕ → List (List ℤ) → List ℕ → Bool

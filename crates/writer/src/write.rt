@@ -42,7 +42,7 @@ pub fn write(
             block: 0,
         });
     }
-    put_directory(out, boxes, counts);
+    put_directory(out, boxes, counts, cues);
     put_tiles(out, counts, xs, ys, cues);
     WriteAnswer::Written(file_length(header_of(counts)))
 }

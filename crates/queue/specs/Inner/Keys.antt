@@ -17,7 +17,7 @@ use Rattle.search.specs.Plan.{Geometry, Directory, ranked}
 use Rattle.search.specs.Run.{prunedMark}
 use Rattle.queue.specs.declared.keys.Least.{Least}
 
--- "the tiles that are not struck and not empty", by the marks
+-- "the tiles that are not struck and not empty", by the marks and by the sites that rank
 unfoldable pub waits : {G : Geometry} → Directory G → List ℕ → ℕ → Bool
 waits E marks t = not (eqb (getD marks t 0) prunedMark) && ltb 0 (ranked E t)
 

@@ -46,11 +46,11 @@ pub record TileReady (f : List ℕ) (h : Header) (t : ℕ) (g : Target) (used : 
   pub opens : OpenedOpen f h (o .marks)
 
 module _ (t : ℕ) (g : Target) (used : ℕ) where
-  -- the list with the tile's sites put in
+  -- the list with the tile's sites that rank put in
   abbrev pub withSites : List Site → Lists → List Place
   withSites l o = inserts rank (g .k) (tilePlaces plane (g .stop) t l) (places o (g .at) used)
 
-  -- opened, with its sites in the list; or refused, with nothing changed
+  -- opened, with these in the list; or refused, with nothing changed
   abbrev pub afterTile : Outcome (List Site) → Slices → Slices
   afterTile (accepted l) o = record {
     lists = lay (o .lists) (g .at) (withSites l (o .lists));

@@ -9,31 +9,24 @@ entry-offset-requires c κs = search needs
 zeros-requires : tie.Need-zeros-requires
 zeros-requires c κs = search needs
 
-entries-zero-requires : tie.Need-entries-zero-requires
-entries-zero-requires c κs = search needs
+zeros-requires-2 : tie.Need-zeros-requires-2
+zeros-requires-2 c κs = search needs
 
 both-requires : tie.Need-both-requires
 both-requires c κs = search needs
 
-zeros-requires-2 : tie.Need-zeros-requires-2
-zeros-requires-2 c κs = search needs
-
-both-requires-2 : tie.Need-both-requires-2
-both-requires-2 c κs = search needs
-
 returns : tie.Need-returns
 unfolding directoryPadding
 returns c =
-    let z : tie.After-entries-zero = search in
+    let z : tie.After-zeros = search in
     simp (
-      c .both2 .ensures,
+      c .both .ensures,
       c .before .zeros2 .ensures,
-      c .before .before .both .ensures,
-      z .entries-zero .ensures,
-      z .before .zeros .ensures,
-      z .before .before .entry-offset .ensures .0,
+      z .zeros .ensures,
+      z .before .entry-offset .ensures .0,
     )
 
 pub directory-padding-spec : {M : Type 1} → statement M
-directory-padding-spec = tie.close (tie.spec entry-offset-requires zeros-requires entries-zero-requires both-requires
-    zeros-requires-2 both-requires-2 returns)
+directory-padding-spec =
+    tie.close
+    (tie.spec entry-offset-requires zeros-requires zeros-requires-2 both-requires returns)

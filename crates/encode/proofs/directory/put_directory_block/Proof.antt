@@ -1,4 +1,4 @@
-use Prim.Native.Nat.{_*_}
+use Prim.Native.Nat.{_+_, _*_}
 use mathlib.Core.Path.{ap, _∙_}
 use native.Mathlib.Omega.{arith}
 use lib.ListN.{length}
@@ -8,7 +8,7 @@ use Rattle.base.specs.Tabulate.{joined}
 use Rattle.blocks.specs.Directory.{entriesDue}
 use Rattle.blocks.specs.Layout.{axes, directoryKind, blockSize, entriesPerBlock}
 use Rattle.encode.specs.Encode.{headBytes, blockBytes, entryBytes, directoryBytes}
-use Rattle.encode.specs.Supply.{headerOf}
+use Rattle.encode.specs.Supply.{headerOf, offset}
 use Rattle.encode.proofs.EncodeLaws.{due-within, blocks-few, length-head, length-entries, block-row}
 use Rattle.encode.proofs.directory.put_directory_block.Statement.{statement}
 use Rattle.encode.proofs.directory.put_directory_block.Tie as tie
@@ -52,14 +52,13 @@ put-entries-requires c κs =
     let k : tie.After-header-of = search in
     let h : tie.After-put-head = search in
     let z : tie.After-put-zeros = search in
-    omega (
-      arith,
-      due-within (headerOf (s .args .counts .now)) (s .args .p) (s .pre .3),
-      n .entries-due .ensures .0 ∙ ap (λ h. entriesDue h (s .args .p)) (k .header-of .ensures .0),
-      n .entries-due .ensures .1,
-      s .pre,
-      h .put-head .kept .0,
-      z .put-zeros .kept .0,
+    let due = n .entries-due .ensures .0 ∙ ap (λ h. entriesDue h (s .args .p)) (k .header-of .ensures .0) in
+    let within = due-within (headerOf (s .args .counts .now)) (s .args .p) (s .pre .3) in (
+      omega (arith, n .entries-due .ensures .1, s .pre .0, h .put-head .kept .0, z .put-zeros .kept .0),
+      omega (arith, within, due, s .pre .1),
+      omega (arith, within, due),
+      s .pre .4,
+      s .pre .5,
     )
 
 add-put-zeros-3 : tie.Need-add-put-zeros-3
@@ -95,15 +94,17 @@ returns c =
     let first = entriesPerBlock axes * a .p in
     let n = e .entries-due .result in
     let used = u .entry-offset .ensures .1 in
-    let g = entryBytes (a .boxes .now) (a .counts .now) in
-    let q = length-entries (a .boxes .now) (a .counts .now) first n in
-    block-row (a .d .now) at (headBytes directoryKind (a .p) n t) (joined g first n) (u .entry-offset .result)
-    (length-head directoryKind (a .p) n t) (omega (arith, q, used)) (omega (arith, e .entries-due .ensures .1, used))
-    (s .pre .0)
-    (hd .put-head .ensures) (z .put-zeros .ensures) (y .put-entries .ensures) (x .put-zeros2 .ensures)
-    (w .put-checksum .ensures)
-    ∙ ap (λ k. over (a .d .now) at (blockBytes (headBytes directoryKind (a .p) k t) (joined g first k)))
-    (e .entries-due .ensures .0 ∙ ap (λ h. entriesDue h (a .p)) (k .header-of .ensures .0))
+    let g = entryBytes (a .boxes .now) (a .counts .now) (a .cues .now) in
+    let q = length-entries (a .boxes .now) (a .counts .now) (a .cues .now) first n in
+    let due = e .entries-due .ensures .0 ∙ ap (λ h. entriesDue h (a .p)) (k .header-of .ensures .0) in (
+      block-row (a .d .now) at (headBytes directoryKind (a .p) n t) (joined g first n) (u .entry-offset .result)
+          (length-head directoryKind (a .p) n t) (omega (arith, q, used))
+          (omega (arith, e .entries-due .ensures .1, used)) (s .pre .0)
+          (hd .put-head .ensures) (z .put-zeros .ensures) (y .put-entries .ensures .0) (x .put-zeros2 .ensures)
+          (w .put-checksum .ensures)
+          ∙ ap (λ k. over (a .d .now) at (blockBytes (headBytes directoryKind (a .p) k t) (joined g first k))) due,
+      y .put-entries .ensures .1 ∙ ap (λ k. offset (a .counts .now) (first + k)) due,
+    )
 
 pub put-directory-block-spec : {M : Type 1} → statement M
 put-directory-block-spec = tie.close (tie.spec mul-at header-of-requires entries-due-requires entry-offset-requires

@@ -8,19 +8,20 @@ use Rattle.base.specs.Tabulate.{joined}
 use Rattle.blocks.specs.Layout.{axes, entrySize}
 use Rattle.base.proofs.Joined.{joined-turn, joined-end}
 use Rattle.encode.specs.Encode.{entryBytes}
-use Rattle.encode.specs.Supply.{numbersPerBox}
+use Rattle.encode.specs.Supply.{numbersPerBox, offset}
 use Rattle.encode.proofs.EncodeLaws.{length-entry}
 use Rattle.encode.proofs.directory.put_entries.Statement.{statement}
 use Rattle.encode.proofs.directory.put_entries.Tie as tie
 
 abbrev Inv-loop : tie.InvT-loop
-Inv-loop d₀ start boxes counts first n at₀ t₀ left₀ d at t left =
+Inv-loop d₀ start boxes counts cues first n site at₀ t₀ left₀ next₀ d at t left next =
     (at + entrySize axes * left ≤ length d) × (length d ≡ length d₀) × (numbersPerBox * (t + left) ≤ length boxes)
-    × (t + left ≤ length counts)
-    × (over d at (joined (entryBytes boxes counts) t left) ≡ over d₀ start (joined (entryBytes boxes counts) first n))
+    × (t + left ≡ first + n) × (next ≡ offset counts t)
+    × (over d at (joined (entryBytes boxes counts cues) t left)
+    ≡ over d₀ start (joined (entryBytes boxes counts cues) first n))
 
 abbrev μ-loop : tie.MeasureT-loop
-μ-loop d₀ start boxes counts first n at₀ t₀ left₀ d at t left = left
+μ-loop d₀ start boxes counts cues first n site at₀ t₀ left₀ next₀ d at t left next = left
 
 loop-holds : tie.Need-loop-holds Inv-loop μ-loop
 loop-holds c = search needs
@@ -50,11 +51,12 @@ loop-again c =
       omega (arith, k, l .loop .inv),
       omega (arith, k, l .loop .inv),
       search needs,
-      search needs,
-      joined-turn (entryBytes (a .boxes .now) (a .counts .now)) (l .loop .d) (l .loop .at)
-          (l .loop .at + entrySize axes) (l .loop .t) (l .loop .left) (search needs) (p .ensures)
-          (ap (λ w. l .loop .at + w) (sym (length-entry (a .boxes .now) (a .counts .now) (l .loop .t))))
-          ∙ l .loop .inv .4,
+      omega (arith, l .loop .inv .3),
+      p .ensures .1,
+      joined-turn (entryBytes (a .boxes .now) (a .counts .now) (a .cues .now)) (l .loop .d) (l .loop .at)
+          (l .loop .at + entrySize axes) (l .loop .t) (l .loop .left) (search needs) (p .ensures .0)
+          (ap (λ w. l .loop .at + w) (sym (length-entry (a .boxes .now) (a .counts .now) (a .cues .now) (l .loop .t))))
+          ∙ l .loop .inv .5,
     )
 
 same-length : tie.Need-same-length Inv-loop μ-loop
@@ -65,8 +67,11 @@ returns c =
     let l = c .before in
     let s : tie.Start Inv-loop μ-loop = search in
     let a = s .args in
-    joined-end (entryBytes (a .boxes .now) (a .counts .now)) (l .loop .d) (l .loop .at) (l .loop .t) (l .loop .left)
-    (search needs) ∙ l .loop .inv .4
+    let e : l .loop .t ≡ a .first + a .n = omega (arith, l .loop .inv .3) in (
+      joined-end (entryBytes (a .boxes .now) (a .counts .now) (a .cues .now)) (l .loop .d) (l .loop .at) (l .loop .t)
+          (l .loop .left) (search needs) ∙ l .loop .inv .5,
+      rw e at (l .loop .inv .4),
+    )
 
 pub put-entries-spec : {M : Type 1} → statement M
 put-entries-spec = tie.close (tie.spec Inv-loop μ-loop loop-holds put-entry-requires add-at add-t sub-left loop-less

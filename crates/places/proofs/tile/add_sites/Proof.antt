@@ -8,11 +8,11 @@ use Rattle.places.proofs.tile.add_sites.Statement.{statement}
 use Rattle.places.proofs.tile.add_sites.Tie as tie
 
 abbrev Inv-loop : tie.InvT-loop
-Inv-loop s n first target used dist₀ site₀ cue₀ p at k m₀ slot₀ dist site cue m slot =
+Inv-loop s n first target used dist₀ site₀ cue₀ m₀ slot₀ dist site cue m slot =
     Adding s n first target (lists dist₀ site₀ cue₀) used (lists dist site cue) m slot
 
 abbrev μ-loop : tie.MeasureT-loop
-μ-loop s n first target used dist₀ site₀ cue₀ p at k m₀ slot₀ dist site cue m slot = n - slot
+μ-loop s n first target used dist₀ site₀ cue₀ m₀ slot₀ dist site cue m slot = n - slot
 
 next-slot-requires : tie.Need-next-slot-requires Inv-loop μ-loop
 next-slot-requires c κs = search needs
@@ -23,28 +23,23 @@ loop-holds c =
     let a = s .args in
     adding-skip (adding-starts (a .s .now) (a .n) (a .first) (a .target) (s .pre .3)) (c .next-slot .ensures)
 
-cast-number : tie.Need-cast-number Inv-loop μ-loop
-cast-number c = search needs
-
-add-number : tie.Need-add-number Inv-loop μ-loop
-add-number c = search needs
-
-place-in-requires : tie.Need-place-in-requires Inv-loop μ-loop
-place-in-requires c κs = search needs
-
-insert-place-requires : tie.Need-insert-place-requires Inv-loop μ-loop
-insert-place-requires c κs = let l : tie.At-loop Inv-loop μ-loop = search in l .loop .inv .ready
+add-site-requires : tie.Need-add-site-requires Inv-loop μ-loop
+add-site-requires c κs =
+    let l : tie.At-loop Inv-loop μ-loop = search in
+    let i : tie.In-loop Inv-loop μ-loop = search in
+    let s : tie.Start Inv-loop μ-loop = search in
+    (s .pre .0, i .loop-test .taken, s .pre .1, s .pre .2, l .loop .inv .ready)
 
 add-next-slot : tie.Need-add-next-slot Inv-loop μ-loop
 add-next-slot c = search needs
 
 next-slot-requires-2 : tie.Need-next-slot-requires-2 Inv-loop μ-loop
 next-slot-requires-2 c κs =
-    let put : tie.After-insert-place Inv-loop μ-loop = search in
+    let put : tie.After-add-site Inv-loop μ-loop = search in
     let i : tie.In-loop Inv-loop μ-loop = search in
     let l : tie.At-loop Inv-loop μ-loop = search in
     let s : tie.Start Inv-loop μ-loop = search in
-    let ready = added-ready (l .loop .inv .ready) (put .insert-place .ensures) in
+    let ready = added-ready (l .loop .inv .ready) (put .add-site .ensures) in
     (s .pre .0, omega (arith, i .loop-test .taken), s .pre .2, ready .some, ready .long .0)
 
 loop-less : tie.Need-loop-less Inv-loop μ-loop
@@ -54,13 +49,10 @@ loop-less c =
 
 loop-again : tie.Need-loop-again Inv-loop μ-loop
 loop-again c =
-    let put : tie.After-insert-place Inv-loop μ-loop = search in
-    let x : tie.After-place-in Inv-loop μ-loop = search in
+    let put : tie.After-add-site Inv-loop μ-loop = search in
     let i : tie.In-loop Inv-loop μ-loop = search in
     let l : tie.At-loop Inv-loop μ-loop = search in
-    let y = x .place-in in
-    adding-skip (adding-turn (l .loop .inv) (i .loop-test .taken) (y .result) (y .ensures) (put .insert-place .ensures))
-    (c .next-slot2 .ensures)
+    adding-skip (adding-turn (l .loop .inv) (i .loop-test .taken) (put .add-site .ensures)) (c .next-slot2 .ensures)
 
 same-length : tie.Need-same-length Inv-loop μ-loop
 same-length c = adding-lengths (c .before .loop .inv) .dist
@@ -75,6 +67,5 @@ returns : tie.Need-returns Inv-loop μ-loop
 returns c = adding-done (c .before .loop .inv) (c .loop-test .left)
 
 pub add-sites-spec : {M : Type 1} → statement M
-add-sites-spec = tie.close (tie.spec Inv-loop μ-loop next-slot-requires loop-holds cast-number add-number
-    place-in-requires insert-place-requires add-next-slot next-slot-requires-2 loop-less loop-again same-length
-    same-length-2 same-length-3 returns)
+add-sites-spec = tie.close (tie.spec Inv-loop μ-loop next-slot-requires loop-holds add-site-requires add-next-slot
+    next-slot-requires-2 loop-less loop-again same-length same-length-2 same-length-3 returns)

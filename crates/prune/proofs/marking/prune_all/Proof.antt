@@ -11,7 +11,8 @@ use Rattle.plan.specs.FilePlan.{entries}
 use Rattle.search.specs.Lists.{bit, range}
 use Rattle.search.specs.Lists as lists
 use Rattle.search.specs.Pruning.{pruned, prunedCount}
-use Rattle.plan.proofs.Tables.{table-turn, table-done, bit-small}
+use Rattle.base.proofs.HowMany.{bit-small}
+use Rattle.plan.proofs.Tables.{table-turn, table-done}
 use Rattle.prune.specs.Prune.{pruneMarks}
 use Rattle.plan.proofs.Measures.{tiles-few}
 use Rattle.prune.proofs.Summing.{count-turn, count-done}

@@ -4,7 +4,7 @@ use native.Mathlib.Omega.{arith}
 use borrow.Author.Needs.{needs}
 use Rattle.plan.specs.FilePlan.{entries}
 use Rattle.search.specs.Lists.{bit}
-use Rattle.plan.proofs.Tables.{bit-byte, bit-small}
+use Rattle.base.proofs.HowMany.{bit-byte, bit-small}
 use Rattle.queue.specs.Inner.Keys.{waits}
 use Rattle.queue.proofs.Gathering.{Gathering, gathering-starts, gathering-turn, gathering-done}
 use Rattle.queue.proofs.gather.gather.Statement.{statement}

@@ -9,7 +9,7 @@ use lib.Seq.{take-suc}
 use borrow.Author.Needs.{needs}
 use Rattle.search.specs.Lists.{count}
 use Rattle.search.specs.Run.{openedMark}
-use Rattle.plan.proofs.Tables.{bit-small, bit-byte}
+use Rattle.base.proofs.HowMany.{bit-small, bit-byte}
 use Rattle.search.proofs.Lists.{count-append}
 use Rattle.serve.proofs.marks.count_opened.Statement.{statement}
 use Rattle.serve.proofs.marks.count_opened.Tie as tie

@@ -14,16 +14,20 @@ box-at-requires c κs = search needs
 count-at-requires : tie.Need-count-at-requires
 count-at-requires c κs = search needs
 
+muted-at-requires : tie.Need-muted-at-requires
+muted-at-requires c κs = search needs
+
 block-at-requires : tie.Need-block-at-requires
 block-at-requires c κs = search needs
 
 tile-block-requires : tie.Need-tile-block-requires
 tile-block-requires c κs =
     let s : tie.Start = search in
-    let p : tie.After-tile-position = search in (
+    let p : tie.After-tile-position = search in
+    let n : tie.After-count-at = search in (
       c .block-at .ensures .1,
       p .tile-position .ensures .1,
-      rw (c .before .count-at .ensures) (count-small (directory-good _ (s .pre .0)) (s .args .t) (s .pre .1)),
+      rw (n .count-at .ensures) (count-small (directory-good _ (s .pre .0)) (s .args .t) (s .pre .1)),
     )
 
 returns : tie.Need-returns
@@ -32,9 +36,11 @@ returns c =
     let p : tie.After-tile-position = search in
     let b : tie.After-box-at = search in
     let n : tie.After-count-at = search in
+    let m : tie.After-muted-at = search in
     let s = c .before .block-at .ensures .0 in
-    c .tile-block .ensures ∙ rw (s, n .count-at .ensures, b .box-at .ensures, p .tile-position .ensures .0)
+    c .tile-block .ensures
+    ∙ rw (s, m .muted-at .ensures, n .count-at .ensures, b .box-at .ensures, p .tile-position .ensures .0)
 
 pub open-tile-spec : {M : Type 1} → statement M
-open-tile-spec = tie.close (tie.spec tile-position-requires box-at-requires count-at-requires block-at-requires
-    tile-block-requires returns)
+open-tile-spec = tie.close (tie.spec tile-position-requires box-at-requires count-at-requires muted-at-requires
+    block-at-requires tile-block-requires returns)

@@ -2,12 +2,13 @@ use mathlib.Core.Bool.{true}
 use mathlib.Core.Path.{_≡_, refl, sym, _∙_}
 use lib.Dec.{eqb}
 use borrow.Author.Needs.{needs}
+use Rattle.base.specs.Every.{every}
 use Rattle.base.specs.Refusal.{accepted}
 use Rattle.blocks.specs.Block.{entriesIn, blockHead}
 use Rattle.blocks.specs.Layout.{tileKind}
 use Rattle.base.proofs.Outcomes.{number-accepted, number-refused}
 use Rattle.base.proofs.Tests.{passed, failed, equal, unequal}
-use Rattle.tiles.specs.Tile.{tilePadding, tileBlock}
+use Rattle.tiles.specs.Tile.{tilePadding, siteInside, tileBlock}
 use Rattle.tiles.proofs.tile.tile_block.Statement.{statement}
 use Rattle.tiles.proofs.tile.tile_block.Tie as tie
 
@@ -23,6 +24,10 @@ passed-entries c = equal (c .before .u16-at .ensures .0) refl (c .if2 .left)
 passed-padding : (c : tie.Else3) →
     let s : tie.Start = search in tilePadding (s .args .s .now) (s .args .count) ≡ true
 passed-padding c = passed (c .before .tile-padding .ensures) (c .if3 .left)
+
+passed-inside : (c : tie.Else4) →
+    let s : tie.Start = search in every (siteInside (s .args .bounds) (s .args .s .now)) (s .args .count) ≡ true
+passed-inside c = passed (c .before .sites-inside .ensures) (c .if4 .left)
 
 head-number-requires : tie.Need-head-number-requires
 head-number-requires c κs = search needs
@@ -74,13 +79,27 @@ returns-4 c =
     let f = failed (t .before .sites-inside .ensures) (t .if4 .taken) in
     c .refused4 .ensures ∙ sym (rw (passed-head search, passed-entries search, passed-padding search, f))
 
+muted-in-requires : tie.Need-muted-in-requires
+muted-in-requires c κs = search needs
+
+refused-requires-5 : tie.Need-refused-requires-5
+refused-requires-5 c κs = search needs
+
 returns-5 : tie.Need-returns-5
 unfolding tileBlock
 returns-5 c =
-    let p = passed (c .before .sites-inside .ensures) (c .if4 .left) in
-    sym (rw (passed-head search, passed-entries search, passed-padding search, p))
+    let t : tie.Then5 = search in
+    let f = unequal (t .before .muted-in .ensures) refl (t .if5 .taken) in
+    c .refused5 .ensures
+    ∙ sym (rw (passed-head search, passed-entries search, passed-padding search, passed-inside search, f))
+
+returns-6 : tie.Need-returns-6
+unfolding tileBlock
+returns-6 c =
+    let p = equal (c .before .muted-in .ensures) refl (c .if5 .left) in
+    sym (rw (passed-head search, passed-entries search, passed-padding search, passed-inside search, p))
 
 pub tile-block-spec : {M : Type 1} → statement M
 tile-block-spec = tie.close (tie.spec head-number-requires refused-requires returns u16-at-requires refused-requires-2
     returns-2 tile-padding-requires refused-requires-3 returns-3 sites-inside-requires refused-requires-4 returns-4
-    returns-5)
+    muted-in-requires refused-requires-5 returns-5 returns-6)

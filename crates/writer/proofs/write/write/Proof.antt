@@ -49,7 +49,7 @@ put-directory-requires : tie.Need-put-directory-requires
 unfolding fileLength
 put-directory-requires c κs =
     let g = good search in
-    (omega (arith, g .1), g .0 .numbers, g .0 .most)
+    (omega (arith, g .1), g .0 .numbers, g .0 .most, g .0 .cues)
 
 put-tiles-requires : tie.Need-put-tiles-requires
 put-tiles-requires c κs =

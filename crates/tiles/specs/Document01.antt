@@ -1,0 +1,42 @@
+-- Document 01 alone, without 02.1: the openings, and the full check.
+--
+--   tileBlock01, openTile01   all tests of a tile block: of its bytes, of a file
+--   openAll01, validate01     the full check
+--   Audible                   a tile that has no muted site, where document 01 opens it
+use Prim.Native.Nat.{ℕ, _<_}
+use mathlib.Core.Bool.{false}
+use mathlib.Core.List.{List}
+use mathlib.Core.Path.{_≡_}
+use lib.Dec.{eqb}
+use lib.IntN.{ℤ}
+use Rattle.base.specs.Every.{every}
+use Rattle.base.specs.Refusal.{Outcome, accepted, require, andThen, #entries, #padding, #stray, inTurn}
+use Rattle.blocks.specs.Block.{blockAt, entriesIn, blockHead}
+use Rattle.blocks.specs.Directory.{boxAt, countAt}
+use Rattle.blocks.specs.Document01.{directory01}
+use Rattle.blocks.specs.Layout.{tileKind}
+use Rattle.blocks.specs.declared.header.Header.{Header}
+use Rattle.tiles.specs.Tile.{mutedCue, tilePadding, siteInside, tilePosition, siteAt}
+
+-- "openings, each 2, 3, 4, 5, 7, 8, 10"
+unfoldable pub tileBlock01 : List ℕ → ℕ → List (List ℤ) → ℕ → Outcome ℕ
+tileBlock01 s p bounds count =
+    andThen (blockHead tileKind s p) (λ _.
+    require (eqb (entriesIn s) count) #entries p
+    (require (tilePadding s count) #padding p
+    (require (every (siteInside bounds s) count) #stray p
+    (accepted count))))
+
+unfoldable pub openTile01 : List ℕ → Header → ℕ → Outcome ℕ
+openTile01 f h t = tileBlock01 (blockAt f (tilePosition h t)) (tilePosition h t) (boxAt f t) (countAt f t)
+
+unfoldable pub openAll01 : List ℕ → Header → Outcome Header
+openAll01 f h = andThen (inTurn (openTile01 f h) 0 (h .tiles)) (λ _. accepted h)
+
+unfoldable pub validate01 : List ℕ → Outcome Header
+validate01 f = andThen (directory01 f) (openAll01 f)
+
+-- a tile that document 01 opens has no muted site; one that it refuses may hold anything
+abbrev pub Audible : List ℕ → Header → ℕ → Type 0
+Audible f h t = (n slot : ℕ) → openTile01 f h t ≡ accepted n → slot < countAt f t →
+    mutedCue (siteAt f h t slot .cue) ≡ false
