@@ -1,4 +1,4 @@
-//! One call of the engine against document 01: answer, block, counts, slices, and guard elements around them.
+//! One call of the engine against the paper: answer, block, counts, slices, and guard elements around them.
 
 use crate::host::{self, Slices, Validated, Written};
 use crate::paper::directory::full_check;

@@ -1,6 +1,7 @@
 //! Ways to damage a file: fields of a block set to wrong values, lengths, whole blocks.
 
-use crate::paper::blocks::{i32_at, u16_at, SIZE};
+use crate::fillings::sounding_cue;
+use crate::paper::blocks::{i32_at, u16_at, u32_at, SIZE};
 use crate::paper::directory::directory_blocks;
 use crate::paper::writer::repair;
 use crate::paper::{Town, LIMIT};
@@ -14,15 +15,15 @@ pub fn repair_block(file: &mut [u8], position: usize) {
     repair(block_mut(file, position));
 }
 
-fn set_u16(block: &mut [u8], at: usize, value: usize) {
+pub fn set_u16(block: &mut [u8], at: usize, value: usize) {
     block[at..at + 2].copy_from_slice(&(value as u16).to_le_bytes());
 }
 
-fn set_i32(block: &mut [u8], at: usize, value: i32) {
+pub fn set_i32(block: &mut [u8], at: usize, value: i32) {
     block[at..at + 4].copy_from_slice(&value.to_le_bytes());
 }
 
-fn not_zero(rng: &mut Rng) -> u8 {
+pub fn not_zero(rng: &mut Rng) -> u8 {
     1 + rng.below(255) as u8
 }
 
@@ -73,7 +74,7 @@ fn directory_field(block: &mut [u8], rng: &mut Rng) -> String {
     let any = rng.below(entries);
     let entry = rng.pick(&[0, entries - 1, any]);
     let at = 16 + 20 * entry;
-    match rng.below(14) {
+    match rng.below(15) {
         which @ 0..=4 => common_field(block, which, rng),
         5 | 6 => format!("T {}", wrong_u16(block, 6, &[1, 24, 25, 960, 961], rng)),
         7 => {
@@ -96,10 +97,10 @@ fn directory_field(block: &mut [u8], rng: &mut Rng) -> String {
             format!("entry {entry} has low above high on axis {axis}")
         }
         10 => format!("entry {entry} has count {}", wrong_u16(block, at + 16, &[41, 65_535, 296], rng)),
-        11 => {
-            let zero = at + 18 + rng.below(2);
-            block[zero] = not_zero(rng);
-            format!("byte {zero} is {} in entry {entry}", block[zero])
+        11 | 14 => {
+            let count = u16_at(block, at + 16);
+            let muted = wrong_u16(block, at + 18, &[count, count + 1, count / 2, 40, 41, 255, 256], rng);
+            format!("entry {entry} has muted number {muted}")
         }
         12 => {
             let unused = rng.range(16 + 20 * entries as i32, 509) as usize;
@@ -116,13 +117,21 @@ fn directory_field(block: &mut [u8], rng: &mut Rng) -> String {
     }
 }
 
+/// Mutes the site in this slot, or lets it sound. Gives the cue.
+pub fn flip_cue(block: &mut [u8], slot: usize, rng: &mut Rng) -> u32 {
+    let at = 16 + 12 * slot + 8;
+    let cue = if u32_at(block, at) == 0 { sounding_cue(rng) } else { 0 };
+    block[at..at + 4].copy_from_slice(&cue.to_le_bytes());
+    cue
+}
+
 /// A wrong value in the block of a tile.
 fn tile_field(block: &mut [u8], town: &Town, tile: usize, rng: &mut Rng) -> String {
     let entry = town.entries[tile];
     let any = rng.below(entry.count.max(1));
     let slot = rng.pick(&[0, entry.count.saturating_sub(1), any]);
     let at = 16 + 12 * slot;
-    match rng.below(14) {
+    match rng.below(16) {
         which @ 0..=4 => common_field(block, which, rng),
         5 => {
             let high = rng.below(2);
@@ -161,6 +170,7 @@ fn tile_field(block: &mut [u8], town: &Town, tile: usize, rng: &mut Rng) -> Stri
             block[cue] = rng.byte();
             format!("byte {cue} of a cue is {}", block[cue])
         }
+        14 | 15 if entry.count > 0 => format!("slot {slot} has cue {}", flip_cue(block, slot, rng)),
         _ => {
             let value = rng.pick(&[0u8, 255]);
             block[16..496].fill(value);

@@ -1,11 +1,12 @@
-//! Independent tests of the engine: document 01 implemented again, for obviousness, and compared with the static
-//! library and the program on generated inputs.
+//! Independent tests of the engine: documents 01 and 02, as far as its requests have landed, implemented again, for
+//! obviousness, and compared with the static library and the program on generated inputs.
 //!
 //! `independent PATH_OF_NEARBY_PROGRAM [--seed S]` prints a line for each part and ends with status 0, or prints the
 //! part, the seed and the case of the first failure and ends with status 1.
 
 mod compare;
 mod damage;
+mod fillings;
 mod host;
 mod paper;
 mod parts;
@@ -46,14 +47,17 @@ fn main() -> ExitCode {
     };
     let mut tally = Tally::default();
     type Part<'a> = (&'a str, Box<dyn Fn(&mut Rng, &mut Tally) -> Result<String, Failure> + 'a>);
-    let parts: [Part; 9] = [
+    let parts: [Part; 12] = [
         ("margins", Box::new(|rng, _| parts::margins::run(rng))),
         ("checks", Box::new(parts::checks::run)),
         ("writing", Box::new(parts::writing::run)),
         ("damaged", Box::new(parts::damaged::run)),
+        ("mismatches", Box::new(parts::mismatches::run)),
+        ("faults", Box::new(parts::faults::run)),
         ("joins", Box::new(parts::joins::run)),
         ("strikes", Box::new(parts::strikes::run)),
         ("unread", Box::new(parts::unread::run)),
+        ("muted", Box::new(parts::muted::run)),
         ("numbers", Box::new(|_, tally| tally.verdict().map_err(Failure::new))),
         ("program", Box::new(|rng, _| parts::programs::run(&program, rng))),
     ];

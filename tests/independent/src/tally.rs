@@ -2,6 +2,7 @@
 
 use crate::paper::directory::read_directory;
 use crate::paper::Refusal;
+use crate::parts::count;
 use std::collections::{BTreeMap, BTreeSet};
 
 type Blocks = BTreeMap<u32, BTreeSet<u32>>;
@@ -17,6 +18,8 @@ pub struct Tally {
     /// Numbers given to tiles by the join, and those after it had opened another tile.
     openings: Blocks,
     later_openings: Blocks,
+    /// How often 16 was given, by the full check and by the join.
+    sixteens: (usize, usize),
 }
 
 fn add(to: &mut Blocks, refusal: Refusal) {
@@ -32,8 +35,13 @@ impl Tally {
     /// A refusal by the strike call, the full check (`opened_well` none) or the join.
     pub fn of_file(&mut self, file: &[u8], refusal: Refusal, opened_well: Option<usize>) {
         add(&mut self.all, refusal);
-        if !(2..=10).contains(&refusal.number) {
+        if !(2..=10).contains(&refusal.number) && refusal.number != 16 {
             return;
+        }
+        match (refusal.number, opened_well) {
+            (16, None) => self.sixteens.0 += 1,
+            (16, Some(_)) => self.sixteens.1 += 1,
+            _ => {}
         }
         match read_directory(file) {
             Err(r) if r == refusal => add(&mut self.directory, refusal),
@@ -52,14 +60,18 @@ impl Tally {
         }
     }
 
+    pub fn sixteens(&self) -> (usize, usize) {
+        self.sixteens
+    }
+
     /// Each number was reached, and those of blocks at several blocks.
     pub fn verdict(&self) -> Result<String, String> {
         let least = |blocks: &Blocks, numbers: &[u32]| -> usize {
             numbers.iter().map(|number| blocks.get(number).map_or(0, |set| set.len())).min().unwrap()
         };
-        let every: Vec<u32> = (1..=15).collect();
+        let every: Vec<u32> = (1..=16).collect();
         let in_directory = [2, 3, 4, 5, 6, 7, 8, 9];
-        let in_tiles = [2, 3, 4, 5, 7, 8, 10];
+        let in_tiles = [2, 3, 4, 5, 7, 8, 10, 16];
         let needs = [
             ("any call", &self.all, &every[..], 1),
             ("a directory block", &self.directory, &in_directory[..], 3),
@@ -77,12 +89,15 @@ impl Tally {
         }
         let pairs = |blocks: &Blocks| -> usize { blocks.values().map(|set| set.len()).sum() };
         Ok(format!(
-            "each of 1 to 15 reached; pairs of number and block: {} in directories, {} in tiles by the full check, \
-             {} by openings, {} by openings that were not the first",
+            "each of 1 to 16 reached; pairs of number and block: {} in directories, {} in tiles by the full check, \
+             {} by openings, {} by openings that were not the first; 16 given {} times by the full check, {} times by \
+             the join",
             pairs(&self.directory),
             pairs(&self.tiles),
             pairs(&self.openings),
             pairs(&self.later_openings),
+            count(self.sixteens.0),
+            count(self.sixteens.1),
         ))
     }
 }

@@ -1,5 +1,6 @@
 //! Towns and stops of many sorts.
 
+use crate::fillings::{cluster, filling, point_in, Mutes};
 use crate::paper::{Box2, Entry, Point, Site, Town, LIMIT};
 use crate::rng::Rng;
 
@@ -53,16 +54,6 @@ pub const SORTS: [Sort; 14] = [
 
 const LATTICE: i32 = 100;
 
-/// Any cue, 0 and the largest among them.
-fn cue(rng: &mut Rng) -> u32 {
-    match rng.below(8) {
-        0 => 0,
-        1 => u32::MAX,
-        2 => rng.below(3) as u32,
-        _ => rng.next() as u32,
-    }
-}
-
 /// A range on one axis around a middle, kept inside the limits.
 fn around(middle: i32, reach: i32) -> [i32; 2] {
     [(middle - reach).max(-LIMIT), (middle + reach).min(LIMIT)]
@@ -71,35 +62,6 @@ fn around(middle: i32, reach: i32) -> [i32; 2] {
 fn range_among(ends: &[i32], rng: &mut Rng) -> [i32; 2] {
     let (p, q) = (rng.pick(ends), rng.pick(ends));
     [p.min(q), p.max(q)]
-}
-
-pub fn point_in(b: Box2, rng: &mut Rng) -> Point {
-    [rng.range(b[0][0], b[0][1]), rng.range(b[1][0], b[1][1])]
-}
-
-/// Sites anywhere in the box, some on its corners.
-pub fn filling(entry: &Entry, rng: &mut Rng) -> Vec<Site> {
-    (0..entry.count)
-        .map(|_| {
-            let mut at = point_in(entry.bounds, rng);
-            for (axis, ends) in entry.bounds.iter().enumerate() {
-                if rng.chance(6) {
-                    at[axis] = ends[rng.below(2)];
-                }
-            }
-            Site { at, cue: cue(rng) }
-        })
-        .collect()
-}
-
-/// Sites close together somewhere in the box.
-fn cluster(entry: &Entry, rng: &mut Rng) -> Vec<Site> {
-    let middle = point_in(entry.bounds, rng);
-    let small = [0, 1].map(|axis| {
-        let [low, high] = entry.bounds[axis];
-        [(middle[axis] - 20).max(low), (middle[axis] + 20).min(high)]
-    });
-    filling(&Entry { bounds: small, count: entry.count }, rng)
 }
 
 /// Sites on the lattice, in a box whose ends are.
@@ -119,7 +81,12 @@ fn cell(tile: usize, columns: usize, side: i32, corner: Point) -> Box2 {
     [[low[0], low[0] + side], [low[1], low[1] + side]]
 }
 
+/// A town of this sort, with some sites muted or none.
 pub fn town(sort: Sort, tiles: usize, rng: &mut Rng) -> Town {
+    town_with(sort, Mutes::some(rng), tiles, rng)
+}
+
+pub fn town_with(sort: Sort, mutes: Mutes, tiles: usize, rng: &mut Rng) -> Town {
     let columns = (1..).find(|c| c * c >= tiles).unwrap();
     let side = rng.pick(&[3, 50, 1_000, 20_000]);
     let corner = [rng.range(-300_000, 100_000), rng.range(-300_000, 100_000)];
@@ -127,9 +94,7 @@ pub fn town(sort: Sort, tiles: usize, rng: &mut Rng) -> Town {
     let spread = rng.pick(&[10, 200]);
     let in_grid = rng.chance(2);
     let mut row: Vec<usize> = (0..tiles).collect();
-    for i in (1..tiles).rev() {
-        row.swap(i, rng.below(i + 1));
-    }
+    rng.shuffle(&mut row);
     let entries: Vec<Entry> = (0..tiles)
         .map(|tile| {
             let (bounds, count) = match sort {
@@ -186,7 +151,7 @@ pub fn town(sort: Sort, tiles: usize, rng: &mut Rng) -> Town {
                     ([[low, low + 80], [-20, 20]], rng.below(16))
                 }
             };
-            Entry { bounds, count }
+            Entry { bounds, count, muted: mutes.of(count, rng) }
         })
         .collect();
     let sites = entries
@@ -204,12 +169,13 @@ fn limited(coordinate: i64) -> i32 {
     coordinate.clamp(-LIMIT as i64, LIMIT as i64) as i32
 }
 
-/// n stops: close together, along a line, anywhere, all the same, at the limits, in boxes, on the lattice, on sites.
+/// n stops: close together, along a line, anywhere, all the same, at the limits, in boxes, on the lattice, on sites, on
+/// muted sites.
 pub fn stops(town: &Town, n: usize, rng: &mut Rng) -> Vec<Point> {
     let in_some_box = |rng: &mut Rng| point_in(town.entries[rng.below(town.entries.len())].bounds, rng);
     let (from, to) = (in_some_box(rng), in_some_box(rng));
     let reach = rng.pick(&[1, 5, 100, 5_000]);
-    let sort = rng.below(9);
+    let sort = rng.below(10);
     (0..n)
         .map(|i| match sort {
             0 | 1 => [0, 1].map(|axis| limited(from[axis] as i64 + rng.range(-reach, reach) as i64)),
@@ -226,7 +192,8 @@ pub fn stops(town: &Town, n: usize, rng: &mut Rng) -> Vec<Point> {
             6 => in_some_box(rng),
             7 => in_some_box(rng).map(lattice),
             _ => {
-                let sites = &town.sites[rng.below(town.sites.len())];
+                let fits = |site: &&Site| sort == 8 || site.is_muted();
+                let sites: Vec<&Site> = town.sites[rng.below(town.sites.len())].iter().filter(fits).collect();
                 match sites.is_empty() {
                     true => in_some_box(rng),
                     false => sites[rng.below(sites.len())].at,

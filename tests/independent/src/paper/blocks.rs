@@ -1,7 +1,7 @@
 //! "Blocks": fields, the check, and what is tested of a tile when it is opened.
 
 use super::boxes::inside;
-use super::{refuse, Entry, Refusal, Site};
+use super::{muted, refuse, Entry, Refusal, Site};
 
 pub const SIZE: usize = 512;
 pub const SYNC: u8 = 0xd6;
@@ -60,7 +60,7 @@ pub fn common_tests(block: &[u8], kind_due: u8, position: usize) -> Result<(), R
     Ok(())
 }
 
-/// "then openings, each 2, 3, 4, 5, 7, 8, 10". `position` is d + t.
+/// "then openings, each 2, 3, 4, 5, 7, 8, 10"; 02.1: 16 "tested after 10". `position` is d + t.
 pub fn open_tile(block: &[u8], position: usize, entry: &Entry) -> Result<Vec<Site>, Refusal> {
     common_tests(block, TILE, position)?;
     // 7: "in a tile not the directory's count"
@@ -81,6 +81,10 @@ pub fn open_tile(block: &[u8], position: usize, entry: &Entry) -> Result<Vec<Sit
     // 10: "a site outside its box"
     if sites.iter().any(|site| !inside(site.at, entry.bounds)) {
         return refuse(10, position);
+    }
+    // 02.1: "16 when an opened tile's muted sites differ in number from the directory"
+    if muted(&sites) != entry.muted {
+        return refuse(16, position);
     }
     Ok(sites)
 }

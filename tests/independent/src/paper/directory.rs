@@ -45,22 +45,24 @@ pub fn read_directory(file: &[u8]) -> Result<Vec<Entry>, Refusal> {
         if u16_at(block, 4) != due {
             return refuse(7, position);
         }
-        // 8: "All else zero, unused payload too", and the last two bytes of each entry.
-        let in_entries = (0..due).flat_map(|entry| [16 + 20 * entry + 18, 16 + 20 * entry + 19]);
-        let mut due_zero = (8..16).chain(in_entries).chain(16 + 20 * due..510);
+        // 8: "All else zero, unused payload too."
+        let mut due_zero = (8..16).chain(16 + 20 * due..510);
         if due_zero.any(|i| block[i] != 0) {
             return refuse(8, position);
         }
-        // "low x, low y, high x, high y (signed, 4 bytes each), count (2), zero (2)"
+        // "low x, low y, high x, high y (signed, 4 bytes each), count (2)"; 02.1: "Bytes 18-19 of a directory entry
+        // hold the number of muted sites"
         let here: Vec<Entry> = (0..due)
             .map(|entry| 16 + 20 * entry)
             .map(|at| Entry {
                 bounds: [[i32_at(block, at), i32_at(block, at + 8)], [i32_at(block, at + 4), i32_at(block, at + 12)]],
                 count: u16_at(block, at + 16),
+                muted: u16_at(block, at + 18),
             })
             .collect();
-        // 9: "coordinate beyond limits, low above high, or count over 40"
-        if here.iter().any(|entry| !good_box(entry.bounds) || entry.count > MOST_SITES) {
+        // 9: "coordinate beyond limits, low above high, or count over 40"; 02.1: "at most the count, else 9"
+        let good = |entry: &Entry| good_box(entry.bounds) && entry.count <= MOST_SITES && entry.muted <= entry.count;
+        if !here.iter().all(good) {
             return refuse(9, position);
         }
         entries.extend(here);

@@ -12,7 +12,8 @@ pub struct Place {
     pub cue: u32,
 }
 
-/// "tile B is struck exactly when the counts of all tiles nearer than B from O add up to at least k."
+/// "tile B is struck exactly when the counts of all tiles nearer than B from O add up to at least k." 02.1: "Striking
+/// adds up sounding sites only".
 pub fn struck(entries: &[Entry], o: Box2, k: usize) -> Vec<bool> {
     struck_by(entries, k, |e, b| nearer(o, e, b))
 }
@@ -20,7 +21,7 @@ pub fn struck(entries: &[Entry], o: Box2, k: usize) -> Vec<bool> {
 /// The same with another way to tell which box is nearer.
 pub fn struck_by(entries: &[Entry], k: usize, is_nearer: impl Fn(Box2, Box2) -> bool) -> Vec<bool> {
     let sites_nearer =
-        |b: &Entry| -> usize { entries.iter().filter(|e| is_nearer(e.bounds, b.bounds)).map(|e| e.count).sum() };
+        |b: &Entry| -> usize { entries.iter().filter(|e| is_nearer(e.bounds, b.bounds)).map(Entry::sounding).sum() };
     entries.iter().map(|b| sites_nearer(b) >= k).collect()
 }
 
@@ -95,7 +96,7 @@ pub struct Lent {
     pub marks: Vec<u8>,
 }
 
-/// What the join of document 01 gives, and how many tiles had been opened without a refusal.
+/// What the join of the paper gives, and how many tiles had been opened without a refusal.
 pub struct Run {
     pub joined: Joined,
     pub opened_well: usize,
@@ -112,10 +113,17 @@ fn sites_of(opened: &Opened) -> impl Iterator<Item = (usize, usize, Site)> + '_ 
         .flat_map(|(tile, sites)| sites.iter().flatten().enumerate().map(move |(slot, site)| (tile, slot, *site)))
 }
 
+/// 02.1: "From now on only sites with another cue rank" than 0. A muted site keeps its slot.
+fn ranks(site: Site) -> bool {
+    !site.is_muted()
+}
+
 /// "Sites rank by D from the stop, then tile, then slot", cut after k.
 fn first_in_ranking(sites: impl Iterator<Item = (usize, usize, Site)>, stop: Point, k: usize) -> Vec<Place> {
-    let mut ranked: Vec<(i64, usize, usize, u32)> =
-        sites.map(|(tile, slot, site)| (distance(stop, site.at), tile, slot, site.cue)).collect();
+    let mut ranked: Vec<(i64, usize, usize, u32)> = sites
+        .filter(|(_, _, site)| ranks(*site))
+        .map(|(tile, slot, site)| (distance(stop, site.at), tile, slot, site.cue))
+        .collect();
     ranked.sort();
     ranked.truncate(k);
     ranked
@@ -125,7 +133,7 @@ fn first_in_ranking(sites: impl Iterator<Item = (usize, usize, Site)>, stop: Poi
 }
 
 /// "Stops are taken in turn. For each, the tiles that are not struck and not empty are taken by key: near distance
-/// from the stop, then tile number."
+/// from the stop, then tile number." 02.1: "a tile with none", no sounding site, "is treated as empty".
 fn serve(
     file: &[u8],
     entries: &[Entry],
@@ -135,14 +143,14 @@ fn serve(
     opened: &mut Opened,
 ) -> Result<(), Refusal> {
     let mut keys: Vec<(i64, usize)> = (0..entries.len())
-        .filter(|t| !struck[*t] && entries[*t].count > 0)
+        .filter(|t| !struck[*t] && entries[*t].sounding() > 0)
         .map(|t| (near(stop, entries[t].bounds), t))
         .collect();
     keys.sort();
     for key in keys {
         // "It ends when k sites of opened tiles are ahead of the next key (smaller D, or equal D and a lower tile
         // number)"
-        let is_ahead = |tile: usize, site: Site| (distance(stop, site.at), tile) < key;
+        let is_ahead = |tile: usize, site: Site| ranks(site) && (distance(stop, site.at), tile) < key;
         let ahead = sites_of(opened).filter(|(tile, _, site)| is_ahead(*tile, *site)).take(k).count();
         if ahead >= k {
             break;
@@ -227,13 +235,13 @@ pub fn join(file: &[u8], x: &[i32], y: &[i32], k: u32, lent: &mut Lent) -> Run {
             0
         };
     }
-    // "Places used for each stop: the smaller of k and all sites." "The result carries places used, T, opened and
-    // struck."
-    let all_sites: usize = entries.iter().map(|e| e.count).sum();
+    // "Places used for each stop: the smaller of k and all sites." 02.1: "places used counts only these", the sounding
+    // ones. "The result carries places used, T, opened and struck."
+    let all_sounding: usize = entries.iter().map(Entry::sounding).sum();
     let joined = Joined {
         number: 0,
         block: 0,
-        used: k.min(all_sites) as u32,
+        used: k.min(all_sounding) as u32,
         tiles: tiles as u32,
         opened: opened_well as u32,
         struck: struck.iter().filter(|s| **s).count() as u32,

@@ -2,7 +2,7 @@
 
 use super::blocks::{check, DIRECTORY, SIZE, SYNC, TILE};
 use super::boxes::{good_box, inside};
-use super::directory::{directory_blocks, MOST_SITES, MOST_TILES, PER_BLOCK};
+use super::directory::{directory_blocks, read_directory, MOST_SITES, MOST_TILES, PER_BLOCK};
 use super::{refuse, Box2, Refusal, Town};
 
 /// The writer's lists.
@@ -92,6 +92,11 @@ pub fn write(supply: &Supply, out: &mut [u8]) -> Result<usize, Refusal> {
         return refuse(14, 0);
     }
 
+    // 02.1: "the writer counts them from the cues"
+    let mut muted = vec![0u16; tiles];
+    for site in (0..all).filter(|s| supply.cues[*s] == 0) {
+        muted[tile_of[site]] += 1;
+    }
     let mut file = Vec::new();
     for position in 0..d {
         let first = PER_BLOCK * position;
@@ -102,7 +107,7 @@ pub fn write(supply: &Supply, out: &mut [u8]) -> Result<usize, Refusal> {
                 payload.extend(number.to_le_bytes());
             }
             payload.extend((supply.counts[tile] as u16).to_le_bytes());
-            payload.extend([0, 0]);
+            payload.extend(muted[tile].to_le_bytes());
         }
         file.extend(block(DIRECTORY, position, last - first, tiles, &payload));
     }
@@ -121,11 +126,12 @@ pub fn write(supply: &Supply, out: &mut [u8]) -> Result<usize, Refusal> {
     Ok(length)
 }
 
-/// The file of a town.
+/// The file of a town. The numbers of its directory are those that the town was generated with.
 pub fn file_of(town: &Town) -> Vec<u8> {
     let tiles = town.entries.len();
     let mut out = vec![0; SIZE * (directory_blocks(tiles) + tiles)];
     let length = write(&Supply::of(town), &mut out).expect("a generated town is good");
     assert_eq!(length, out.len());
+    assert_eq!(read_directory(&out).as_ref(), Ok(&town.entries));
     out
 }

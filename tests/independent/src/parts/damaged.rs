@@ -3,6 +3,7 @@
 use super::count;
 use crate::compare::{self, Failure, Lengths, Query};
 use crate::damage::{repair_block, wrong_field, wrong_length};
+use crate::fillings::{filling, point_in, Mutes};
 use crate::paper::blocks::{SIZE, SYNC};
 use crate::paper::boxes::smallest_around;
 use crate::paper::directory::{directory_blocks, open, read_directory};
@@ -10,26 +11,30 @@ use crate::paper::writer::{file_of, Supply};
 use crate::paper::{Entry, Town};
 use crate::rng::Rng;
 use crate::tally::Tally;
-use crate::towns::{filling, point_in};
 
-/// A town in a grid with empty, full and other tiles, and its file.
-struct Base {
-    town: Town,
-    file: Vec<u8>,
-    d: usize,
+/// A town in a grid with empty, full, muted and other tiles, and its file.
+pub struct Base {
+    pub town: Town,
+    pub file: Vec<u8>,
+    pub d: usize,
 }
 
-fn base(tiles: usize, rng: &mut Rng) -> Base {
+pub fn base(tiles: usize, rng: &mut Rng) -> Base {
+    let mutes = Mutes::some(rng);
     let entries: Vec<Entry> = (0..tiles)
         .map(|tile| {
             let low = [(tile % 7) as i32 * 900 - 2_000, (tile / 7) as i32 * 900 - 1_000];
-            let count = match tile % 6 {
-                0 => 3,
-                1 => 40,
-                2 => 0,
-                _ => rng.below(41),
+            let (count, muted) = match tile % 6 {
+                0 => (3, 1),
+                1 => (40, rng.pick(&[0, 1, 39, 40])),
+                2 => (0, 0),
+                3 => rng.pick(&[(1, 1), (5, 5), (40, 40)]),
+                _ => {
+                    let count = rng.below(41);
+                    (count, mutes.of(count, rng))
+                }
             };
-            Entry { bounds: [[low[0], low[0] + 1_000], [low[1], low[1] + 950]], count }
+            Entry { bounds: [[low[0], low[0] + 1_000], [low[1], low[1] + 950]], count, muted }
         })
         .collect();
     let sites = entries.iter().map(|e| filling(e, rng)).collect();
@@ -230,9 +235,9 @@ pub fn run(rng: &mut Rng, tally: &mut Tally) -> Result<String, Failure> {
     for tiles in sizes {
         let base = base(tiles, trial.rng);
         trial.calls(&base, &base.file, 0, "an undamaged file")?;
-        // All directory blocks; the first tile, a full one, an empty one and the last.
+        // All directory blocks; the first tile, a full one, an empty one, a muted one and the last.
         let mut positions: Vec<usize> = (0..base.d).collect();
-        positions.extend([0, 1, 2, tiles - 1].iter().filter(|t| **t < tiles).map(|t| base.d + t));
+        positions.extend([0, 1, 2, 3, tiles - 1].iter().filter(|t| **t < tiles).map(|t| base.d + t));
         positions.dedup();
         for position in positions {
             trial.every_byte(&base, position)?;

@@ -1,11 +1,12 @@
 //! nearby_join against the literal run and the full search; its refusals before the openings, alone and together.
 
 use super::count;
+use super::muted::never;
 use crate::compare::{self, Failure, Lengths, Query};
 use crate::damage;
 use crate::paper::search::{full_search, Lent, Place};
 use crate::paper::writer::file_of;
-use crate::paper::{Point, Town, LIMIT};
+use crate::paper::{Entry, Point, Town, LIMIT};
 use crate::rng::Rng;
 use crate::tally::Tally;
 use crate::towns::{self, Sort, SORTS};
@@ -59,6 +60,10 @@ struct Seen {
     /// Places left over, and places at the distance of the one before them.
     unused: usize,
     tied: usize,
+    /// Runs in towns without a muted site, in towns with sites of which none sounds, and the others.
+    plain: usize,
+    silent: usize,
+    mixed: usize,
 }
 
 fn answered(
@@ -79,6 +84,13 @@ fn answered(
     let (run, lent) = compare::join(&file, &query, lengths, rng, tally).map_err(|f| f.case(&case))?;
     assert_eq!(run.joined.number, 0);
     lists_are_full_search(&town, &file, &query, &lent).map_err(|f| f.case(&case))?;
+    never(&town, &query, &run.joined, &lent).map_err(|text| Failure::with_file(text, &file).case(&case))?;
+    let sum = |of: fn(&Entry) -> usize| -> usize { town.entries.iter().map(of).sum() };
+    match (sum(|entry| entry.muted), sum(Entry::sounding)) {
+        (0, _) => seen.plain += 1,
+        (_, 0) => seen.silent += 1,
+        _ => seen.mixed += 1,
+    }
     seen.joins += 1;
     seen.stops += n;
     seen.opened += run.joined.opened as usize;
@@ -250,8 +262,8 @@ pub fn run(rng: &mut Rng, tally: &mut Tally) -> Result<String, Failure> {
     let refused = together(rng, tally)?;
     Ok(format!(
         "{} runs with {} stops against the literal run and the full search ({} tiles opened, {} struck, \
-         {} neither; {} places unused, {} tied with the one before); {} at the ends of k, n and lengths; \
-         {} refusals by one fault or several at once",
+         {} neither; {} places unused, {} tied with the one before; no site muted in {} runs, all in {}, some in {}); \
+         {} at the ends of k, n and lengths; {} refusals by one fault or several at once",
         count(seen.joins),
         count(seen.stops),
         count(seen.opened),
@@ -259,6 +271,9 @@ pub fn run(rng: &mut Rng, tally: &mut Tally) -> Result<String, Failure> {
         count(seen.neither),
         count(seen.unused),
         count(seen.tied),
+        count(seen.plain),
+        count(seen.silent),
+        count(seen.mixed),
         count(ends),
         count(refused)
     ))

@@ -2,13 +2,13 @@
 
 use super::count;
 use crate::compare::Failure;
+use crate::fillings::point_in;
 use crate::host;
 use crate::paper::boxes::{
     distance, exported_margin, far, good_box, margin, margin_of_all_points, near, nearer, points, reaching,
 };
 use crate::paper::{Box2, Point, LIMIT};
 use crate::rng::Rng;
-use crate::towns::point_in;
 
 fn agrees(o: Box2, e: Box2, b: Box2, due: i64) -> Result<(), Failure> {
     let got = host::margin(o, e, b);

@@ -2,8 +2,12 @@
 
 pub mod checks;
 pub mod damaged;
+mod expected;
+pub mod faults;
 pub mod joins;
 pub mod margins;
+pub mod mismatches;
+pub mod muted;
 pub mod programs;
 pub mod strikes;
 pub mod unread;

@@ -8,7 +8,7 @@ use crate::paper::blocks::SIZE;
 use crate::paper::directory::directory_blocks;
 use crate::paper::program::printed;
 use crate::paper::writer::file_of;
-use crate::paper::{Entry, Point, Site, Town, LIMIT};
+use crate::paper::{Point, Site, Town, LIMIT};
 use crate::rng::Rng;
 use crate::towns::{self, Sort, SORTS};
 use std::io::{Read, Write};
@@ -78,11 +78,13 @@ impl Program<'_> {
 /// "stop (0,0), k = 2, and tiles with y 0..0: tile 0 x 0..10, site (10,0) cue 7; tile 1 x -10..-4, site (-10,0) cue
 /// 8; tile 2 x 10..12, site (11,0) cue 9". Case 12.
 fn town_of_the_paper() -> Town {
-    let tiles = [([0, 10], 10, 7), ([-10, -4], -10, 8), ([10, 12], 11, 9)];
-    Town {
-        entries: tiles.iter().map(|(x, _, _)| Entry { bounds: [*x, [0, 0]], count: 1 }).collect(),
-        sites: tiles.iter().map(|(_, at, cue)| vec![Site { at: [*at, 0], cue: *cue }]).collect(),
-    }
+    town_in_a_row(&[([0, 10], &[(10, 7)]), ([-10, -4], &[(-10, 8)]), ([10, 12], &[(11, 9)])])
+}
+
+/// Tiles with y 0..0: the range of x, and each site's x and cue.
+fn town_in_a_row(tiles: &[([i32; 2], &[(i32, u32)])]) -> Town {
+    let site = |(x, cue): &(i32, u32)| Site { at: [*x, 0], cue: *cue };
+    Town::of(tiles.iter().map(|(x, sites)| ([*x, [0, 0]], sites.iter().map(site).collect())).collect())
 }
 
 fn worked_example(program: &mut Program) -> Result<(), Failure> {
@@ -94,6 +96,62 @@ fn worked_example(program: &mut Program) -> Result<(), Failure> {
     let input = input_of(3, 1, &[[0, 0]], &file);
     assert!(printed(&input).starts_with(b"tiles 3 opened 3 struck 0\n"));
     program.agrees("the worked example with k = 3", &input)
+}
+
+/// The same town with sites muted or muted ones put in, worked by hand.
+fn worked_example_muted(program: &mut Program) -> Result<(), Failure> {
+    type Tiles<'a> = &'a [([i32; 2], &'a [(i32, u32)])];
+    let (first, second, third): ([i32; 2], [i32; 2], [i32; 2]) = ([0, 10], [-10, -4], [10, 12]);
+    let cases: [(&str, u32, Tiles, &str); 6] = [
+        (
+            "a muted site at the stop, in slot 0",
+            2,
+            &[(first, &[(0, 0), (10, 7)]), (second, &[(-10, 8)]), (third, &[(11, 9)])],
+            "tiles 3 opened 2 struck 0\nstop 0: 100 1 7; 100 40 8\n",
+        ),
+        (
+            "tile 1 muted: it is not opened, and tile 2 is",
+            2,
+            &[(first, &[(10, 7)]), (second, &[(-10, 0)]), (third, &[(11, 9)])],
+            "tiles 3 opened 2 struck 0\nstop 0: 100 0 7; 121 80 9\n",
+        ),
+        (
+            "tile 1 muted, and fewer sites than k",
+            3,
+            &[(first, &[(10, 7)]), (second, &[(-10, 0)]), (third, &[(11, 9)])],
+            "tiles 3 opened 2 struck 0\nstop 0: 100 0 7; 121 80 9\n",
+        ),
+        (
+            "the third tile farther: one sounding site is nearer, so it is struck for k = 1",
+            1,
+            &[(first, &[(10, 7), (1, 0)]), (second, &[(-10, 0)]), ([11, 12], &[(11, 9)])],
+            "tiles 3 opened 1 struck 1\nstop 0: 100 0 7\n",
+        ),
+        (
+            "for k = 2 it is not, though three sites are nearer",
+            2,
+            &[(first, &[(10, 7), (1, 0)]), (second, &[(-10, 0)]), ([11, 12], &[(11, 9)])],
+            "tiles 3 opened 2 struck 0\nstop 0: 100 0 7; 121 80 9\n",
+        ),
+        (
+            "every site muted",
+            2,
+            &[(first, &[(10, 0)]), (second, &[(-10, 0)]), (third, &[(11, 0)])],
+            "tiles 3 opened 0 struck 0\nstop 0:\n",
+        ),
+    ];
+    for (case, k, tiles, due) in cases {
+        let input = input_of(k, 1, &[[0, 0]], &file_of(&town_in_a_row(tiles)));
+        assert_eq!(String::from_utf8_lossy(&printed(&input)), due, "{case}");
+        program.agrees(case, &input)?;
+    }
+    // A file from before the muted numbers: the first tile opened with a muted site is refused.
+    let mut file = file_of(&town_in_a_row(&[(first, &[(10, 7)]), (second, &[(-10, 0)]), (third, &[(11, 9)])]));
+    damage::set_u16(damage::block_mut(&mut file, 0), 16 + 20 + 18, 0);
+    damage::repair_block(&mut file, 0);
+    let input = input_of(2, 1, &[[0, 0]], &file);
+    assert_eq!(printed(&input), b"refused 16 block 2\n");
+    program.agrees("an old file with a cue 0", &input)
 }
 
 /// Towns that fit the input: at most 65,536 bytes in all.
@@ -195,6 +253,7 @@ fn refused(program: &mut Program, rng: &mut Rng) -> Result<(), Failure> {
 pub fn run(path: &str, rng: &mut Rng) -> Result<String, Failure> {
     let mut program = Program { path, runs: 0, cut: 0, refused: 0 };
     worked_example(&mut program)?;
+    worked_example_muted(&mut program)?;
     answered(&mut program, rng)?;
     cut(&mut program, rng)?;
     refused(&mut program, rng)?;

@@ -3,14 +3,15 @@
 use super::count;
 use crate::compare::{self, Failure};
 use crate::damage;
+use crate::fillings::{filling, point_in};
 use crate::paper::boxes::margin_of_all_points;
 use crate::paper::directory::directory_blocks;
-use crate::paper::search::{full_search, struck_by};
+use crate::paper::search::{self, full_search, struck_by};
 use crate::paper::writer::file_of;
 use crate::paper::{Box2, Entry, Town, LIMIT};
 use crate::rng::Rng;
 use crate::tally::Tally;
-use crate::towns::{self, filling, point_in, Sort, SORTS};
+use crate::towns::{self, Sort, SORTS};
 
 /// A box around one to three points that stops could have.
 fn box_near(town: &Town, rng: &mut Rng) -> Box2 {
@@ -22,9 +23,10 @@ fn any_k(rng: &mut Rng) -> u32 {
     rng.pick(&[1, 1, 2, 3, 5, 10, 20, 40, 41, 63, 64])
 }
 
-/// Towns of every sort. No struck tile has a place in a full search from a point of O.
-fn many_towns(rng: &mut Rng, tally: &mut Tally) -> Result<(usize, usize), Failure> {
-    let (mut tried, mut struck) = (0, 0);
+/// Towns of every sort. No struck tile has a place in a full search from a point of O. Also counts the tiles that would
+/// be struck if muted sites were added up too.
+fn many_towns(rng: &mut Rng, tally: &mut Tally) -> Result<(usize, usize, usize), Failure> {
+    let (mut tried, mut struck, mut spared) = (0, 0, 0);
     for round in 0..90 {
         for sort in SORTS {
             let tiles = if round == 89 { 960 } else { 1 + rng.below(70) };
@@ -43,10 +45,13 @@ fn many_towns(rng: &mut Rng, tally: &mut Tally) -> Result<(usize, usize), Failur
                 let (pruned, marks) = compare::prune(&file, o, k, marks_len, rng, tally).map_err(|f| f.case(&case))?;
                 tried += 1;
                 struck += pruned.struck as usize;
+                let all_sound: Vec<Entry> = town.entries.iter().map(|e| Entry { muted: 0, ..*e }).collect();
+                let by_all = search::struck(&all_sound, o, k as usize).iter().filter(|s| **s).count();
+                spared += by_all - pruned.struck as usize;
                 let stop = point_in(o, rng);
-                for place in full_search(&town, stop, k as usize) {
-                    let filler = place.d == 0 && place.site == 0 && place.cue == 0;
-                    if !filler && marks[place.site as usize / 40] == 1 {
+                // A place with cue 0 is one left over.
+                for place in full_search(&town, stop, k as usize).iter().filter(|place| place.cue != 0) {
+                    if marks[place.site as usize / 40] == 1 {
                         let text =
                             format!("nearby_prune(box {o:?}, k {k}) struck the tile of {place:?}, of stop {stop:?}");
                         return Err(Failure::with_file(text, &file).case(&case));
@@ -55,7 +60,7 @@ fn many_towns(rng: &mut Rng, tally: &mut Tally) -> Result<(usize, usize), Failur
             }
         }
     }
-    Ok((tried, struck))
+    Ok((tried, struck, spared))
 }
 
 /// Boxes of few points: which tile is nearer is told by all points.
@@ -69,8 +74,12 @@ fn small_towns(rng: &mut Rng, tally: &mut Tally) -> Result<(usize, usize), Failu
             })
         };
         let tiles = 1 + rng.below(12);
-        let entries: Vec<Entry> =
-            (0..tiles).map(|_| Entry { bounds: small(rng), count: rng.pick(&[0, 1, 2, 3, 10]) }).collect();
+        let entries: Vec<Entry> = (0..tiles)
+            .map(|_| {
+                let count = rng.pick(&[0, 1, 2, 3, 10]);
+                Entry { bounds: small(rng), count, muted: rng.below(count + 1) }
+            })
+            .collect();
         let sites = entries.iter().map(|e| filling(e, rng)).collect();
         let town = Town { entries, sites };
         let (o, k) = (small(rng), rng.pick(&[1, 2, 3, 5, 10]));
@@ -125,14 +134,15 @@ fn refusals(rng: &mut Rng, tally: &mut Tally) -> Result<usize, Failure> {
 }
 
 pub fn run(rng: &mut Rng, tally: &mut Tally) -> Result<String, Failure> {
-    let (tried, struck) = many_towns(rng, tally)?;
+    let (tried, struck, spared) = many_towns(rng, tally)?;
     let (small, small_struck) = small_towns(rng, tally)?;
     let refused = refusals(rng, tally)?;
     Ok(format!(
-        "{} boxes and k on towns of every sort, {} tiles struck; {} against all points \
-         of small boxes, {} tiles struck; {} refusals",
+        "{} boxes and k on towns of every sort, {} tiles struck, {} more if muted sites were added up; {} against all \
+         points of small boxes, {} tiles struck; {} refusals",
         count(tried),
         count(struck),
+        count(spared),
         count(small),
         count(small_struck),
         count(refused)

@@ -3,18 +3,19 @@
 use super::count;
 use super::joins::{any_k, list, lists_are_full_search, query_of};
 use crate::compare::{self, Failure, Lengths};
+use crate::fillings::{filling, other_cue};
 use crate::host::{self, Slices};
 use crate::paper::boxes::closest;
 use crate::paper::directory::directory_blocks;
 use crate::paper::search::{full_search, Joined, Lent, Place};
 use crate::paper::writer::file_of;
-use crate::paper::{Point, Site, Town};
+use crate::paper::{muted, Point, Site, Town};
 use crate::rng::Rng;
 use crate::tally::Tally;
-use crate::towns::{self, filling, SORTS};
+use crate::towns::{self, SORTS};
 
 /// The engine's own answer on a file, with slices of these lengths.
-fn engine(file: &[u8], stops: &[Point], k: u32, lengths: Lengths) -> (Joined, Lent) {
+pub fn engine(file: &[u8], stops: &[Point], k: u32, lengths: Lengths) -> (Joined, Lent) {
     let query = query_of(stops, k);
     let mut lent = Lent {
         dist: vec![7; lengths.dist],
@@ -27,13 +28,18 @@ fn engine(file: &[u8], stops: &[Point], k: u32, lengths: Lengths) -> (Joined, Le
     (joined, lent)
 }
 
+/// The same slots muted, and all sites at this point with other cues: a filling that keeps count and muted number.
+fn all_at(sites: &[Site], at: Point) -> Vec<Site> {
+    sites.iter().map(|s| Site { at, cue: other_cue(s.cue) }).collect()
+}
+
 /// "some other filling of it ... changes what the full search gives for at least one stop": all sites of the tile at
 /// the point of its box nearest to a stop, with other cues.
 fn some_filling_matters(town: &Town, tile: usize, stops: &[Point], lists: &[Vec<Place>]) -> bool {
     stops.iter().zip(lists).any(|(stop, list)| {
         let at = closest(*stop, town.entries[tile].bounds);
         let mut other = town.clone();
-        other.sites[tile] = town.sites[tile].iter().map(|s| Site { at, cue: s.cue ^ 1 }).collect();
+        other.sites[tile] = all_at(&town.sites[tile], at);
         full_search(&other, *stop, list.len()) != *list
     })
 }
@@ -52,11 +58,15 @@ fn no_filling_matters(
     }
     let mut fillings = vec![filling(&entry, rng), filling(&entry, rng)];
     for stop in stops {
-        let at = closest(*stop, entry.bounds);
-        fillings.push(town.sites[tile].iter().map(|s| Site { at, cue: !s.cue }).collect());
+        let mut sites = all_at(&town.sites[tile], closest(*stop, entry.bounds));
+        fillings.push(sites.clone());
+        // Other slots muted.
+        sites.rotate_left(1);
+        fillings.push(sites);
     }
     let tried = fillings.len();
     for sites in fillings {
+        assert_eq!((sites.len(), muted(&sites)), (entry.count, entry.muted));
         let mut other = town.clone();
         other.sites[tile] = sites;
         for (stop, list) in stops.iter().zip(lists) {
@@ -72,7 +82,7 @@ fn no_filling_matters(
 }
 
 pub fn run(rng: &mut Rng, tally: &mut Tally) -> Result<String, Failure> {
-    let (mut pairs, mut matter, mut idle, mut runs) = (0, 0, 0, 0);
+    let (mut pairs, mut matter, mut idle, mut idle_muted, mut runs) = (0, 0, 0, 0, 0);
     for round in 0..150 {
         for sort in SORTS {
             let tiles = if round % 75 == 74 { 300 } else { 1 + rng.below(40) };
@@ -132,6 +142,7 @@ pub fn run(rng: &mut Rng, tally: &mut Tally) -> Result<String, Failure> {
                     matter += 1;
                 } else {
                     match no_filling_matters(&town, tile, &stops, &lists, rng) {
+                        Ok(tried) if town.entries[tile].sounding() == 0 => idle_muted += tried,
                         Ok(tried) => idle += tried,
                         Err(text) => return fail(text, &file),
                     }
@@ -141,10 +152,12 @@ pub fn run(rng: &mut Rng, tally: &mut Tally) -> Result<String, Failure> {
     }
     Ok(format!(
         "{} runs, {} files that differ in unread tiles; {} opened tiles each with a filling \
-         that changes a list, {} other fillings of unread tiles that change none",
+         that changes a list, {} other fillings of unread tiles and {} of muted tiles that change none, all with the \
+         count and the muted number of the directory",
         count(runs),
         count(pairs),
         count(matter),
-        count(idle)
+        count(idle),
+        count(idle_muted)
     ))
 }

@@ -2,10 +2,11 @@
 
 use super::count;
 use crate::compare::{self, Failure};
+use crate::fillings::filling;
 use crate::paper::blocks::SIZE;
 use crate::paper::directory::directory_blocks;
 use crate::paper::writer::Supply;
-use crate::paper::LIMIT;
+use crate::paper::{Entry, Town, LIMIT};
 use crate::rng::Rng;
 use crate::tally::Tally;
 use crate::towns::{town, SORTS};
@@ -34,6 +35,26 @@ fn good_towns(rng: &mut Rng, tally: &mut Tally) -> Result<(usize, usize), Failur
         }
     }
     Ok((towns, bytes))
+}
+
+/// A tile for every count and every number of muted sites up to it: the bytes 16-19 of each entry.
+fn every_muted_number(rng: &mut Rng, tally: &mut Tally) -> Result<usize, Failure> {
+    let mut numbers: Vec<(usize, usize)> =
+        (0..=40).flat_map(|count| (0..=count).map(move |muted| (count, muted))).collect();
+    rng.shuffle(&mut numbers);
+    let tiles = numbers.iter().map(|(count, muted)| {
+        let entry = Entry { bounds: [[-9, 9], [0, 99]], count: *count, muted: *muted };
+        (entry.bounds, filling(&entry, rng))
+    });
+    let supply = Supply::of(&Town::of(tiles.collect()));
+    let length = SIZE * (numbers.len() + directory_blocks(numbers.len()));
+    let file = compare::write(&supply, length, rng, tally)?.expect("a good town is written");
+    for (tile, (count, muted)) in numbers.iter().enumerate() {
+        let at = SIZE * (tile / 24) + 16 + 20 * (tile % 24);
+        assert_eq!(file[at + 16..at + 20], [*count as u8, 0, *muted as u8, 0]);
+    }
+    assert_eq!(compare::validate(&file, tally)?, Ok(numbers.len()));
+    Ok(numbers.len())
 }
 
 /// One of the six faults, in the order of their tests: 6, 15, 9, 15, 10, 14.
@@ -135,9 +156,11 @@ fn refusals(rng: &mut Rng, tally: &mut Tally) -> Result<usize, Failure> {
 
 pub fn run(rng: &mut Rng, tally: &mut Tally) -> Result<String, Failure> {
     let (towns, bytes) = good_towns(rng, tally)?;
+    let numbers = every_muted_number(rng, tally)?;
     let refused = refusals(rng, tally)?;
     Ok(format!(
-        "{} towns of 1 to 960 tiles written and checked, {} bytes; {} refusals by one fault or several at once",
+        "{} towns of 1 to 960 tiles written and checked, {} bytes; one of {numbers} tiles, for every count and muted \
+         number; {} refusals by one fault or several at once",
         count(towns),
         count(bytes),
         count(refused)
