@@ -1,9 +1,8 @@
 #!/usr/bin/env python3
 """Writes what the program `nearby` reads: ask.py FILE K X,Y [X,Y ...] | nearby
 
-The k nearest sites of each stop (X,Y), in centimetres, of the town in FILE. \
-The program takes 128 stops and 65,536 bytes, stops
-and file together; to more it answers `input`.
+The k nearest sounding sites (cue not 0) of each stop (X,Y), in centimetres, of the town in FILE. The program takes 128
+stops and 65,536 bytes, stops and file together; to more it answers `input`.
 """
 import struct
 import sys

@@ -43,7 +43,7 @@ static unsigned check_blocks(size_t length) {
 static int refused(uint32_t number, uint32_t block, size_t length) {
     size_t directory = (length / NEARBY_BLOCK_SIZE + 24) / 25;
     printf("refused %" PRIu32, number);
-    if (number >= NEARBY_K) {
+    if (number >= NEARBY_K && number != NEARBY_MUTED) {
         printf(": the question is wrong\n");
         return 2;
     }
@@ -54,7 +54,7 @@ static int refused(uint32_t number, uint32_t block, size_t length) {
     } else {
         printf(", block %" PRIu32 ", tile %zu", block, block - directory);
     }
-    printf(": copy the whole file again\n");
+    printf(": copy the whole file again%s\n", number == NEARBY_MUTED ? ", or make it again from its town" : "");
     return 1;
 }
 

@@ -18,7 +18,7 @@ static uint32_t u32(const uint8_t *s) { return u16(s) | u16(s + 2) << 16; }
 static int64_t i32(const uint8_t *s) { return (int64_t)u32(s) - (s[3] < 0x80 ? 0 : INT64_C(0x100000000)); }
 
 /* The directory: how many blocks it has, and the entry of a tile. Low x of an entry is at 0, low y at 4, high x at 8,
- * high y at 12, the count of sites at 16. */
+ * high y at 12, the count of sites at 16, how many of them are muted at 18. */
 static uint32_t directory_blocks(uint32_t tiles) { return (tiles + ENTRIES - 1) / ENTRIES; }
 static const uint8_t *block_at(uint32_t position) { return file + BLOCK * position; }
 static const uint8_t *entry_of(uint32_t tile) { return block_at(tile / ENTRIES) + HEAD + ENTRY * (tile % ENTRIES); }
@@ -47,7 +47,7 @@ static int test_head(const uint8_t *s, int kind, uint32_t position) {
 
 /* Tests 2 to 9 of the directory block at a position. */
 static int test_directory(uint32_t position, uint32_t blocks) {
-    const uint8_t *s = block_at(position), *e;
+    const uint8_t *s = block_at(position);
     int number = test_head(s, DIRECTORY, position);
     if (number != 0) return number;
 
@@ -60,31 +60,29 @@ static int test_directory(uint32_t position, uint32_t blocks) {
     if (u16(s + 4) != due) return 7;
 
     if (nonzero(s, 8, HEAD) || nonzero(s, HEAD + ENTRY * due, CHECK)) return 8;
-    for (e = s + HEAD; e < end; e += ENTRY) {
-        if (nonzero(e, 18, ENTRY)) return 8;
-    }
-    for (e = s + HEAD; e < end; e += ENTRY) {
+    for (const uint8_t *e = s + HEAD; e < end; e += ENTRY) {
         if (i32(e) < -LIMIT || i32(e) > i32(e + 8) || i32(e + 8) > LIMIT) return 9;
         if (i32(e + 4) < -LIMIT || i32(e + 4) > i32(e + 12) || i32(e + 12) > LIMIT) return 9;
-        if (u16(e + 16) > MAX_SITES) return 9;
+        if (u16(e + 16) > MAX_SITES || u16(e + 18) > u16(e + 16)) return 9;
     }
     return 0;
 }
 
-/* Tests 2, 3, 4, 5, 7, 8 and 10 of the tile block at a position, by the tile's entry. */
+/* Tests 2, 3, 4, 5, 7, 8, 10 and 16 of the tile block at a position, by the tile's entry. */
 static int test_tile(uint32_t position, const uint8_t *e) {
     const uint8_t *s = block_at(position);
     int number = test_head(s, TILE, position);
     if (number != 0) return number;
 
-    uint32_t due = u16(e + 16);
+    uint32_t due = u16(e + 16), muted = 0;
     if (u16(s + 4) != due) return 7;
     if (nonzero(s, 6, HEAD) || nonzero(s, HEAD + SITE * due, CHECK)) return 8;
     for (const uint8_t *site = s + HEAD; site < s + HEAD + SITE * due; site += SITE) {
         if (i32(site) < i32(e) || i32(site) > i32(e + 8)) return 10;
         if (i32(site + 4) < i32(e + 4) || i32(site + 4) > i32(e + 12)) return 10;
+        muted += u32(site + 8) == 0;
     }
-    return 0;
+    return muted == u16(e + 18) ? 0 : 16;
 }
 
 static int refused(int number, uint32_t block) {

@@ -15,6 +15,8 @@
  *   up, then the block of each tile. It is one slice, whole, and must not change during the call. It may be mapped:
  *   nearby_join reads the directory and the blocks of the tiles that it has to open, nearby_prune the directory alone.
  * - A coordinate is a whole number of centimetres from -1,000,000 to 1,000,000. Distances are squared.
+ * - A site with cue 0 is muted: it keeps its slot in the tile and takes no place in a list. The others are sounding.
+ *   The directory has, for each tile, the number of its sites and how many of them are muted.
  */
 #ifndef NEARBY_H
 #define NEARBY_H
@@ -42,15 +44,17 @@ enum {
                             count that the directory has for the tile */
     NEARBY_PADDING = 8,  /* a byte that the format does not use; due: 0 */
     NEARBY_BOX = 9,      /* an entry of the directory; due: coordinates within the limits, no low end above its high
-                            end, at most 40 sites */
+                            end, at most 40 sites, no more of them muted than there are */
     NEARBY_STRAY = 10,   /* a site of the tile; due: inside the box that the directory has for the tile */
     /* Of a question. */
     NEARBY_K = 11,       /* due: k from 1 to 64 */
     NEARBY_STOPS = 12,   /* due: 1 to 256 stops, as many y as x */
     NEARBY_SPOT = 13,    /* a stop; due: both coordinates within the limits */
     NEARBY_SHORT = 14,   /* an output slice; due: as many elements as the function needs, or more */
-    NEARBY_SUPPLY = 15   /* the writer's lists; due: four numbers a tile in boxes, as many x, y and cues as the counts
+    NEARBY_SUPPLY = 15,  /* the writer's lists; due: four numbers a tile in boxes, as many x, y and cues as the counts
                             add up to */
+    /* Of a file again. */
+    NEARBY_MUTED = 16    /* sites of the tile with cue 0; due: as many as the directory has for the tile */
 };
 
 /* Where. With the number goes a block: the position in the file of the block refused, from 0. It is 0 for
@@ -70,6 +74,7 @@ enum {
  *     NEARBY_SYNC, NEARBY_CHECK: damaged, or something else than a town's file.
  *     NEARBY_KIND, NEARBY_POSITION: blocks lost, doubled or in another order, or damage that the check does not see.
  *     NEARBY_ENTRIES, NEARBY_STRAY in a tile: directory and tile are of different files, or such damage.
+ *     NEARBY_MUTED: the same; or a file with a cue 0 from before muted sites were counted: write it again.
  *     NEARBY_ENTRIES in the directory, NEARBY_PADDING, NEARBY_BOX: such damage, or a file not made by nearby_write.
  *   Do not put in the refused block alone: one of an older file may pass every test, and its sites are wrong.
  *   If a full copy is refused alike, the file is bad where it came from: make it again from its town.
@@ -101,14 +106,15 @@ int64_t nearby_margin(int32_t ox0, int32_t ox1, int32_t oy0, int32_t oy1,
 struct nearby_joined {
     uint32_t number; /* NEARBY_OK, or the refusal; then block says where, and the other numbers are 0 */
     uint32_t block;
-    uint32_t used;   /* places used for each stop: the smaller of k and the number of all sites */
+    uint32_t used;   /* places used for each stop: the smaller of k and the number of all sounding sites */
     uint32_t tiles;  /* T, the tiles of the file */
     uint32_t opened; /* tiles opened, whose block was read and passed its tests: as many marks are 2 */
     uint32_t pruned; /* tiles struck: as many marks are 1 */
 };
 
-/* The k nearest sites of each stop. Stop i is at (x[i], y[i]); place j of stop i is element i * k + j of dist (squared
- * distance), site (tile * 40 + slot) and cue, nearest first, then by tile, then by slot. Places past `used` are 0.
+/* The k nearest sounding sites of each stop. Stop i is at (x[i], y[i]); place j of stop i is element i * k + j of dist
+ * (squared distance), site (tile * 40 + slot) and cue, nearest first, then by tile, then by slot. Places past `used`
+ * are 0.
  * marks has a byte for each tile: 2 opened, 1 struck as by nearby_prune for the smallest box around the stops,
  * 0 neither.
  *
@@ -116,8 +122,9 @@ struct nearby_joined {
  * these never change.
  * Refuses, first that applies: NEARBY_LENGTH; of each directory block NEARBY_SYNC to NEARBY_BOX; NEARBY_K,
  * NEARBY_STOPS, NEARBY_SPOT, NEARBY_SHORT: all four slices are as they were. Then, of a tile that had to be opened,
- * NEARBY_SYNC, NEARBY_CHECK, NEARBY_KIND, NEARBY_POSITION, NEARBY_ENTRIES, NEARBY_PADDING, NEARBY_STRAY: the first
- * n * k places and T marks are 0. A tile that is not opened may hold anything: the answer does not depend on it. */
+ * NEARBY_SYNC, NEARBY_CHECK, NEARBY_KIND, NEARBY_POSITION, NEARBY_ENTRIES, NEARBY_PADDING, NEARBY_STRAY,
+ * NEARBY_MUTED: the first n * k places and T marks are 0. A tile without a sounding site is not opened, and one that
+ * is not opened may hold anything: the answer does not depend on it. */
 struct nearby_joined nearby_join(const uint8_t *file, size_t file_len,
                                  const int32_t *x, size_t x_len, const int32_t *y, size_t y_len, uint32_t k,
                                  uint64_t *dist, size_t dist_len, uint32_t *site, size_t site_len,
@@ -131,8 +138,8 @@ struct nearby_pruned {
 };
 
 /* Marks with 1 each tile that is struck, from the directory alone: the tiles nearer than it from all of the box x0..x1
- * by y0..y1 have k sites or more, so it cannot hold one of the k nearest sites of any point of the box. The others are
- * marked 0.
+ * by y0..y1 have k sounding sites or more, so it cannot hold one of the k nearest of any point of the box. The others
+ * are marked 0.
  *
  * Needs T elements in marks; elements past these never change. Refuses, first that applies: NEARBY_LENGTH; of each
  * directory block NEARBY_SYNC to NEARBY_BOX; NEARBY_K; NEARBY_BOX for the box (block 0); NEARBY_SHORT. Then marks is as
@@ -147,9 +154,9 @@ struct nearby_validated {
     uint32_t tiles;  /* T */
 };
 
-/* The full check: the directory, then every tile in order. Gives T or the first refusal: NEARBY_LENGTH; of each
- * directory block NEARBY_SYNC to NEARBY_BOX; of each tile as an opening of nearby_join. A file passes exactly when
- * nearby_write makes it from some town. */
+/* The full check: the directory, then every tile in order, those without sounding sites too. Gives T or the first
+ * refusal: NEARBY_LENGTH; of each directory block NEARBY_SYNC to NEARBY_BOX; of each tile as an opening of nearby_join.
+ * A file passes exactly when nearby_write makes it from some town. */
 struct nearby_validated nearby_validate(const uint8_t *file, size_t file_len);
 
 struct nearby_written {
@@ -159,7 +166,8 @@ struct nearby_written {
 };
 
 /* Writes the file of a town to the start of out. T is counts_len; boxes has four numbers for each tile: low x, low y,
- * high x, high y (in this order); x, y and cues have the sites of all tiles, tile after tile.
+ * high x, high y (in this order); x, y and cues have the sites of all tiles, tile after tile. How many are muted is
+ * counted from the cues.
  *
  * Needs the file's length in out; bytes past it never change. Refuses, first that applies: NEARBY_TILES (T is 0 or over
  * 960), NEARBY_SUPPLY (not four numbers a tile), NEARBY_BOX, NEARBY_SUPPLY (x, y or cues not as long as the counts add

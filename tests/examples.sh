@@ -38,6 +38,13 @@ lines_to_town 'tile 0 0 1 1\nsite 1 0 7\n' >"$built/plain.town"
 odd="\t tile -$(printf '%0200d' 0) +0\t \t1 01\t#\\0\r\f\xff# tile\r\n#\r\n \t\r\nsite 1 -0 +07 #"
 compare "$built/plain.town" lines_to_town "$odd"
 
+# A muted site, with cue 0, keeps its slot and takes no place; a tile that has no other is not opened.
+line='tile 0 0 2 0\nsite 1 0 0\nsite 2 0 5\ntile 4 0 6 0\nsite 5 0 0\ntile 10 0 12 0\nsite 11 0 7\n'
+lines_to_town "$line" >"$built/muted.town"
+compare <(printf '%s\n' "tiles 3 opened 2 struck 0" "stop 0: 4 1 5; 121 80 7") ask "$built/muted.town" 3 0,0
+lines_to_town 'tile 0 0 1 1\nsite 1 1 0\n' >"$built/silent.town"
+compare <(printf '%s\n' "tiles 1 opened 0 struck 0" "stop 0:") ask "$built/silent.town" 2 0,0
+
 # A standard input that cannot be read is no empty input.
 read_folder() { target/bin/nearby </; }
 compare <(echo "nearby: standard input cannot be read") read_folder
@@ -49,13 +56,13 @@ head -c 12799 samples/riverside.town >"$built/cut.town"
 with_byte() { head -c 11000 samples/riverside.town; printf "$1"; tail -c +11002 samples/riverside.town; }
 with_byte '\x01' >"$built/one.town"
 with_byte '\xff' >"$built/255.town"
-# recount FILE BLOCK ENTRIES: the file with another number of entries in a block, whose check is made anew
+# recount FILE BLOCK BYTE NUMBER: the file with another number in two bytes of a block, whose check is made anew
 recount() { python3 - "$@" <<'END'
 import sys
-name, block, entries = sys.argv[1], int(sys.argv[2]), int(sys.argv[3])
+name, (block, byte, number) = sys.argv[1], map(int, sys.argv[2:])
 data = bytearray(open(name, "rb").read())
 start = 512 * block
-data[start + 4 : start + 6] = entries.to_bytes(2, "little")
+data[start + byte : start + byte + 2] = number.to_bytes(2, "little")
 a = c = 0
 for byte in data[start + 1 : start + 510]:
     a = (a + byte) % 255
@@ -64,27 +71,42 @@ data[start + 510 : start + 512] = bytes([a, c])
 sys.stdout.buffer.write(data)
 END
 }
-recount samples/riverside.town 12 9 >"$built/tile.town"
-recount samples/riverside.town 0 23 >"$built/entries.town"
+recount samples/riverside.town 12 4 9 >"$built/tile.town"
+recount samples/riverside.town 0 4 23 >"$built/entries.town"
+# Tile 20 is block 21. The cue of its slot 0 becomes 0; the muted number of its entry becomes 1, and 5 of 4 sites.
+recount samples/riverside.town 21 24 0 >"$built/cue.town"
+recount samples/riverside.town 0 434 1 >"$built/muted-1.town"
+recount samples/riverside.town 0 434 5 >"$built/muted-5.town"
+recount "$built/muted-1.town" 21 24 0 >"$built/both.town"
 compare <(echo "refused 1 block 0") ask "$built/cut.town" 3 1200,3000
 compare <(echo "refused 3 block 21") ask "$built/one.town" 3 2600,3100
 compare <(echo "refused 8 block 21") ask "$built/255.town" 3 2600,3100
-# says NUMBER BLOCK WHERE FILE: what the sound host prints of a bad file, besides its lines for each block
+compare <(echo "refused 16 block 21") ask "$built/cue.town" 3 2600,3100
+compare <(echo "refused 16 block 21") ask "$built/muted-1.town" 3 2600,3100
+compare <(echo "refused 9 block 0") ask "$built/muted-5.town" 3 2600,3100
+# A tile that is not opened is not tested. Where cue and muted number agree, the file is good, and site 800 is muted.
+compare <(ask samples/riverside.town 3 1200,3000) ask "$built/cue.town" 3 1200,3000
+compare <(printf '%s\n' "tiles 24 opened 3 struck 18" "stop 0: 13850 802 177; 58986 803 63; 162994 560 234") \
+    ask "$built/both.town" 3 2600,3100
+# says NUMBER BLOCK WHERE FILE [MORE]: what the sound host prints of a bad file, besides its lines for each block
 host() { "$built/host" "$1" | grep -v '^block'; }
 says() {
-    compare <(printf '%s\n' "full check: number $1 block $2 tiles 0" "refused $1, $3: copy the whole file again" \
-        "status 1") host "$4"
+    compare <(printf '%s\n' "full check: number $1 block $2 tiles 0" \
+        "refused $1, $3: copy the whole file again${5-}" "status 1") host "$4"
 }
 says 1 0 "the length" "$built/cut.town"
 says 3 21 "block 21, tile 20" "$built/one.town"
 says 8 21 "block 21, tile 20" "$built/255.town"
 says 7 12 "block 12, tile 11" "$built/tile.town"
 says 7 0 "block 0 of the directory" "$built/entries.town"
+says 9 0 "block 0 of the directory" "$built/muted-5.town"
+says 16 21 "block 21, tile 20" "$built/cue.town" ", or make it again from its town"
+says 16 21 "block 21, tile 20" "$built/muted-1.town" ", or make it again from its town"
 says 1 0 "the length" /dev/null
 # With 384 tiles the directory has 16 blocks.
 printf 'tile 0 0 1 1 # %s\n' {1..384} | "$built/town" >"$built/384.town"
-recount "$built/384.town" 12 23 >"$built/384-12.town"
-recount "$built/384.town" 16 1 >"$built/384-16.town"
+recount "$built/384.town" 12 4 23 >"$built/384-12.town"
+recount "$built/384.town" 16 4 1 >"$built/384-16.town"
 says 7 12 "block 12 of the directory" "$built/384-12.town"
 says 7 16 "block 16, tile 0" "$built/384-16.town"
 compare <(echo "refused 11 block 0") ask samples/riverside.town 65 0,0

@@ -196,7 +196,7 @@ def dumped(lines):
 def header_names():
     text = (ROOT / "include/nearby.h").read_text()
     return {int(value): name.lower() for name, value in re.findall(r"NEARBY_(\w+) = (\d+),? +/\* ", text)
-            if 1 <= int(value) <= 15}
+            if 1 <= int(value) <= 16}
 
 
 # What the document says of numbers, sizes and sums
@@ -238,6 +238,7 @@ def check_limits(document, engine):
     expect("coordinates", [one(low, low), one(high, high), one(low - 1, low), one(high, high + 1)], [0, 0, 9, 9])
     fewest, sites = limits["sites of a tile"]
     expect("sites of a tile", [one(0, 0, fewest), one(0, 0, sites), one(0, 0, sites + 1)], [0, 0, 9])
+    expect("muted sites of a tile", limits["muted sites of a tile"], (0, sites))
     expect("cues", [one(0, 0, 1, cue) for cue in limits["cue"]], [0, 0])
     expect("cues of 32 bits", limits["cue"], (0, 2 ** 32 - 1))
     expect("d", limits["directory blocks, d"], (directory_blocks(least), directory_blocks(most)))
@@ -318,7 +319,7 @@ def check_worked_block(document, engine, sample):
            file_of(engine, "\n".join(example))[:BLOCK])
 
 
-def check_what_is_seen(engine, sample):
+def check_what_is_seen(engine, reader, sample):
     """Part 4, 'What it sees and what not'."""
     for position in (0, 2):
         block = block_of(sample, position)
@@ -334,7 +335,11 @@ def check_what_is_seen(engine, sample):
         for at in range(1, 255):
             apart = put(put(block, at, block[at + 255:at + 256]), at + 255, block[at:at + 1])
             expect(f"bytes {at} and {at + 255} swapped", engine.block_check(apart), 0)
-    unseen_by_the_check(engine, sample)
+    expect("cues of the sample that become 0", unseen_by_the_check(engine, reader, sample), 0)
+    # a cue that turns from 0, and one that turns to 0
+    cues = (0, 255, 0xFF00, 0xFF000000, 0xFFFF, 1, 0)
+    muted = engine.written([0, 0, 255, 255], [len(cues)], [0] * len(cues), [0] * len(cues), cues)[2]
+    expect("cues that turn from 0 and to 0", unseen_by_the_check(engine, reader, muted), 4 + 1 + 1 + 1 + 4)
     # a block that is moved: 4 where the other kind is due, else 5
     two = engine.written(*town(30))[2]
     for file, one, other, due in ((sample, 0, 2, 4), (sample, 2, 0, 4), (sample, 2, 3, 5), (two, 0, 1, 5),
@@ -344,19 +349,22 @@ def check_what_is_seen(engine, sample):
     expect("zeros", [engine.block_check(put(zero, at, [255])) for at in (1, 509, 510, 511)], [0, 0, 3, 3])
 
 
-def unseen_by_the_check(engine, sample):
-    """Each byte that turns from 0 to 255 or back: which test sees it, if any."""
-    boxes = [struct.unpack_from("<4i", sample, 16 + 20 * t) for t in range(24)]
-    sites = {t: [struct.unpack_from("<2i", sample, BLOCK * (t + 1) + 16 + 12 * slot)
-                 for slot in range(sample[16 + 20 * t + 16])] for t in range(24)}
-    unseen = {"cue": 0, "coordinate": 0}
+def unseen_by_the_check(engine, reader, file):
+    """Each byte that turns from 0 to 255 or back: which test sees it, if any. The file has at most 24 tiles."""
+    tiles = file[6]
+    boxes = [struct.unpack_from("<4i", file, 16 + 20 * t) for t in range(tiles)]
+    sites = {t: [struct.unpack_from("<2i", file, BLOCK * (t + 1) + 16 + 12 * slot)
+                 for slot in range(file[16 + 20 * t + 16])] for t in range(tiles)}
+    unseen = {"cue": 0, "coordinate": 0, "muted": 0}
 
     def due_in_tile(t, at):
         if 16 <= at < 16 + 12 * len(sites[t]):
             slot, place = divmod(at - 16, 12)
             if place >= 8:
-                unseen["cue"] += 1
-                return 0, 0
+                cue = BLOCK * (t + 1) + 16 + 12 * slot + 8
+                changes = any(file[cue:cue + 4]) != any(damaged[cue:cue + 4])
+                unseen["muted" if changes else "cue"] += 1
+                return (16, t + 1) if changes else (0, 0)
             point = struct.unpack_from("<2i", damaged, BLOCK * (t + 1) + 16 + 12 * slot)
             fits = all(boxes[t][axis] <= point[axis] <= boxes[t][axis + 2] for axis in (0, 1))
             unseen["coordinate"] += fits
@@ -364,10 +372,10 @@ def unseen_by_the_check(engine, sample):
         return {2: 5, 3: 5, 4: 7, 5: 7}.get(at, 8), t + 1
 
     def due_in_directory(at):
-        if 16 <= at < 16 + 20 * 24:
+        if 16 <= at < 16 + 20 * tiles:
             t, place = divmod(at - 16, 20)
             if place >= 16:
-                return (9 if place < 18 else 8), 0
+                return 9, 0
             low_x, low_y, high_x, high_y = struct.unpack_from("<4i", damaged, 16 + 20 * t)
             if not (-1_000_000 <= low_x <= high_x <= 1_000_000 and -1_000_000 <= low_y <= high_y <= 1_000_000):
                 return 9, 0
@@ -376,14 +384,17 @@ def unseen_by_the_check(engine, sample):
             return (0, 0) if fits else (10, t + 1)
         return {2: 5, 3: 5, 4: 7, 5: 7, 6: 6, 7: 6}.get(at, 8), 0
 
-    for position in 0, 1, 2, 20, 24:
+    for position in {0, 1, 2, 20, 24} & set(range(tiles + 1)):
         for at in range(1, 510):
-            byte = sample[BLOCK * position + at]
+            byte = file[BLOCK * position + at]
             if byte in (0, 255):
-                damaged = put(sample, BLOCK * position + at, [255 - byte])
+                damaged = put(file, BLOCK * position + at, [255 - byte])
                 due = due_in_tile(position - 1, at) if position else due_in_directory(at)
                 expect(f"byte {at} of block {position} as {255 - byte}", engine.checked(damaged), due)
-    expect("bytes of cues and coordinates that no test sees", all(unseen.values()), True)
+                if due[0] == 16:
+                    reader.compare(damaged)
+    expect("bytes of cues and coordinates that no test sees", unseen["cue"] > 0 < unseen["coordinate"], True)
+    return unseen["muted"]
 
 
 # What the document says of blocks
@@ -479,6 +490,7 @@ def check_byte_tables(document, engine, reader, sample):
         lines.append("tile {} {} {} {}".format(*box))
         block = block_of(sample, directory_blocks(tiles) + t)
         expect("entries", field(tile, "entries", block), field(entry, "count", sample, start))
+        expect("muted", field(entry, "muted", sample, start), 0)
         for slot in range(field(entry, "count", sample, start)):
             point = [field(site, name, block, 16 + 12 * slot, name != "cue") for name in ("x", "y", "cue")]
             lines.append("site {} {} {}".format(*point))
@@ -487,31 +499,34 @@ def check_byte_tables(document, engine, reader, sample):
 
     check_grammar(document, tables)
     check_maps(document, tables)
-    # the last byte of each field set to 7f: so that coordinates and counts are beyond all limits
+    # the last byte of each field set to 7f: so that coordinates and counts are beyond all limits; a cue set to 0
     places = (directory, 0, 0, 24), (entry, 0, 16 + 20 * 3, 0), (tile, 2, 0, 1), (site, 2, 16, 0)
     for table, position, start, n in places:
         for offset, length, name, _, refusal in table:
-            if refusal == "" and name != "cue":
+            if refusal == "":
                 continue
             last = count_of(offset, n) + count_of(length, n) - 1
             file = put(sample, BLOCK * position + start + last, [0x7F])
+            if name == "cue":
+                expect("another cue", engine.checked(mended(file, position)), (0, 0))
+                file = put(sample, BLOCK * position + start + last - 3, bytes(4))
             file = file if name in ("a", "c") else mended(file, position)
-            due = (int(refusal.split()[0]), position) if refusal else (0, 0)
+            due = int(refusal.split()[0]), position
             expect(f"{name} as 7f", engine.checked(file), due)
             reader.compare(file)
-            expect(f"name of {refusal}", refusal.split()[1:], [NAMES[due[0]]] if refusal else [])
+            expect(f"name of {refusal}", refusal.split()[1:], [NAMES.get(due[0])])
 
 
 def fault_in_directory(file, number, position):
     at = BLOCK * position
-    head = {2: (0, [0]), 4: (1, [2]), 5: (2, [position + 1]), 6: (6, [29]), 7: (4, [7]), 8: (16 + 18, [0, 1])}
+    head = {2: (0, [0]), 4: (1, [2]), 5: (2, [position + 1]), 6: (6, [29]), 7: (4, [7]), 8: (15, [1])}
     offset, data = (16 + 12, struct.pack("<i", -6)) if number == 9 else head[number]
     return put(file, at + offset, data)
 
 
 def fault_in_tile(file, number, position):
     at = BLOCK * position
-    head = {2: (0, [0]), 4: (1, [1]), 5: (2, [position - 1]), 7: (4, [1]), 8: (6, [30])}
+    head = {2: (0, [0]), 4: (1, [1]), 5: (2, [position - 1]), 7: (4, [1]), 8: (6, [30]), 16: (16 + 8, bytes(4))}
     offset, data = (28 + 4, struct.pack("<i", 6)) if number == 10 else head[number]
     return put(file, at + offset, data)
 
@@ -529,7 +544,7 @@ def check_orders_in_blocks(document, engine, reader):
     d = directory_blocks(30)
     for title, make, positions, due in [
             ("Order of tests: a directory block", fault_in_directory, range(d), [2, 3, 4, 5, 6, 7, 8, 9]),
-            ("Order of tests: the opening of a tile", fault_in_tile, (d, d + 24, d + 29), [2, 3, 4, 5, 7, 8, 10])]:
+            ("Order of tests: the opening of a tile", fault_in_tile, (d, d + 24, d + 29), [2, 3, 4, 5, 7, 8, 10, 16])]:
         steps = document.steps(title)
         expect(title, steps, due)
         for position in positions:
@@ -543,8 +558,6 @@ def check_orders_in_blocks(document, engine, reader):
         bytes_ = {at for low, high in re.findall(r"bytes (\d+)-(\d+)", step) for at in range(int(low), int(high) + 1)}
         head, size, last = map(int, re.search(r"bytes (\d+) \+ (\d+) n to (\d+)", step).groups())
         bytes_ |= set(range(head + size * entries, last + 1))
-        if "the last two bytes of all n entries" in step:
-            bytes_ |= {head + size * entry + at for entry in range(entries) for at in (size - 2, size - 1)}
         refused = {at for at in range(BLOCK)
                    if engine.checked(mended(put(file, first + at, [file[first + at] ^ 1]), position))[0] == 8}
         expect(f"{title}: zeros", refused, bytes_)
@@ -553,6 +566,81 @@ def check_orders_in_blocks(document, engine, reader):
         bad = with_faults(bad, make, {2}, positions[0] + 1)
         expect(f"{title}: two blocks", engine.checked(bad), (steps[-1], positions[0]))
         reader.compare(bad)
+
+
+def muted_town(rng):
+    """Lists of a town that has tiles with sounding sites, with muted ones, with both and with none."""
+    tiles, x, cues, counts = rng.choice([1, 7, 30]), [], [], []
+    for t in range(tiles):
+        counts.append(rng.choice([0, 1, 2, 5, 40]))
+        rate = rng.choice([0, 0.5, 1])
+        x += [10 * t + rng.randrange(10) for _ in range(counts[-1])]
+        cues += [0 if rng.random() < rate else 1 << rng.randrange(32) for _ in range(counts[-1])]
+    boxes = [number for t in range(tiles) for number in (10 * t, -5, 10 * t + 9, 5)]
+    return boxes, counts, x, [rng.randint(-5, 5) for _ in x], cues
+
+
+def check_muted(engine, reader):
+    """Muted numbers: as the writer makes them, over the count (9), and other than the tile's (16)."""
+    rng, seen = random.Random(8), {9: 0, 16: 0}
+    for _ in range(12):
+        boxes, counts, x, y, cues = muted_town(rng)
+        file, d = engine.written(boxes, counts, x, y, cues)[2], directory_blocks(len(counts))
+        firsts = [0, *itertools.accumulate(counts)]
+        muted = [cues[first:last].count(0) for first, last in zip(firsts, firsts[1:])]
+        places = [BLOCK * (t // 24) + 16 + 20 * (t % 24) + 18 for t in range(len(counts))]
+        expect("muted numbers", [int.from_bytes(file[at:at + 2], "little") for at in places], muted)
+        expect("a town with muted sites", engine.checked(file), (0, 0))
+        reader.compare(file)
+        for t in rng.sample(range(len(counts)), min(4, len(counts))):
+            for number in {0, 1, muted[t] - 1, muted[t], muted[t] + 1, counts[t], counts[t] + 1, 41, 256, 65535} - {-1}:
+                bad = mended(put(file, places[t], struct.pack("<H", number)), t // 24)
+                due = (9, t // 24) if number > counts[t] else (16, d + t) if number != muted[t] else (0, 0)
+                expect(f"muted number {number} of {muted[t]} muted and {counts[t]} sites", engine.checked(bad), due)
+                reader.compare(bad)
+                if due[0]:
+                    seen[due[0]] += 1
+                # the zeros before the muted number; a site outside of its box before the count of cues
+                worse = mended(put(bad, BLOCK * (t // 24) + 15, [1]), t // 24)
+                expect("8 before a muted number", engine.checked(worse), (8, t // 24))
+                if counts[t] and number <= counts[t]:
+                    worse = mended(put(bad, BLOCK * (d + t) + 16 + 4, struct.pack("<i", 6)), d + t)
+                    expect("10 before 16", engine.checked(worse), (10, d + t))
+        check_muted_tiles(engine, file, counts, muted, cues)
+        for site in rng.sample(range(len(x)), min(3, len(x))):
+            t = next(t for t in range(len(counts)) if firsts[t + 1] > site)
+            check_muting(engine, (boxes, counts, x, y, cues), site, t, site - firsts[t])
+    expect("muted numbers over the count, and unlike the tile", min(seen.values()) > 20, True)
+
+
+def check_muted_tiles(engine, file, counts, muted, cues):
+    """No question opens a tile without a sounding site; the full check does. No list has a muted site."""
+    d, sounding = directory_blocks(len(counts)), sum(counts) - sum(muted)
+    silent = [t for t in range(len(counts)) if counts[t] == muted[t]]
+    torn = file
+    for t in silent:
+        torn = put(torn, BLOCK * (d + t), [0])
+    joined = engine.join(torn, [(0, 0), (150, 3)], 64)
+    expect("no question opens a tile without a sounding site", [joined.marks[t] == 2 for t in silent],
+           [False] * len(silent))
+    expect("the full check does", engine.checked(torn), (2, d + silent[0]) if silent else (0, 0))
+    expect("places used", joined.used, min(64, sounding))
+    for places in joined.lists:
+        due = [cues[sum(counts[:site // 40]) + site % 40] for _, site, _ in places]
+        expect("cues of a list, by tile and slot", [cue for _, _, cue in places], due)
+        expect("a list has sounding sites only", 0 in due, False)
+
+
+def check_muting(engine, town, site, t, slot):
+    """Part 8: the bytes that change when a site is muted."""
+    boxes, counts, x, y, cues = town
+    of_tile, of_directory = BLOCK * (directory_blocks(len(counts)) + t), BLOCK * (t // 24)
+    cue, muted = of_tile + 16 + 12 * slot + 8, of_directory + 16 + 20 * (t % 24) + 18
+    files = [engine.written(boxes, counts, x, y, cues[:site] + [value] + cues[site + 1:])[2] for value in (12, 0)]
+    changed = {at for at, (one, other) in enumerate(zip(*files)) if one != other}
+    due = {cue, muted, *(start + at for start in (of_tile, of_directory) for at in (510, 511))}
+    expect("what muting changes", changed <= due and {cue, muted} <= changed, True)
+    expect("muted, one more", files[1][muted], files[0][muted] + 1)
 
 
 # What the document says of calls
@@ -567,12 +655,14 @@ def first_of(title, steps, faults, call):
 
 def check_orders_of_calls(document, engine):
     file = engine.written(*town(30))[2]
-    bad_tiles = file
-    for tile in range(30):
-        bad_tiles = with_faults(bad_tiles, fault_in_tile, {10}, 2 + tile)
+    bad_tiles = {0: file}
+    for number in 10, 16:
+        bad_tiles[number] = file
+        for tile in range(30):
+            bad_tiles[number] = with_faults(bad_tiles[number], fault_in_tile, {number}, 2 + tile)
 
     def damaged(directory, tile, length):
-        made = bad_tiles if tile else file
+        made = bad_tiles[tile]
         made = with_faults(made, fault_in_directory, {9}, 1) if directory else made
         return made + b"\0" if length else made
 
@@ -580,20 +670,21 @@ def check_orders_of_calls(document, engine):
         x = [1_000_001, *x[1:]] if spot and x else x
         n = len(x) * k
         answer = engine.joined(damaged(directory, tile, length), x, y, k, [n, n, n - short, 30] if n else [9] * 4)
-        if answer[0] and not engine.slices_hold(0 if answer == (10, 2) else 77):
+        if answer[0] and not engine.slices_hold(0 if answer in ((10, 2), (16, 2)) else 77):
             failures.append(f"the join, refused with {answer}: its slices are not as said")
         return answer
 
     first_of("join", document.steps("Order of tests: the join, `nearby_join`"), [
         (1, (1, 0), {"length": 1}), ("The directory", (9, 1), {"directory": 1}), (11, (11, 0), {"k": 65}),
         (12, (12, 0), {"y": (0,)}), (13, (13, 0), {"spot": 1}), (14, (14, 0), {"short": 1}),
-        ("Openings", (10, 2), {"tile": 1})], join)
+        ("Openings", (10, 2), {"tile": 10})], join)
+    expect("the last test of an opening", [join(tile=16), engine.checked(bad_tiles[16])], [(16, 2), (16, 2)])
     for change in {"x": (), "y": ()}, {"x": (0,) * 257, "y": (0,) * 257}, {"x": (0,)}:
         expect("stops of the join", join(**change), (12, 0))
     expect("k of the join", [join(k=k)[0] for k in (0, 1, 64, 65)], [11, 0, 0, 11])
 
     def prune(length=0, directory=0, k=3, box=(0, 0, 0, 0), room=30):
-        answer = engine.prune(damaged(directory, 1, length), box, k, room)
+        answer = engine.prune(damaged(directory, 10, length), box, k, room)
         if answer[0] and not engine.slices_hold(77):
             failures.append(f"the strike call, refused with {answer}: its marks are not as they were")
         return answer
@@ -604,7 +695,8 @@ def check_orders_of_calls(document, engine):
     expect("the strike call opens no tile", prune(), (0, 0))
 
     first_of("full check", document.steps("Order of tests: the full check, `nearby_validate`"), [
-        (1, (1, 0), {"length": 1}), ("The directory", (9, 1), {"directory": 1}), ("The opening", (10, 2), {"tile": 1})],
+        (1, (1, 0), {"length": 1}), ("The directory", (9, 1), {"directory": 1}),
+        ("The opening", (10, 2), {"tile": 10})],
         lambda length=0, directory=0, tile=0: engine.checked(damaged(directory, tile, length)))
 
     def write(tiles=30, numbers=0, box=0, lists=0, stray=0, short=0):
@@ -632,9 +724,10 @@ def check_orders_of_calls(document, engine):
 
 def check_refusals(document):
     numbers = [int(row[0]) for row in document.table("No.", "Name", "Refused when")]
-    expect("numbers of the refusals", numbers, list(range(1, 16)))
+    expect("numbers of the refusals", numbers, list(range(1, 17)))
+    expect("numbers of the refusals in words", f"a number from 1 to {numbers[-1]} and" in document.running(), True)
     causes = [int(row[0].split()[0]) for row in document.table("No.", "Usual cause", "What to look at")]
-    expect("numbers of the causes", causes, [1, 2, 3, 4, 5, 6, 7, 7, 8, 9, 10])
+    expect("numbers of the causes", causes, [1, 2, 3, 4, 5, 6, 7, 7, 8, 9, 10, 16])
     constants = dict(re.findall(r"NEARBY_(\w+) = (\d+)", (ROOT / "include/nearby.h").read_text()))
     block, tiles, sites, stops, k, file = (int(constants[name]) for name in (
         "BLOCK_SIZE", "MAX_TILES", "MAX_SITES", "MAX_STOPS", "MAX_K", "MAX_FILE"))
@@ -802,10 +895,11 @@ def main():
     check_arithmetic(document)
     check_limits(document, engine)
     check_worked_block(document, engine, sample)
-    check_what_is_seen(engine, sample)
+    check_what_is_seen(engine, reader, sample)
     check_byte_tables(document, engine, reader, sample)
     check_refusals(document)
     check_orders_in_blocks(document, engine, reader)
+    check_muted(engine, reader)
     check_orders_of_calls(document, engine)
     check_block_12(document, engine, reader)
     check_reader(document, engine, reader, sample)

@@ -112,6 +112,19 @@ class Page:
         same("".join(f"M{x} {-y}h0" for x, y in points), path, f"{self.name}: {choice} has dots only")
         return points
 
+    def crosses_of(self, choice):
+        """The middles of a path of crosses."""
+        path, number = self.at(choice).get_attribute("d"), r"(-?[\d.]+(?:e-?\d+)?)"
+        cross = f"M(-?\\d+) (-?\\d+)m{number} {number}l{number} {number}m0 {number}l{number} {number}"
+        same(re.sub(cross, "", path), "", f"{self.name}: {choice} has crosses only")
+        points = []
+        for x, y, *moves in re.findall(cross, path):
+            left, up, across, down, back, over, under = map(float, moves)
+            same([left, across, down, back, over, under], [up, *[-2 * up] * 2, 2 * up, 2 * up, -2 * up],
+                 f"{self.name}: {choice}: a cross around its point")
+            points.append((int(x), -int(y)))
+        return points
+
     def box_of(self, path):
         """The box that an outline goes around."""
         number = r"(-?[\d.]+(?:e-?\d+)?)"
@@ -135,8 +148,15 @@ class Page:
                 else:
                     same(low < due[0] < high and abs(low + high - 2 * due[0]) < 1e-6 * (high - low), True,
                          f"{self.name}: the bar of tile {t}")
-        same(self.points_of("#layer-sites .sites") if any(tile.sites for tile in self.tiles) else [],
-             [site[:2] for tile in self.tiles for site in tile.sites], f"{self.name}: the sites on the map")
+        sites = [site for tile in self.tiles for site in tile.sites]
+        for choice in (".sites", ".rim:not(.muted)"):
+            same(self.points_of(f"#layer-sites {choice}"), [site[:2] for site in sites if not town.is_muted(site)],
+                 f"{self.name}: the sounding sites on the map")
+        for choice in (".muted:not(.rim)", ".muted.rim"):
+            same(self.crosses_of(f"#layer-sites {choice}"), [site[:2] for site in sites if town.is_muted(site)],
+                 f"{self.name}: the muted sites on the map")
+        title = self.text("title")
+        same(title.startswith(f"{self.name}.town: {town.size(self.tiles)}, {len(self.stops)} stop"), True, title)
         same(self.box_of(self.at("#layer-o .o").get_attribute("d")), self.o, f"{self.name}: O on the map")
         spots = self.script("return [...document.querySelectorAll('[data-stop]')]"
                             ".map((g) => [+g.dataset.stop, g.getAttribute('transform')])")
@@ -158,7 +178,7 @@ class Page:
         for t, kind in shown:
             due = ["neither", "struck", "opened"][joined.marks[t]]
             same(kind.split()[1], due, f"{self.name}: the mark of tile {t} for k {k}")
-            same("empty" in kind.split(), not self.tiles[t].sites, f"{self.name}: whether tile {t} is empty")
+            same("empty" in kind.split(), not self.tiles[t].sounding, f"{self.name}: the edge of tile {t}")
         return joined
 
     def stop_numbers(self, i, k, all_turns):
@@ -170,11 +190,14 @@ class Page:
         same(self.rows("list"), places, f"{what}: the list")
         alone = self.engine.join(self.content, [stop], k)
         waits = sorted((self.engine.near(stop, tile.box), t) for t, tile in enumerate(self.tiles)
-                       if tile.sites and joined.marks[t] != 1)
+                       if tile.sounding and joined.marks[t] != 1)
         queue = self.rows("queue")
         same([row[1:4] for row in queue],
-             [[str(near), str(t), str(len(self.tiles[t].sites))] for near, t in waits][:len(queue)],
+             [[str(near), str(t), str(self.tiles[t].sounding)] for near, t in waits][:len(queue)],
              f"{what}: the queue")
+        rest = len(self.tiles) - joined.struck - len(waits)
+        same(f"In no queue: {town.several(joined.struck, 'struck tile')} and {town.several(rest, 'other')} without "
+             "sounding sites." in self.text("left-out"), True, f"{what}: the tiles in no queue")
         turns = [row[0] for row in queue]
         same(turns, [str(j + 1) for j in range(alone.opened)] + [""] * (len(queue) - alone.opened),
              f"{what}: the turns")
@@ -184,12 +207,14 @@ class Page:
         ended = self.text("ended")
         if len(waits) > alone.opened:
             near, t = waits[alone.opened]
-            same(ended.startswith(f"It ended at the key near {near}, tile {t}: {k} site"), True,
+            same(ended.startswith(f"It ended at the key near {near}, tile {t}: {k} sounding site"), True,
                  f"{what}: where it ended: {ended}")
             same("ahead of the next key" in ended, True, f"{what}: why it ended: {ended}")
             same(f"D {joined.lists[i][-1][0]} is" in ended, True, f"{what}: the last place: {ended}")
         else:
             same(ended.startswith("It ended because no tile waits"), True, f"{what}: why it ended: {ended}")
+            only = f" The town has only {town.several(joined.used, 'sounding site')}." if joined.used < k else "struck."
+            same(ended.endswith(only), True, f"{what}: how many sites there are: {ended}")
         rings = []
         if places:
             rings.append(["ring", joined.lists[i][-1][0]])
@@ -245,14 +270,19 @@ class Page:
     def tile_numbers(self, t):
         tile, says = self.tiles[t], self.text("tile-says")
         box = tile.box
-        count = len(tile.sites)
-        sites = f"{count} site{'' if count == 1 else 's'}"
+        count, muted = len(tile.sites), len(tile.sites) - tile.sounding
+        sites = town.several(count, "site") + (f", {muted} of them muted" if muted else "")
         same(says.startswith(f"Box x {box[0]}..{box[2]}, y {box[1]}..{box[3]}, {sites}. "), True, says)
-        nearer = sum(len(other.sites) for other in self.tiles if self.engine.margin(self.o, other.box, box) < 0)
-        due = "64 sites or more" if nearer >= 64 else f"{nearer} site{'' if nearer == 1 else 's'}"
+        if "Neither" in says:
+            due = ("Neither opened nor struck. " if tile.sounding else "Neither: it is empty and not struck. "
+                   if not count else "Neither: all its sites are muted, and it is not struck. ")
+            same(due in says, True, f"{self.name}: tile {t}: {says}")
+        nearer = sum(other.sounding for other in self.tiles if self.engine.margin(self.o, other.box, box) < 0)
+        due = "64 sounding sites or more" if nearer >= 64 else town.several(nearer, "sounding site")
         same(f"The tiles nearer than it from O hold {due}, and k is" in says, True,
              f"{self.name}: tile {t}: {nearer}: {says}")
-        due = [[str(slot), str(40 * t + slot), *map(str, site)] for slot, site in enumerate(tile.sites)]
+        due = [[str(slot), str(40 * t + slot), str(x), str(y), str(cue) if cue else "0, muted"]
+               for slot, (x, y, cue) in enumerate(tile.sites)]
         same(self.rows("sites"), due, f"tile {t}: sites")
 
 
@@ -374,9 +404,8 @@ def in_grey(page):
     same([page.script(look, f"[data-tile].{kind}", "fill") for kind in ("opened", "neither:not(.empty)")],
          [opened, neither], "the legend")
     same("url(" in struck and "url(" in page.script(look, "[data-tile].struck", "fill"), True, "struck is hatched")
-    for choice, name in ((".sites", "stroke"), (".chosen", "stroke"), (".ring", "stroke"), (".taken", "stroke"),
-                         (".o", "stroke")):
-        colour = page.script(look, choice, name)
+    for choice in (".sites", ".muted:not(.rim)", ".chosen", ".ring", ".taken", ".o"):
+        colour = page.script(look, choice, "stroke")
         same(contrast(opened, colour) >= 3, True, f"{choice} on an opened tile: {contrast(opened, colour):.2f}")
     figure = (ROOT / "docs/figures/crossing.svg").read_text()
     legend = re.findall(r'<rect [^>]*width="16" height="16" [^>]*fill="([^"]+)"/>', figure)
@@ -443,13 +472,15 @@ def phone(page):
 
 
 def drawn(driver, engine, rng, number):
-    """A town of drawn boxes: overlapping, points, lines, empty ones; distances often equal."""
+    """A town of drawn boxes: overlapping, points, lines, empty ones, muted sites; distances often equal."""
     span = rng.choice([6, 40, 3000, 1_000_000])
     tiles = []
     for _ in range(rng.choice([1, 4, 15, 40])):
         ends = [sorted(rng.randint(-span, span) for _ in range(2)) for _ in range(2)]
         box = (ends[0][0], ends[1][0], ends[0][1], ends[1][1])
-        tiles.append((box, [(rng.randint(box[0], box[2]), rng.randint(box[1], box[3]), rng.randrange(2**32))
+        muted = rng.choice([0, 0, 0.4, 1])
+        tiles.append((box, [(rng.randint(box[0], box[2]), rng.randint(box[1], box[3]),
+                             0 if rng.random() < muted else rng.randrange(1, 2**32))
                             for _ in range(rng.choice([0, 1, 2, 7, 40]))]))
     stops = [(rng.randint(-span, span), rng.randint(-span, span)) for _ in range(rng.choice([1, 3, 6]))]
     page = Page(driver, engine, f"drawn-{number}", engine.write(tiles), stops, rng.choice([1, 3, 9]))
@@ -516,7 +547,7 @@ def unusual(driver, engine):
     page.click("[data-tile='1']")
     page.tile_numbers(1)
     page.quiet()
-    sparse = [((10 * t, 0, 10 * t + 9, 9), [(10 * t, 5, t)]) for t in range(120)]
+    sparse = [((10 * t, 0, 10 * t + 9, 9), [(10 * t, 5, t + 1)]) for t in range(120)]
     stops = [(6 * i, 0) for i in range(200)]
     page = Page(driver, engine, "sparse", engine.write(sparse), stops, 64)
     page.run_numbers(64)
@@ -526,6 +557,42 @@ def unusual(driver, engine):
         same(bool(page.driver.find_elements("css selector", "#queue button")), i == 0, "turns that the page has")
     same("The list after each turn is not on this page for this stop." in page.text("left-out"), True,
          "turns that the page has not got")
+    page.quiet()
+
+
+def muted(driver, engine):
+    """Muted sites: crosses, in no list, in no count; and a tile that has no others."""
+    tiles = [((0, 0, 40, 30), [(10, 10, 0), (30, 20, 5)]), ((50, 0, 80, 30), [(60, 10, 0), (70, 20, 0)]),
+             ((100, 0, 120, 30), [(110, 10, 7), (110, 20, 0)]), ((300, 0, 310, 30), [(305, 5, 9)]),
+             ((60, 40, 80, 60), []), ((400, 0, 410, 30), [(405, 5, 0)])]
+    page = Page(driver, engine, "muted", engine.write(tiles), [(0, 0), (45, 5)], 2)
+    same(page.at("#k").get_attribute("max"), "3", "muted: the slider ends at the number of sounding sites")
+    for k in (1, 2, 3):
+        page.slide(k)
+        page.run_numbers(k)
+        for i in (0, 1):
+            page.choose("stop", i)
+            page.stop_numbers(i, k, True)
+    page.slide(2)
+    seen = set()
+    for t in range(len(tiles)):
+        page.click(f"[data-tile='{t}']")
+        page.tile_numbers(t)
+        seen.add(page.text("tile-says").split(". ")[1])
+    same({"Neither: all its sites are muted, and it is not struck", "Neither: it is empty and not struck",
+          "Struck"} <= seen, True, f"muted: what became of the tiles: {seen}")
+    in_legend = page.script("return document.getElementById('legend').textContent")
+    same("muted site" in in_legend, True, f"muted: the legend: {in_legend}")
+    page.click("#tab-stop")
+    driver.save_screenshot(str(WORK / "page-muted.png"))
+    page.click("[data-tile='1']")
+    driver.save_screenshot(str(WORK / "page-muted-tile.png"))
+    page.quiet()
+    page = Page(driver, engine, "silent", engine.write([((0, 0, 9, 9), [(1, 1, 0)] * 3)]), [(3, 3)], 2)
+    page.run_numbers(2)
+    page.stop_numbers(0, 2, True)
+    page.click("[data-tile='0']")
+    page.tile_numbers(0)
     page.quiet()
 
 
@@ -539,6 +606,7 @@ def main():
         for number in range(6):
             drawn(driver, engine, rng, number)
         unusual(driver, engine)
+        muted(driver, engine)
         large(driver, engine, rng)
     except Refused as refused:
         sys.exit(f"page: {refused}")

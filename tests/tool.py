@@ -46,8 +46,8 @@ def holds(truth, what):
 
 # ---- drawn towns -----------------------------------------------------------------------------------------------------
 def drawn(rng, most=40):
-    """A town: boxes that may overlap, be points or lines, and be empty; small numbers, so that distances are often
-    equal."""
+    """A town: boxes that may overlap, be points or lines, and be empty or have muted sites; small numbers, so that
+    distances are often equal."""
     span = rng.choice([5, 30, 1000, 1_000_000])
     tiles = []
     for _ in range(rng.randint(1, most)):
@@ -55,16 +55,21 @@ def drawn(rng, most=40):
         if rng.random() < 0.6:
             ends = [[low, min(high, low + span // 4)] for low, high in ends]
         box = (ends[0][0], ends[1][0], ends[0][1], ends[1][1])
-        count = rng.choice([0, 1, 1, 2, 3, rng.randint(0, 40)])
-        sites = [(rng.randint(box[0], box[2]), rng.randint(box[1], box[3]), rng.randint(0, 2**32 - 1))
-                 for _ in range(count)]
+        count, muted = rng.choice([0, 1, 1, 2, 3, rng.randint(0, 40)]), rng.choice([0, 0, 0.4, 1])
+        sites = [(rng.randint(box[0], box[2]), rng.randint(box[1], box[3]),
+                  0 if rng.random() < muted else rng.randint(1, 2**32 - 1)) for _ in range(count)]
         tiles.append(town.Tile(box, sites))
     return span, tiles
 
 
+def sounding(tile):
+    """The sites of a tile that are not muted, with their slots."""
+    return [(slot, x, y, cue) for slot, (x, y, cue) in enumerate(tile.sites) if cue != 0]
+
+
 def full_search(tiles, stop, k):
     ranked = sorted((((x - stop[0]) ** 2 + (y - stop[1]) ** 2, 40 * t + slot, cue)
-                     for t, tile in enumerate(tiles) for slot, (x, y, cue) in enumerate(tile.sites)))
+                     for t, tile in enumerate(tiles) for slot, x, y, cue in sounding(tile)))
     return ranked[:k]
 
 
@@ -85,16 +90,17 @@ def marks(tiles, stops, k):
     """The join once more: the marks, and for which stop each tile was opened."""
     o = town.around(stops)
     struck = {b for b, tile in enumerate(tiles)
-              if sum(len(e.sites) for e in tiles if margin(o, e.box, tile.box) < 0) >= k}
+              if sum(len(sounding(e)) for e in tiles if margin(o, e.box, tile.box) < 0) >= k}
     opened = {}
     for i, stop in enumerate(stops):
         seen = []
-        for key in sorted((near(stop, tile.box), t) for t, tile in enumerate(tiles) if tile.sites and t not in struck):
+        waits = [t for t, tile in enumerate(tiles) if sounding(tile) and t not in struck]
+        for key in sorted((near(stop, tiles[t].box), t) for t in waits):
             if sum((dist, site // 40) < key for dist, site, _ in seen) >= k:
                 break
             opened.setdefault(key[1], i)
             seen += [((x - stop[0]) ** 2 + (y - stop[1]) ** 2, 40 * key[1] + slot, cue)
-                     for slot, (x, y, cue) in enumerate(tiles[key[1]].sites)]
+                     for slot, x, y, cue in sounding(tiles[key[1]])]
     return struck, opened
 
 
@@ -120,6 +126,16 @@ def texts():
     same(run("make", "-", target, given=odd)[0], 0, "make of an odd text")
     same(run("show", target), (0, "# 1 tile, 1 site\ntile 0 0 1 1  # tile 0\nsite 1 0 7  # site 0, slot 0\n", ""),
          "an odd text as it is meant")
+    muted = b"tile 0 0 1 1\nsite 1 0 +00\nsite 1 1 7\ntile 0 0 1 1\ntile 0 0 1 1\nsite 0 0 0\nsite 0 0 0\n"
+    same(run("make", "-", target, given=muted), (0, f"{target}: 3 tiles, 4 sites (3 muted), 2048 bytes\n", ""),
+         "make of muted sites")
+    same(run("show", target),
+         (0, "# 3 tiles, 4 sites (3 muted)\ntile 0 0 1 1  # tile 0\nsite 1 0 0  # site 0, slot 0, muted\n"
+             "site 1 1 7  # site 1, slot 1\ntile 0 0 1 1  # tile 1, empty\ntile 0 0 1 1  # tile 2, muted\n"
+             "site 0 0 0  # site 80, slot 0, muted\nsite 0 0 0  # site 81, slot 1, muted\n", ""), "show of muted sites")
+    same(run("check", target),
+         (0, f"{target}: good: 3 tiles, 4 sites (3 muted), 4 blocks, 1 of them of the directory\n", ""),
+         "check of muted sites")
 
 
 def round_trips(engine, rng):
@@ -127,6 +143,8 @@ def round_trips(engine, rng):
         _, tiles = drawn(rng)
         file = engine.write(tiles)
         same(town.read(file), tiles, "what is read is what was written")
+        same([town.entry(file, t) for t in range(len(tiles))],
+             [(tile.box, len(tile.sites), len(tile.sites) - len(sounding(tile))) for tile in tiles], "the directory")
         same(text.make(engine, text.show(tiles)), (tiles, file), "a drawn town as text and back")
     limits = [town.Tile((-1000000, -1000000, 1000000, 1000000), [(1000000, -1000000, 2**32 - 1)] * 40)] * 960
     same(text.make(engine, text.show(limits)), (limits, engine.write(limits)), "the largest town as text and back")
@@ -134,6 +152,44 @@ def round_trips(engine, rng):
     target = WORK / "limits.town"
     same(run("make", "/dev/stdin", target, given=text.show(limits).encode())[0], 0, "make of a long text from a pipe")
     same(target.read_bytes(), engine.write(limits), "a long text from a pipe is read to its end")
+
+
+def old(content):
+    """The file as it was made before muted sites were counted: the directory has 0 for all."""
+    file = bytearray(content)
+    for tile in range(town.two_bytes(file, 6)):
+        town.put_muted(file, tile, 0)
+    for block in range(town.directory_blocks(town.two_bytes(file, 6))):
+        file = bytearray(resummed(bytes(file), block))
+    return bytes(file)
+
+
+def renewed(engine, rng):
+    source, target = WORK / "old.town", WORK / "renewed.town"
+    muted = 0
+    for _ in range(40):
+        _, tiles = drawn(rng)
+        file = engine.write(tiles)
+        source.write_bytes(old(file))
+        muted += old(file) != file
+        same(run("renew", source, target),
+             (0, f"{target}: {town.size(tiles)}, {len(file)} bytes\n", ""), "renew of an old file")
+        same(target.read_bytes(), file, "an old file is renewed to that of its town")
+    holds(muted > 10, "drawn towns with muted sites to renew")
+    # What else is wrong with an old file is refused, and so is a file that is no old one.
+    tiles = [town.Tile((0, 0, 9, 9), [(1, 1, 0), (2, 2, 5)])] * 3
+    file = engine.write(tiles)
+    stray = put(old(file), 512 * 3 + 16, struct.pack("<i", 10), 3)
+    fewer = put(file, 512 * 2 + 16 + 8, small(7), 2)
+    for what, content, head in (("a site outside its box", stray, "refused 10 (stray), block 3, tile 2"),
+                                ("another version of a tile", fewer, "refused 16 (muted), block 2, tile 1"),
+                                ("a damaged tile", put(old(file), 1636, b"\1"), "refused 3 (check), block 3, tile 2"),
+                                ("a damaged directory", put(old(file), 100, b"\1"), "refused 3 (check), block 0")):
+        source.write_bytes(content)
+        target.unlink(missing_ok=True)
+        status, said, wrong = run("renew", source, target)
+        holds(status == 1 and not said and wrong.startswith(f"{source}: {head}"), f"renew of {what}: {wrong}")
+        holds(not target.exists(), f"renew of {what} writes nothing")
 
 
 def faulty(engine):
@@ -282,9 +338,6 @@ def damaged(engine):
     yield "padding", put(good, 8, b"\3\4", 0), [
         "refused 8 (padding), block 0, of the directory", "due: byte 8 is 00: between the head and the payload",
         "there: byte 8 is 03, and 1 more"]
-    yield "padding of an entry", put(large, 512 + 16 + 20 * 5 + 19, b"\1", 1), [
-        "refused 8 (padding), block 1, of the directory",
-        "due: byte 135 is 00: the last two bytes of the entry of tile 29", "there: byte 135 is 01"]
     yield "padding past entries", put(large, 1024 + 16 + 20 * 12, b"\x80", 2), [
         "refused 8 (padding), block 2, of the directory", "due: byte 256 is 00: past the last entry",
         "there: byte 256 is 80"]
@@ -306,9 +359,22 @@ def damaged(engine):
     yield "too many sites", put(large, entry + 16, small(41), 1), [
         "refused 9 (box), block 1, of the directory", "due: at most 40 sites in a tile",
         "there: the count of tile 26 is 41"]
+    yield "too many muted sites", put(large, entry + 18, small(3), 1), [
+        "refused 9 (box), block 1, of the directory", "due: no more muted sites in a tile than sites",
+        "there: the muted number of tile 26 is 3, its count 2"]
     yield "stray", put(large, 512 * 6 + 16 + 12 * 2, struct.pack("<i", -1), 6), [
         "refused 10 (stray), block 6, tile 3", "due: all sites inside the box of their tile",
         "there: slot 2 of tile 3: the site at (-1, 2) is outside its box, x 0..9, y 0..9"]
+    # The cue of slot 0 in tile 26, which is block 29, and its muted number.
+    muted = put(large, 512 * 29 + 16 + 8, bytes(4), 29)
+    head = "refused 16 (muted), block 29, tile 26"
+    yield "muted by hand", muted, [head, "due: 0 sites with cue 0, the directory's muted number of this tile",
+                                   "there: 1 site with cue 0, slot 0"]
+    yield "two muted by hand", put(put(muted, 512 * 29 + 28 + 8, bytes(4), 29), entry + 18, small(1), 1), [
+        head, "due: 1 site with cue 0, the directory's muted number of this tile",
+        "there: 2 sites with cue 0, slots 0, 1"]
+    yield "none muted", put(large, entry + 18, small(2), 1), [
+        head, "due: 2 sites with cue 0, the directory's muted number of this tile", "there: 0 sites with cue 0"]
 
 
 def checks(engine):
@@ -322,7 +388,7 @@ def checks(engine):
         same(run("show", name), (1, "", due), f"show of a file: {what}")
         same(run("draw", name, 1, "0,0", WORK / "none.html"), (1, "", due), f"draw of a file: {what}")
         seen.add(int(head.split()[1]))
-    same(seen, set(range(1, 11)), "every refusal of a file")
+    same(seen, {*range(1, 11), 16}, "every refusal of a file")
     holds(not (WORK / "none.html").exists(), "a refused file has no page")
 
 
@@ -348,7 +414,8 @@ def drawn_damage(engine, rng):
             if refused.number == 3:
                 held = resummed(content, refused.block)[512 * refused.block:512 * refused.block + 512]
                 same(engine.block_check(held), 0, "with the check that was due the block passes")
-    holds(all(tally.get(number) for number in range(2, 11)), f"drawn damage meets every refusal of a block: {tally}")
+    holds(all(tally.get(number) for number in (*range(2, 11), 16)),
+          f"drawn damage meets every refusal of a block: {tally}")
 
 
 # ---- ask -------------------------------------------------------------------------------------------------------------
@@ -397,8 +464,24 @@ def asked():
          (0, f"{WORK}/empty.html: 1 tile, 1 stop, k from 1 to 2\n", ""), "draw of a town without sites")
     same(run("ask", empty, 2, "-5,7"),
          (0, "k 2, stops 1, O x -5..-5, y 7..7\ntiles 1: opened 0, struck 0, neither 1\n"
-             "opened for stop 0: none\nstruck: none\nneither: 0 (empty)\nstop 0 at -5,7: no site\n", ""),
+             "opened for stop 0: none\nstruck: none\nneither: 0 (empty)\nstop 0 at -5,7: no sounding site\n", ""),
          "ask of a town without sites")
+    muted = WORK / "muted.town"
+    lines = b"tile 0 0 2 0\nsite 0 0 0\nsite 2 0 5\ntile 4 0 6 0\nsite 5 0 0\ntile 10 0 10 0\nsite 10 0 7\n"
+    lines += b"tile 20 0 20 0\nsite 20 0 9\ntile 30 0 30 0\ntile 40 0 40 0\nsite 40 0 0\n"
+    same(run("make", "-", muted, given=lines)[0], 0, "a town with muted sites")
+    same(run("ask", muted, 2, "0,0"),
+         (0, "k 2, stops 1, O x 0..0, y 0..0\ntiles 6: opened 2, struck 3, neither 1\nopened for stop 0: 0, 2\n"
+             "struck: 3, 4 (empty), 5 (muted)\nneither: 1 (muted)\nstop 0 at 0,0:\n"
+             "  D 4, site 1 (tile 0 slot 1), cue 5\n  D 100, site 80 (tile 2 slot 0), cue 7\n", ""),
+         "ask of a town with muted sites")
+    same(run("draw", muted, 1, "0,0", WORK / "muted.html"),
+         (0, f"{WORK}/muted.html: 6 tiles, 1 stop, k from 1 to 3\n", ""), "draw of a town with muted sites")
+    same(run("make", "-", muted, given=b"tile 0 0 1 1\nsite 1 1 0\n")[0], 0, "a town with a muted site only")
+    same(run("ask", muted, 1, "0,0"),
+         (0, "k 1, stops 1, O x 0..0, y 0..0\ntiles 1: opened 0, struck 0, neither 1\nopened for stop 0: none\n"
+             "struck: none\nneither: 0 (muted)\nstop 0 at 0,0: no sounding site\n", ""),
+         "ask of a town with a muted site only")
 
 
 def refused_questions():
@@ -422,12 +505,18 @@ def refused_questions():
     same(run("ask", torn, 3, "1200,3000")[0], 0, "a damaged tile that is not opened")
     same(run("ask", torn, 3, "2600,3100"), (1, "", f"{torn}: refused 2 (sync), block 21, tile 20\n  due: byte 0 is D6\n"
                                                    f"  there: byte 0 is 00\n"), "a damaged tile that is opened")
+    torn.write_bytes(put(SAMPLE.read_bytes(), 512 * 21 + 16 + 8, bytes(4), 21))
+    same(run("ask", torn, 3, "1200,3000")[0], 0, "a tile with another number of muted sites that is not opened")
+    same(run("ask", torn, 3, "2600,3100"),
+         (1, "", f"{torn}: refused 16 (muted), block 21, tile 20\n"
+                 "  due: 0 sites with cue 0, the directory's muted number of this tile\n"
+                 "  there: 1 site with cue 0, slot 0\n"), "one that is opened")
 
 
 def usage():
     same(run("--help")[0], 0, "help")
     holds(run("--help")[1].startswith("town: the tool for towns\n"), "the help's first line")
-    for name in ("make", "show", "check", "ask", "draw"):
+    for name in ("make", "show", "check", "ask", "draw", "renew"):
         status, said, _ = run(name, "--help")
         holds(status == 0 and said.startswith(f"town {name} "), f"help of {name}")
         holds(max(map(len, said.splitlines())) <= 132, f"help of {name} is not wide")
@@ -440,7 +529,7 @@ def usage():
         holds(status == 2 and not said and wrong.startswith("town: "), f"usage: {arguments}: {status} {wrong}")
     none = WORK / "no-such"
     for name in (["show", none], ["check", none], ["ask", none, 1, "0,0"], ["make", none, none],
-                 ["draw", none, 1, "0,0", none]):
+                 ["renew", none, none], ["draw", none, 1, "0,0", none]):
         same(run(*name), (1, "", f"{none}: No such file or directory\n"), f"{name[0]} of a missing file")
     same(run("check", WORK), (1, "", f"{WORK}: Is a directory\n"), "check of a folder")
     same(run("make", "samples/riverside.txt", none / "x")[0], 1, "make into a missing folder")
@@ -510,6 +599,8 @@ def pages(engine, rng):
         data = page.data(engine, "drawn", engine.write(tiles), tiles, stops, asked_k)
         o = town.around(stops)
         same(data["o"], o, "O")
+        most = sum(len(sounding(tile)) for tile in tiles)
+        holds(data["kmax"] <= min(64, max(asked_k, most)), "the largest k of a page")
         for k in {1, 2, asked_k, rng.randint(1, data["kmax"])}:
             if k > data["kmax"]:
                 continue
@@ -518,7 +609,7 @@ def pages(engine, rng):
                  "".join("2" if t in opened else "1" if t in struck else "0" for t in range(len(tiles))),
                  "the marks of a page")
             for i, stop in enumerate(stops):
-                order = sorted((near(stop, tile.box), t) for t, tile in enumerate(tiles) if tile.sites)
+                order = sorted((near(stop, tile.box), t) for t, tile in enumerate(tiles) if sounding(tile))
                 held = data["queues"][i]
                 same(list(zip(held[1::2], held[::2])), order[:len(held) // 2], "the queue of a page")
                 end = data["walks"][i][k - 1]
@@ -540,8 +631,8 @@ def pages(engine, rng):
                      [points_due(o, tiles[e].box, tiles[b].box, axis) for axis in (0, 1)],
                      "the three points of a margin")
         for b, tile in enumerate(tiles):
-            nearer = sum(len(e.sites) for e in tiles if margin(o, e.box, tile.box) < 0)
-            same(data["nearer"][b], min(64, nearer), "the sites of nearer tiles")
+            nearer = sum(len(sounding(e)) for e in tiles if margin(o, e.box, tile.box) < 0)
+            same(data["nearer"][b], min(64, nearer), "the sounding sites of nearer tiles")
 
 
 def large_pages(engine, rng):
@@ -555,7 +646,7 @@ def large_pages(engine, rng):
     made, _ = page.html(engine, "large", engine.write(tiles), tiles, stops, 5)
     holds(len(made) < 2_000_000, f"the page of a large town has {len(made)} bytes")
     holds("The margin is here for E among 31 tiles" in made, "the page says which margins it has")
-    sparse = [town.Tile((10 * t, 0, 10 * t + 9, 9), [(10 * t, 5, t)]) for t in range(120)]
+    sparse = [town.Tile((10 * t, 0, 10 * t + 9, 9), [(10 * t, 5, t + 1)]) for t in range(120)]
     stops = [(rng.randrange(1200), 0) for _ in range(200)]
     made, _ = page.html(engine, "sparse", engine.write(sparse), sparse, stops, 2)
     holds("The slider ends at k = " in made, "the page says where the slider ends")
@@ -569,6 +660,7 @@ def main():
     engine = Engine()
     texts()
     round_trips(engine, random.Random(1))
+    renewed(engine, random.Random(6))
     faulty(engine)
     checks(engine)
     drawn_damage(engine, random.Random(2))
@@ -579,7 +671,7 @@ def main():
     places()
     pages(engine, random.Random(4))
     large_pages(engine, random.Random(5))
-    print(f"tool: {runs} runs of tools/town, drawn towns, damage, questions and pages compared")
+    print(f"tool: {runs} runs of tools/town, drawn towns, damage, old files, questions and pages compared")
 
 
 main()

@@ -42,13 +42,17 @@ def ask(engine, content, stops, k):
 
 def by_key(engine, content, stop, tiles):
     """Tiles in the order in which a stop takes them: by key, which is near, then the tile's number."""
-    return sorted(tiles, key=lambda tile: (engine.near(tuple(stop), entry(content, tile)[0]), tile))
+    return sorted(tiles, key=lambda tile: (engine.near(tuple(stop), entry(content, tile).box), tile))
+
+
+def _tile(content, tile):
+    """A tile's number, and why it is in no queue if it has no sounding site."""
+    held = entry(content, tile)
+    return f"{tile}" + ("" if held.sounding else " (muted)" if held.count else " (empty)")
 
 
 def _tiles(content, numbers):
-    if not numbers:
-        return "none"
-    return ", ".join(f"{tile}" + ("" if entry(content, tile)[1] else " (empty)") for tile in numbers)
+    return ", ".join(_tile(content, tile) for tile in numbers) or "none"
 
 
 def report(engine, content, stops, k):
@@ -65,7 +69,7 @@ def report(engine, content, stops, k):
     for mark, word in ((STRUCK, "struck"), (NEITHER, "neither")):
         lines.append(f"{word}: {_tiles(content, [tile for tile, held in enumerate(joined.marks) if held == mark])}")
     for i, (stop, places) in enumerate(zip(stops, joined.lists)):
-        lines.append(f"stop {i} at {stop[0]},{stop[1]}:" + ("" if places else " no site"))
+        lines.append(f"stop {i} at {stop[0]},{stop[1]}:" + ("" if places else " no sounding site"))
         for dist, site, cue in places:
             lines.append(f"  D {dist}, site {site} (tile {site // MAX_SITES} slot {site % MAX_SITES}), cue {cue}")
     return lines

@@ -4,7 +4,7 @@ import re
 import sys
 
 from . import ask, page, text, town, words
-from .engine import MAX_FILE, Engine, NoLibrary, Refused
+from .engine import BLOCK_SIZE, MAX_FILE, Engine, NoLibrary, Refused
 
 USAGE = """\
 town: the tool for towns
@@ -12,10 +12,12 @@ town: the tool for towns
   town make TEXT FILE           makes the file of a town from text
   town show FILE                prints a file as that text
   town check FILE               the full check; says of a refusal what was due and what stood there
-  town ask FILE K X,Y ..        the K nearest sites of each stop, and which tiles were opened, struck, neither
+  town ask FILE K X,Y ..        the K nearest sounding sites of each stop, and which tiles were opened, struck, neither
   town draw FILE K X,Y .. PAGE  the same as one page of HTML, to look at in a browser
+  town renew OLD FILE           writes again a file from before muted sites were counted
 
 town COMMAND --help says more of a command. Coordinates are whole centimetres from -1000000 to 1000000.
+A site with cue 0 is muted: it takes no place in a list. All others are sounding.
 Exit status: 0 done, 1 refused or wrong, 2 a command that cannot be understood.
 """
 
@@ -32,14 +34,15 @@ in whole centimetres; what follows a # is left out. Tiles are numbered from 0 in
 the sites of a tile from slot 0.
 A town has 1 to 960 tiles, a tile at most 40 sites, all inside its box, ends included. \
 A cue is a number from 0 to 4294967295.
+A site with cue 0 is muted: it keeps its slot, but takes no place in a list. All others are sounding.
 What is wrong is said with line, tile and slot; then no file is written.
 """,
     "show": """\
 town show FILE
 
-Prints a file as the text that `town make` takes, with the numbers of tiles and sites in comments. \
-The file must pass the full
-check.
+Prints a file as the text that `town make` takes, with the numbers of tiles and sites in comments, \
+and which sites are muted.
+The file must pass the full check.
 """,
     "check": """\
 town check FILE
@@ -51,7 +54,8 @@ and what stood there.
     "ask": """\
 town ask FILE K X,Y ..
 
-Prints for each stop X,Y its K nearest sites, nearest first: D (the squared distance), \
+Prints for each stop X,Y its K nearest sounding sites, those whose cue is not 0, nearest first: \
+D (the squared distance),
 the site (tile x 40 + slot) and its cue.
 Before them: O, the smallest box around the stops; the tiles opened for each stop, in this order; \
 the tiles struck; and those
@@ -69,6 +73,13 @@ The numbers are those of
 the engine, asked when the page is written; of O and the three points, docs/TOOL.md says more. \
 The file must pass the full
 check.
+""",
+    "renew": """\
+town renew OLD FILE
+
+Writes a file again that was made before muted sites were counted: its directory has 0 for all tiles, \
+and a tile with a cue 0
+is refused with 16. All else of it must pass the full check. FILE is that of the same town, with its muted sites.
 """,
 }
 
@@ -109,7 +120,7 @@ def _save(name, content):
 
 def _refused(name, content, refused, stops=(), k=0):
     head, *rest = words.refusal(content, refused, stops, k)
-    return Wrong(f"{name}: {head}" if refused.number <= 10 else head, *rest)
+    return Wrong(f"{name}: {head}" if words.of_file(refused.number) else head, *rest)
 
 
 def _stop(part):
@@ -162,6 +173,36 @@ def check(arguments):
     print(f"{arguments[0]}: good: {town.size(tiles)}, {blocks + len(tiles)} blocks, {blocks} of them of the directory")
 
 
+def _counted(content):
+    """A file with the muted numbers of its tiles in the directory."""
+    file = bytearray(content)
+    for number, tile in enumerate(town.read(content)):
+        town.put_muted(file, number, len(tile.sites) - tile.sounding)
+    for position in range(town.directory_blocks(town.two_bytes(file, 6))):
+        at = BLOCK_SIZE * position
+        file[at + 510:at + 512] = words.sums(file[at:at + 512])
+    return bytes(file)
+
+
+def renew(arguments):
+    name, target = arguments
+    engine, content = Engine(), _content(name)
+    try:
+        engine.validate(content)
+    except Refused as refused:
+        # An old file. 16 comes after the directory was accepted, so that its tiles can be read.
+        if refused.number != 16 or not town.none_muted(content):
+            raise _refused(name, content, refused) from None
+        content = _counted(content)
+    try:
+        engine.validate(content)
+    except Refused as refused:
+        raise _refused(name, content, refused) from None
+    tiles = town.read(content)
+    _save(target, engine.write(tiles))
+    print(f"{target}: {town.size(tiles)}, {len(content)} bytes")
+
+
 def ask_(arguments):
     name, *question = arguments
     k, stops = _question(question)
@@ -193,18 +234,18 @@ def draw(arguments):
 
 # For each command: what does it, and the least and the largest number of its arguments.
 COMMANDS = {"make": (make, 2, 2), "show": (show, 1, 1), "check": (check, 1, 1), "ask": (ask_, 2, None),
-            "draw": (draw, 4, None)}
+            "draw": (draw, 4, None), "renew": (renew, 2, 2)}
 
 
 def _run(arguments):
     if not arguments:
-        raise Usage("which command? make, show, check, ask or draw")
+        raise Usage("which command? make, show, check, ask, draw or renew")
     name, *rest = arguments
     if name in ("--help", "-h", "help"):
         sys.stdout.write(USAGE)
         return
     if name not in COMMANDS:
-        raise Usage(f"there is no command `{name}`; there are make, show, check, ask and draw")
+        raise Usage(f"there is no command `{name}`; there are make, show, check, ask, draw and renew")
     if rest and rest[0] in ("--help", "-h"):
         sys.stdout.write(HELP[name])
         return

@@ -17,7 +17,7 @@ BAD_BOX = 9_000_000_000_000_000_000
 
 NAMES = {
     1: "length", 2: "sync", 3: "check", 4: "kind", 5: "position", 6: "tiles", 7: "entries", 8: "padding", 9: "box",
-    10: "stray", 11: "k", 12: "stops", 13: "spot", 14: "short", 15: "supply",
+    10: "stray", 11: "k", 12: "stops", 13: "spot", 14: "short", 15: "supply", 16: "muted",
 }
 
 

@@ -10,6 +10,9 @@
   const $ = (id) => document.getElementById(id);
   const plural = (n, word) => n + " " + word + (n === 1 ? "" : "s");
   const count = (t) => data.sites[t].length / 3;
+  // A site with cue 0 is muted: it takes no place. The others are sounding.
+  const muted = data.sites.map((held) => held.filter((end, at) => at % 3 === 2 && end === 0).length);
+  const sounding = (t) => count(t) - muted[t];
   const mark = (t) => +data.marks[state.k - 1][t];
   const boxWords = (b) => `x ${b[0]}..${b[2]}, y ${b[1]}..${b[3]}`;
 
@@ -89,15 +92,20 @@
   }
   const outline = (b) => `M${b[0]} ${-b[1]}H${b[2]}V${-b[3]}H${b[0]}Z`;
   const dots = (points) => points.map((p) => `M${p[0]} ${-p[1]}h0`).join("");
+  const crosses = (points, r) => points.map((p) =>
+    `M${p[0]} ${-p[1]}m${-r} ${-r}l${2 * r} ${2 * r}m0 ${-2 * r}l${-2 * r} ${2 * r}`).join("");
   const tiles = data.boxes.map((_, t) => draw("path", {"data-tile": t}));
   // Larger boxes first, so that a box inside another can be clicked.
   const area = (t) => (data.boxes[t][2] - data.boxes[t][0]) * (data.boxes[t][3] - data.boxes[t][1]);
   layer.tiles.append(...tiles.map((_, t) => t).sort((a, b) => area(b) - area(a) || a - b).map((t) => tiles[t]));
   layer.o.append(draw("path", {class: "o", d: outline(data.o)}));
   const every = [];
-  data.sites.forEach((held) => { for (let at = 0; at < held.length; at += 3) every.push([held[at], held[at + 1]]); });
-  const rim = draw("path", {class: "rim", d: dots(every)}), allSites = draw("path", {class: "sites", d: dots(every)});
-  layer.sites.append(rim, allSites);
+  data.sites.forEach((held) => { for (let at = 0; at < held.length; at += 3) every.push(held.slice(at, at + 3)); });
+  // Sounding sites are dots, muted ones crosses.
+  const heard = every.filter((site) => site[2]), silent = every.filter((site) => !site[2]);
+  const rim = draw("path", {class: "rim", d: dots(heard)}), mutedRim = draw("path", {class: "muted rim"});
+  const soundingSites = draw("path", {class: "sites", d: dots(heard)}), mutedSites = draw("path", {class: "muted"});
+  layer.sites.append(mutedRim, mutedSites, rim, soundingSites);
   const stops = data.stops.map(([x, y], i) => {
     const group = draw("g", {class: "stop", role: "button", tabindex: -1, "data-stop": i,
       "aria-label": `Stop ${i} at (${x}, ${y})`});
@@ -139,9 +147,12 @@
       `translate(${data.stops[i][0]} ${-data.stops[i][1]}) scale(${unit * (N > 60 ? 0.7 : 1)})`));
     layer.numbers.replaceChildren();
     const small = every.length * 100 > width * width * view.h / view.w; // many sites: smaller dots
-    allSites.style.strokeWidth = small ? "2px" : "4px";
-    allSites.style.strokeOpacity = small ? 0.6 : 1;
-    rim.style.display = small ? "none" : ""; // a white rim, so that a site on an edge can be seen
+    soundingSites.style.strokeWidth = small ? "2px" : "4px";
+    soundingSites.style.strokeOpacity = small ? 0.6 : 1;
+    for (const path of [mutedRim, mutedSites]) path.setAttribute("d", crosses(silent, (small ? 2 : 3.5) * unit));
+    mutedSites.style.strokeWidth = small ? "1px" : "2px";
+    // a white rim, so that a site on an edge can be seen
+    for (const path of [rim, mutedRim]) path.style.display = small ? "none" : "";
     tiles.forEach((path, t) => {
       const b = drawnBox(t), w = (b[2] - b[0]) / unit, h = (b[3] - b[1]) / unit;
       path.setAttribute("d", outline(b));
@@ -217,19 +228,20 @@
     if (next) {
       const why = last.dist < next.near ? `its D ${last.dist} is below near ${next.near}`
         : `its D ${last.dist} is equal to near, and its tile ${last.tile} is below ${next.tile}`;
-      $("ended").textContent = `It ended at the key near ${next.near}, tile ${next.tile}: ${plural(k, "site")} ` +
-        `${k === 1 ? "is" : "are"} ahead of the next key. The last of them is place ${k - 1}: ${why}.`;
+      $("ended").textContent = `It ended at the key near ${next.near}, tile ${next.tile}: ` +
+        `${plural(k, "sounding site")} ${k === 1 ? "is" : "are"} ahead of the next key. ` +
+        `The last of them is place ${k - 1}: ${why}.`;
     } else {
       $("ended").textContent = "It ended because no tile waits: " +
-        "it has taken all tiles that are neither struck nor empty." +
-        (full.length < k ? ` The town has only ${plural(full.length, "site")}.` : "");
+        "it has taken all tiles that have a sounding site and are not struck." +
+        (full.length < k ? ` The town has only ${plural(full.length, "sounding site")}.` : "");
     }
     $("stepper").hidden = end === 0;
     $("step-back").disabled = !stepped || m <= 1;
     $("step-on").disabled = !stepped || m >= end;
     $("step-title").textContent = `turn ${m} of ${end}`;
-    $("list").caption.textContent = m === 0 ? "The list: no site" : m === end ? `The list at the end, after turn ${m}` :
-      `The list after turn ${m}: tile ${queue[m - 1].tile}`;
+    $("list").caption.textContent = m === 0 ? "The list: no sounding site" :
+      m === end ? `The list at the end, after turn ${m}` : `The list after turn ${m}: tile ${queue[m - 1].tile}`;
     fill($("list"), list.map((p, j) => ({cells: [j, p.dist, p.site, p.tile, p.slot, p.cue]})));
     $("list").parentNode.hidden = false;
     const rows = [];
@@ -248,13 +260,13 @@
         if (at + 1 === m) turn.setAttribute("aria-pressed", "true");
       }
       rows.push({kind: waits ? (rows.length === end ? "later end" : "later") : at + 1 === m ? "now" : "",
-        cells: [turn, row.near, row.tile, count(row.tile), what]});
+        cells: [turn, row.near, row.tile, sounding(row.tile), what]});
     });
     fill($("queue"), rows);
-    const struck = data.counts[k - 1][2], empty = tiles.filter((_, t) => count(t) === 0 && mark(t) !== 1).length;
+    const struck = data.counts[k - 1][2], empty = tiles.filter((_, t) => sounding(t) === 0 && mark(t) !== 1).length;
     const more = T - struck - empty - rows.length;
     $("left-out").textContent = (more > 0 ? `${plural(more, "more tile")} ${more === 1 ? "waits" : "wait"}. ` : "") +
-      `In no queue: ${plural(struck, "struck tile")} and ${plural(empty, "other")} without sites.` +
+      `In no queue: ${plural(struck, "struck tile")} and ${plural(empty, "other")} without sounding sites.` +
       (stepped ? "" : " The list after each turn is not on this page for this stop.");
   }
 
@@ -321,16 +333,21 @@
       fill($("sites"), []);
       return;
     }
-    const near = data.nearer[t], sites = near === 64 ? "64 sites or more" : plural(near, "site"), kind = mark(t);
-    const says = [`Box ${boxWords(data.boxes[t])}, ${plural(count(t), "site")}. `];
+    const near = data.nearer[t], kind = mark(t);
+    const sites = near === 64 ? "64 sounding sites or more" : plural(near, "sounding site");
+    const says = [`Box ${boxWords(data.boxes[t])}, ${plural(count(t), "site")}` +
+      (muted[t] ? `, ${muted[t]} of them muted. ` : ". ")];
     if (kind === 2) says.push(`Opened, first for stop ${firstStops().get(t)}. `);
     if (kind === 1) says.push("Struck. ");
-    if (kind === 0) says.push(count(t) ? "Neither opened nor struck. " : "Neither: it is empty and not struck. ");
+    if (kind === 0) says.push(sounding(t) ? "Neither opened nor struck. " :
+      count(t) ? "Neither: all its sites are muted, and it is not struck. " : "Neither: it is empty and not struck. ");
     says.push(`The tiles nearer than it from O hold ${sites}, and k is ${state.k}.`);
     $("tile-says").textContent = says.join("");
     const rows = [];
-    for (let slot = 0; slot < count(t); slot++)
-      rows.push({cells: [slot, SITES * t + slot].concat(data.sites[t].slice(3 * slot, 3 * slot + 3))});
+    for (let slot = 0; slot < count(t); slot++) {
+      const [x, y, cue] = data.sites[t].slice(3 * slot, 3 * slot + 3);
+      rows.push({kind: cue ? "" : "later", cells: [slot, SITES * t + slot, x, y, cue || "0, muted"]});
+    }
     fill($("sites"), rows);
   }
 
@@ -352,7 +369,7 @@
     const neither = data.marks[state.k - 1].split("0").length - 1;
     $("counts").textContent = `${plural(T, "tile")}: opened ${opened}, struck ${struck}, neither ${neither}`;
     tiles.forEach((path, t) => {
-      const empty = count(t) ? "" : " empty", picked = t === state.tile ? " picked" : "";
+      const empty = sounding(t) ? "" : " empty", picked = t === state.tile ? " picked" : "";
       path.setAttribute("class", `tile ${WORDS[mark(t)]}${empty}${picked}`);
     });
     showStop();
@@ -380,7 +397,8 @@
     show();
   }
 
-  const title = `${data.name}: ${plural(T, "tile")}, ${plural(every.length, "site")}, ${plural(N, "stop")}`;
+  const title = `${data.name}: ${plural(T, "tile")}, ${plural(every.length, "site")}` +
+    `${silent.length ? ` (${silent.length} muted)` : ""}, ${plural(N, "stop")}`;
   document.title = $("title").textContent = title;
   $("k").max = data.kmax;
   data.notes.forEach((note) => $("notes").append(make("p", {class: "note"}, note)));
@@ -390,9 +408,11 @@
     data.boxes.forEach((box, t) => $(id).append(make("option", {value: t}, id === "tile" ? `Tile ${t}` : t)));
   }
   const swatches = [["tile opened", "M1 1H27V15H1Z", "opened"], ["tile struck", "M1 1H27V15H1Z", "struck"],
-    ["tile neither", "M1 1H27V15H1Z", "neither"], ["tile empty", "M1 1H27V15H1Z", "dotted edge: no site"],
-    ["taken", "M2 2H26V14H2Z", "taken by this stop"], ["o", "M1 1H27V15H1Z", "O"], ["sites", "M14 8h0", "site"],
-    ["chosen", "M14 8h0", "in the list"], ["ring", "M2 15A13 13 0 0 1 26 15", "as far as the last place"],
+    ["tile neither", "M1 1H27V15H1Z", "neither"], ["tile empty", "M1 1H27V15H1Z", "dotted edge: no sounding site"],
+    ["taken", "M2 2H26V14H2Z", "taken by this stop"], ["o", "M1 1H27V15H1Z", "O"],
+    ["sites", "M14 8h0", "sounding site"], ["muted", crosses([[14, -8]], 3.5), "muted site"],
+    ["chosen", "M14 8h0", "in the list"],
+    ["ring", "M2 15A13 13 0 0 1 26 15", "as far as the last place"],
     ["next", "M2 15A13 13 0 0 1 26 15", "as far as the next key"]];
   for (const [kind, path, words] of swatches) {
     const item = make("li"), small = draw("svg", {width: 28, height: 16, "aria-hidden": "true"});

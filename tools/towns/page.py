@@ -2,14 +2,14 @@
 
 What the page holds, and the calls that it comes from:
 - marks and counts of the run for each k: nearby_join of all the stops;
-- for each stop its queue: the tiles that are not empty, by key; near by nearby_margin;
+- for each stop its queue: the tiles with a sounding site, by key; near by nearby_margin;
 - for each stop and k how many tiles it takes: the tiles opened by nearby_join of this stop alone. They are the first of
   its queue: no list and no opening depends on other stops or on striking (theorem pruning-opens-alike of the crate
   `search`);
 - for each stop the list after each turn: nearby_join of a town that has only the tiles taken so far, all others
   emptied;
-- for pairs of tiles the margin, and of tiles near and far from the corners of O, by nearby_margin; the sites of the
-  tiles nearer than a tile by nearby_prune.
+- for pairs of tiles the margin, and of tiles near and far from the corners of O, by nearby_margin; the sounding sites
+  of the tiles nearer than a tile by nearby_prune.
 
 No call gives O, or the three points of a margin: these are found here, by their rules. nearby_margin of the points
 alone has to be the margin of the boxes.
@@ -42,10 +42,10 @@ class Run:
     def __init__(self, engine, content, tiles, stops, k):
         self.engine, self.tiles, self.stops, self.k = engine, tiles, stops, k
         self.file = engine.file(content)
-        self.held = [t for t, tile in enumerate(tiles) if tile.sites]
+        self.held = [t for t, tile in enumerate(tiles) if tile.sounding]
         self.o = around(stops)
         self.notes = []
-        self.kmax = min(MAX_K, max(k, sum(len(tile.sites) for tile in tiles)))
+        self.kmax = min(MAX_K, max(k, sum(tile.sounding for tile in tiles)))
         self.joined = [engine.join(self.file, stops, k) for k in range(1, self.kmax + 1)]
         self.queues = [sorted((engine.near(stop, tiles[t].box), t) for t in self.held) for stop in stops]
         self.walks = [self._walk(i) for i in range(len(stops))]
@@ -124,8 +124,8 @@ class Run:
         return ever
 
     def nearer(self):
-        """For each tile how many sites the tiles nearer than it from O hold, 64 standing for more: the last k for which
-        it is struck."""
+        """For each tile how many sounding sites the tiles nearer than it from O hold, 64 standing for more: the last k
+        for which it is struck."""
         most = [0] * len(self.tiles)
         for k in range(1, MAX_K + 1):
             for t, mark in enumerate(self.engine.strike(self.file, self.o, k)):

@@ -8,7 +8,7 @@ import re
 from typing import NamedTuple, Optional
 
 from .engine import LIMIT, MAX_SITES, MAX_TILES, Refused
-from .town import Tile, number, size
+from .town import Tile, is_muted, number, size
 
 FORMS = {"tile": ("LOW_X", "LOW_Y", "HIGH_X", "HIGH_Y"), "site": ("X", "Y", "CUE")}
 MAX_CUE = 2**32 - 1
@@ -172,10 +172,12 @@ def make(engine, text):
 
 
 def show(tiles):
-    """The text of a town, with the numbers of tiles and sites behind #."""
+    """The text of a town; behind # the numbers of tiles and sites, and what is empty or muted."""
     lines = [f"# {size(tiles)}"]
     for t, tile in enumerate(tiles):
-        lines.append("tile {} {} {} {}  # tile {}".format(*tile.box, t) + ("" if tile.sites else ", empty"))
+        what = "" if tile.sounding else ", muted" if tile.sites else ", empty"
+        lines.append("tile {} {} {} {}  # tile {}".format(*tile.box, t) + what)
         for slot, site in enumerate(tile.sites):
-            lines.append("site {} {} {}  # site {}, slot {}".format(*site, number(t, slot), slot))
+            lines.append("site {} {} {}  # site {}, slot {}".format(*site, number(t, slot), slot)
+                         + (", muted" if is_muted(site) else ""))
     return "\n".join(lines) + "\n"

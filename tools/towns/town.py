@@ -15,6 +15,27 @@ class Tile(NamedTuple):
     box: tuple
     sites: list
 
+    @property
+    def sounding(self):
+        """How many of its sites are not muted."""
+        return len(self.sites) - sum(map(is_muted, self.sites))
+
+
+class Entry(NamedTuple):
+    """The directory's entry of a tile: its box, how many sites it has, and how many of them are muted."""
+    box: tuple
+    count: int
+    muted: int
+
+    @property
+    def sounding(self):
+        return self.count - self.muted
+
+
+def is_muted(held):
+    """Whether a site (x, y, cue) is muted: then it takes no place in a list."""
+    return held[2] == 0
+
 
 def directory_blocks(tiles):
     """d: how many blocks the directory of so many tiles has."""
@@ -29,11 +50,24 @@ def two_bytes(held, at):
     return int.from_bytes(held[at:at + 2], "little")
 
 
+def _entry_at(tile):
+    return BLOCK_SIZE * (tile // ENTRIES) + PAYLOAD + ENTRY_SIZE * (tile % ENTRIES)
+
+
 def entry(content, tile):
-    """The directory's entry of a tile: its box and its count."""
-    at = BLOCK_SIZE * (tile // ENTRIES) + PAYLOAD + ENTRY_SIZE * (tile % ENTRIES)
-    *box, count, _ = struct.unpack_from("<iiiiHH", content, at)
-    return tuple(box), count
+    """The directory's entry of a tile."""
+    *box, count, muted = struct.unpack_from("<iiiiHH", content, _entry_at(tile))
+    return Entry(tuple(box), count, muted)
+
+
+def put_muted(file, tile, number):
+    """Puts another muted number into the directory's entry of a tile; the check stays as it is."""
+    struct.pack_into("<H", file, _entry_at(tile) + 18, number)
+
+
+def none_muted(content):
+    """Whether the directory has no muted site."""
+    return not any(entry(content, tile).muted for tile in range(two_bytes(content, 6)))
 
 
 def site(held, slot):
@@ -47,7 +81,7 @@ def read(content):
     first = directory_blocks(total)
     tiles = []
     for t in range(total):
-        box, count = entry(content, t)
+        box, count, _ = entry(content, t)
         held = block(content, first + t)
         tiles.append(Tile(box, [site(held, slot) for slot in range(count)]))
     return tiles
@@ -64,7 +98,9 @@ def several(count, word):
 
 def size(tiles):
     """How large a town is, in words."""
-    return f"{several(len(tiles), 'tile')}, {several(sum(len(tile.sites) for tile in tiles), 'site')}"
+    sites = [site for tile in tiles for site in tile.sites]
+    muted = sum(map(is_muted, sites))
+    return f"{several(len(tiles), 'tile')}, {several(len(sites), 'site')}" + (f" ({muted} muted)" if muted else "")
 
 
 def around(stops):

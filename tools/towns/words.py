@@ -4,7 +4,8 @@ The engine says the number and the block; the bytes say the rest.
 """
 from .engine import BLOCK_SIZE, LIMIT, MAX_FILE, MAX_K, MAX_SITES, MAX_STOPS, MAX_TILES, NAMES
 from .text import outside
-from .town import ENTRIES, ENTRY_SIZE, PAYLOAD, SITE_SIZE, block, directory_blocks, entry, several, site, two_bytes
+from .town import (ENTRIES, ENTRY_SIZE, PAYLOAD, SITE_SIZE, block, directory_blocks, entry, is_muted, several, site,
+                   two_bytes)
 
 PAYLOAD_END = 496
 CHECK = 510
@@ -43,7 +44,7 @@ class Blocks:
 
     def entries_due(self, position):
         if not self.is_directory(position):
-            return entry(self.content, position - self.directory)[1]
+            return entry(self.content, position - self.directory).count
         return min(ENTRIES, self.tiles - ENTRIES * position)
 
     def zeros(self, position):
@@ -51,10 +52,6 @@ class Blocks:
         held = block(self.content, position)
         entries = two_bytes(held, 4)
         if self.is_directory(position):
-            for e in range(entries):
-                for at in (18, 19):
-                    yield (PAYLOAD + ENTRY_SIZE * e + at,
-                           f"the last two bytes of the entry of tile {ENTRIES * position + e}")
             first, what = PAYLOAD + ENTRY_SIZE * entries, "past the last entry"
         else:
             yield from ((at, "zero in a tile, where a directory block has T") for at in (6, 7))
@@ -126,7 +123,7 @@ def _padding(file, position):
 
 def _box(file, position):
     for tile in range(ENTRIES * position, ENTRIES * position + file.entries_due(position)):
-        box, count = entry(file.content, tile)
+        box, count, muted = entry(file.content, tile)
         for name, value in zip(("low x", "low y", "high x", "high y"), box):
             if not -LIMIT <= value <= LIMIT:
                 return f"coordinates from {-LIMIT} to {LIMIT}", f"{name} of tile {tile} is {value}"
@@ -135,12 +132,15 @@ def _box(file, position):
                 return "no low end above its high end", f"tile {tile} has low {axis} {low} and high {axis} {high}"
         if count > MAX_SITES:
             return f"at most {MAX_SITES} sites in a tile", f"the count of tile {tile} is {count}"
+        if muted > count:
+            return ("no more muted sites in a tile than sites",
+                    f"the muted number of tile {tile} is {muted}, its count {count}")
     return None
 
 
 def _stray(file, position):
     tile = position - file.directory
-    box, count = entry(file.content, tile)
+    box, count, _ = entry(file.content, tile)
     held = block(file.content, position)
     for slot in range(count):
         x, y, _ = site(held, slot)
@@ -149,7 +149,22 @@ def _stray(file, position):
     return None
 
 
-OF_BLOCKS = {2: _sync, 3: _check, 4: _kind, 5: _position, 6: _tiles, 7: _entries, 8: _padding, 9: _box, 10: _stray}
+def _muted(file, position):
+    due = entry(file.content, position - file.directory)
+    held = block(file.content, position)
+    slots = [slot for slot in range(due.count) if is_muted(site(held, slot))]
+    where = f", {'slot' if len(slots) == 1 else 'slots'} {', '.join(map(str, slots))}" if slots else ""
+    return (f"{several(due.muted, 'site')} with cue 0, the directory's muted number of this tile",
+            f"{several(len(slots), 'site')} with cue 0{where}")
+
+
+OF_BLOCKS = {2: _sync, 3: _check, 4: _kind, 5: _position, 6: _tiles, 7: _entries, 8: _padding, 9: _box, 10: _stray,
+             16: _muted}
+
+
+def of_file(number):
+    """Whether a refusal by the full check or by the join speaks of the file, and not of the question."""
+    return number == 1 or number in OF_BLOCKS
 
 
 def _of_question(number, stops, k):
