@@ -158,7 +158,7 @@ void measure_inputs(const Town &town)
     };
     all(town, "track");
     all(town, "spread");
-    for (const Town &t : {grid(960, 8), clustered(), overlapping(), alike()})
+    for (const Town &t : {grid(960, 8), half_muted(), clustered(), overlapping(), alike()})
         all(t, "track");
     header("Peers with the late check");
     for (const char *stops : {"track", "spread"})

@@ -1,8 +1,8 @@
 // (e) The paper's own algorithm, as one would write it down, and (f) the same made quicker by keeping what does not
 // change.
-// Both: check and decode the directory; for each tile B the counts of the nearer tiles, left as soon as they reach k;
-// for each stop a heap of the tiles neither struck nor empty by key; each tile opened once a run, with all tests; sites
-// read from the block's bytes; the k best in a sorted vector.
+// Both: check and decode the directory; for each tile B the sounding sites of the nearer tiles, left as soon as they
+// reach k; for each stop a heap by key of the tiles that are not struck and have a sounding site; each tile opened once
+// a run, with all tests; sites read from the block's bytes; the k best in a sorted vector.
 // (e) takes the margin of each pair of tiles from their boxes, and looks through all tiles for each stop.
 // (f) takes for each tile and each end of the box O the far and near square once, and gathers the tiles that wait once.
 // Neither sorts or groups tiles in space, keeps anything of one stop's walk for the next, or uses vector instructions
@@ -68,7 +68,7 @@ std::vector<uint8_t> strike(const Directory &dir, const Margins &margin, uint32_
         uint32_t sum = 0;
         for (size_t e = 0; e < tiles && sum < k; e++)
             if (margin(e, b) < 0)
-                sum += dir.count[e];
+                sum += dir.sounding(e);
         if (sum >= k) {
             marks[b] = 1;
             counts.struck++;
@@ -83,7 +83,7 @@ struct Key {
     bool operator>(const Key &o) const { return near != o.near ? near > o.near : tile > o.tile; }
 };
 
-// Serves the stops; `each_waiting` calls its argument with each tile neither struck nor empty.
+// Serves the stops; `each_waiting` calls its argument with each tile that is not struck and has a sounding site.
 template <class Waiting>
 void serve(const Query &q, BlockCheck check, const Directory &dir, std::vector<uint8_t> &marks,
            const Waiting &each_waiting, PaperCounts &counts, Lists &out)
@@ -114,8 +114,9 @@ void serve(const Query &q, BlockCheck check, const Directory &dir, std::vector<u
             }
             const uint8_t *p = tile_block(q.file, dir, next.tile) + PAYLOAD;
             for (uint32_t j = 0; j < dir.count[next.tile]; j++, p += SITE)
-                best.add({uint64_t(square(i32_at(p) - px) + square(i32_at(p + 4) - py)),
-                          uint32_t(next.tile * SLOTS + j), u32_at(p + 8)});
+                if (u32_at(p + 8) != 0)
+                    best.add({uint64_t(square(i32_at(p) - px) + square(i32_at(p + 4) - py)),
+                              uint32_t(next.tile * SLOTS + j), u32_at(p + 8)});
         }
         best.put(out, i);
     }
@@ -137,7 +138,7 @@ PaperCounts paper(const Query &q, BlockCheck check, Lists &out)
     std::vector<uint8_t> marks = strike(dir, PairMargins{dir, around(q)}, q.k, counts);
     auto all = [&](auto take) {
         for (uint32_t t = 0; t < dir.tiles(); t++)
-            if (marks[t] != 1 && dir.count[t] != 0)
+            if (marks[t] != 1 && dir.sounding(t) != 0)
                 take(t);
     };
     serve(q, check, dir, marks, all, counts, out);
@@ -151,7 +152,7 @@ PaperCounts tuned_paper(const Query &q, BlockCheck check, Lists &out)
     std::vector<uint8_t> marks = strike(dir, TableMargins(dir, around(q)), q.k, counts);
     std::vector<uint32_t> waiting;
     for (uint32_t t = 0; t < dir.tiles(); t++)
-        if (marks[t] != 1 && dir.count[t] != 0)
+        if (marks[t] != 1 && dir.sounding(t) != 0)
             waiting.push_back(t);
     auto gathered = [&](auto take) {
         for (uint32_t t : waiting)

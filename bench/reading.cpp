@@ -35,9 +35,10 @@ Directory read_directory(const Bytes &file, BlockCheck check)
 {
     test(!file.empty() && file.size() % BLOCK == 0 && file.size() <= 512000, 1, 0);
     size_t tiles = u16_at(&file[6]);
-    Directory dir{(tiles + 23) / 24, {}, {}};
+    Directory dir{(tiles + 23) / 24, {}, {}, {}};
     dir.box.reserve(tiles);
     dir.count.reserve(tiles);
+    dir.muted.reserve(tiles);
     for (size_t d = 0; d == 0 || d < dir.blocks; d++) {
         const uint8_t *b = &file[d * BLOCK];
         check_head(b, 1, d, check);
@@ -45,13 +46,12 @@ Directory read_directory(const Bytes &file, BlockCheck check)
         size_t entries = std::min<size_t>(24, tiles - 24 * d);
         test(u16_at(b + 4) == entries, 7, d);
         test(zeros(b, 8, PAYLOAD) && zeros(b, PAYLOAD + entries * ENTRY, 510), 8, d);
-        for (size_t i = 0; i < entries; i++)
-            test(zeros(b + PAYLOAD + i * ENTRY, 18, 20), 8, d);
         for (size_t i = 0; i < entries; i++) {
             const uint8_t *e = b + PAYLOAD + i * ENTRY;
             dir.box.push_back({i32_at(e), i32_at(e + 8), i32_at(e + 4), i32_at(e + 12)});
             dir.count.push_back(u16_at(e + 16));
-            test(valid(dir.box.back()) && dir.count.back() <= SLOTS, 9, d);
+            dir.muted.push_back(u16_at(e + 18));
+            test(valid(dir.box.back()) && dir.count.back() <= SLOTS && dir.muted.back() <= dir.count.back(), 9, d);
         }
     }
     return dir;
@@ -69,6 +69,10 @@ void check_tile(const Bytes &file, const Directory &dir, size_t t, BlockCheck ch
         int32_t x = i32_at(b + PAYLOAD + j * SITE), y = i32_at(b + PAYLOAD + j * SITE + 4);
         test(box.x0 <= x && x <= box.x1 && box.y0 <= y && y <= box.y1, 10, position);
     }
+    uint32_t muted = 0;
+    for (size_t j = 0; j < n; j++)
+        muted += u32_at(b + PAYLOAD + j * SITE + 8) == 0;
+    test(muted == dir.muted[t], 16, position);
 }
 
 Sites read_sites(const Bytes &file, BlockCheck check)
@@ -84,6 +88,8 @@ Sites read_sites(const Bytes &file, BlockCheck check)
         check_tile(file, dir, t, check);
         const uint8_t *p = tile_block(file, dir, t) + PAYLOAD;
         for (size_t j = 0; j < dir.count[t]; j++, p += SITE) {
+            if (u32_at(p + 8) == 0)
+                continue;
             s.x.push_back(i32_at(p));
             s.y.push_back(i32_at(p + 4));
             s.cue.push_back(u32_at(p + 8));

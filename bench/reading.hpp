@@ -17,7 +17,8 @@ struct Box {
 struct Directory {
     size_t blocks;
     std::vector<Box> box; // one for each tile
-    std::vector<uint32_t> count;
+    std::vector<uint32_t> count, muted;
+    uint32_t sounding(size_t t) const { return count[t] - muted[t]; }
     size_t tiles() const { return box.size(); }
     size_t sites() const;
 };
@@ -40,11 +41,11 @@ inline const uint8_t *tile_block(const Bytes &file, const Directory &dir, size_t
 // Reads and checks the directory: tests 1 to 9.
 Directory read_directory(const Bytes &file, BlockCheck check);
 
-// Checks the block of tile t: tests 2, 3, 4, 5, 7, 8, 10.
+// Checks the block of tile t: tests 2, 3, 4, 5, 7, 8, 10, 16.
 void check_tile(const Bytes &file, const Directory &dir, size_t t, BlockCheck check);
 
-// All sites of a file in the order of tile and slot, after checking every block. Coordinates are held as doubles, which
-// hold every squared distance (at most 8e12) exactly.
+// All sounding sites of a file in the order of tile and slot, after checking every block. Coordinates are held as
+// doubles, which hold every squared distance (at most 8e12) exactly.
 struct Sites {
     std::vector<double> x, y;
     std::vector<uint32_t> site, cue;

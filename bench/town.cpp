@@ -30,6 +30,7 @@ private:
 
 struct Site {
     int32_t x, y;
+    bool muted = false;
 };
 
 struct Tile {
@@ -47,7 +48,7 @@ Bytes written(const std::vector<Tile> &tiles)
         for (const Site &s : t.sites) {
             x.push_back(s.x);
             y.push_back(s.y);
-            cues.push_back(uint32_t(cues.size() * 2654435761u));
+            cues.push_back(s.muted ? 0 : uint32_t((cues.size() + 1) * 2654435761u)); // the product is never 0
         }
     }
     Bytes out(NEARBY_MAX_FILE);
@@ -80,6 +81,18 @@ Box grid_extent(size_t tiles, size_t &columns)
     return {-w / 2, w / 2 - 1, -h / 2, h / 2 - 1};
 }
 
+std::vector<Tile> grid_tiles(size_t tiles, uint32_t sites, size_t columns, const Box &all)
+{
+    Random r(1);
+    std::vector<Tile> list(tiles);
+    for (size_t t = 0; t < tiles; t++) {
+        int32_t x = all.x0 + int32_t(t % columns) * EDGE, y = all.y0 + int32_t(t / columns) * EDGE;
+        list[t].box = {x, x + EDGE - 1, y, y + EDGE - 1};
+        fill(list[t], sites, r);
+    }
+    return list;
+}
+
 Town town(std::string name, std::string words, const std::vector<Tile> &tiles, Box extent, int32_t x, int32_t y)
 {
     return {std::move(name), std::move(words), written(tiles), extent, x, y};
@@ -89,17 +102,22 @@ Town town(std::string name, std::string words, const std::vector<Tile> &tiles, B
 
 Town grid(size_t tiles, uint32_t sites)
 {
-    Random r(1);
     size_t columns;
     Box all = grid_extent(tiles, columns);
-    std::vector<Tile> list(tiles);
-    for (size_t t = 0; t < tiles; t++) {
-        int32_t x = all.x0 + int32_t(t % columns) * EDGE, y = all.y0 + int32_t(t / columns) * EDGE;
-        list[t].box = {x, x + EDGE - 1, y, y + EDGE - 1};
-        fill(list[t], sites, r);
-    }
+    std::vector<Tile> list = grid_tiles(tiles, sites, columns, all);
     return town("grid " + std::to_string(tiles) + " x " + std::to_string(sites), "tiles of 400 m side by side", list,
                 all, -23000, -9000);
+}
+
+Town half_muted()
+{
+    size_t columns;
+    Box all = grid_extent(960, columns);
+    std::vector<Tile> list = grid_tiles(960, 40, columns, all);
+    for (Tile &t : list)
+        for (size_t j = 1; j < t.sites.size(); j += 2)
+            t.sites[j].muted = true;
+    return town("half muted", "grid 960 x 40, every second site muted", list, all, -23000, -9000);
 }
 
 Town clustered()
@@ -181,8 +199,10 @@ Town tied()
         int32_t x = r.within(-20, 10), y = r.within(-20, 10);
         t.box = {x, x + r.within(0, 10), y, y + r.within(0, 10)};
         fill(t, uint32_t(r.within(0, 4)) * 2, r);
+        for (Site &s : t.sites)
+            s.muted = r.within(0, 2) == 0;
     }
-    return town("tied", "many equal distances", list, all, -20, -20);
+    return town("tied", "many equal distances, muted sites among them", list, all, -20, -20);
 }
 
 Stops track(const Town &town, size_t n)

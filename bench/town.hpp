@@ -15,10 +15,11 @@ struct Stops {
 };
 
 Town grid(size_t tiles, uint32_t sites);  // square tiles side by side, sites anywhere in them
+Town half_muted();                        // grid 960 x 40, every second site muted
 Town clustered();                         // 960 x 40: sites crowd around 40 places; tiles by halving, boxes tight
 Town overlapping();                       // 960 x 40: boxes of up to five grid tiles a side, anywhere
 Town alike();                             // 960 x 40: every box is the whole town
-Town tied();                              // small, empty tiles, many equal distances: not timed
+Town tied();                              // small, empty tiles, muted sites, many equal distances: not timed
 
 Stops track(const Town &town, size_t n);  // n stops evenly on a line of 640 m (x) by 213 m (y)
 Stops spread(const Town &town, size_t n); // n stops anywhere in the town
