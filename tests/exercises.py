@@ -92,19 +92,20 @@ class Model:
     def join(self, town, k, stops):
         """T, the numbers of opened and struck tiles, and the lists."""
         o = around(stops)
-        struck = [sum(len(sites) for e, sites in town if self.nearer(o, e, b)) >= k for b, _ in town]
+        sounding = [sum(cue != 0 for _, _, cue in sites) for _, sites in town]
+        struck = [sum(number for (e, _), number in zip(town, sounding) if self.nearer(o, e, b)) >= k for b, _ in town]
         opened, lists = set(), []
         for stop in stops:
             found = []
-            waiting = [(self.engine.near(stop, box), tile) for tile, (box, sites) in enumerate(town)
-                       if sites and not struck[tile]]
+            waiting = [(self.engine.near(stop, box), tile) for tile, (box, _) in enumerate(town)
+                       if sounding[tile] and not struck[tile]]
             for key in sorted(waiting):
                 if self.ends(found, k, key):
                     break
                 tile = key[1]
                 opened.add(tile)
                 found = sorted(found + [((x - stop[0])**2 + (y - stop[1])**2, tile * SLOTS + slot, cue)
-                                        for slot, (x, y, cue) in enumerate(town[tile][1])])
+                                        for slot, (x, y, cue) in enumerate(town[tile][1]) if cue != 0])
             lists.append(found[:k])
         return len(town), len(opened), sum(struck), lists
 
@@ -293,12 +294,14 @@ def changes(engine, document):
         return [listed(joined.lists[0]), str(joined.opened), str(joined.struck)]
 
     # What the exercise says in words: the tile, and its sites after the change.
-    asked = [(4, "-4 9 40"), (6, "-2 -6 60; -6 -8 61"), (1, "-4 3 20; -5 3 21"), (2, "3 -4 30"), (2, "0 -3 30")]
+    asked = [(4, "-4 9 40"), (6, "-2 -6 60; -6 -8 61"), (1, "-4 3 20; -5 3 21"), (2, "3 -4 30"), (2, "0 -3 30"),
+             (1, "-4 3 0")]
     found = [[str(number), str(tile), sites, *ask(tile, [tuple(map(int, site.split())) for site in sites.split(";")])]
              for number, (tile, sites) in enumerate(asked, 1)]
     same("the changes of exercise 3", rows, found)
     (new,) = struck[2] - struck[0]
     document.says(heading, f"Tile 1 has two sites now, and it is nearer than tile {new}: tile {new} is struck.")
+    document.says(heading, f"Tiles {' and '.join(map(str, sorted(struck[0] - struck[5])))} are no longer struck")
     same("the tiles that tile 6 is nearer than, exercise 3",
          [], [tile for tile, (box, _) in enumerate(harbour) if engine.margin((*stop, *stop), harbour[6][0], box) < 0])
 

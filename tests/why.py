@@ -31,7 +31,8 @@ join, write = ENGINE.join, ENGINE.write
 PAGE = ROOT / "docs" / "WHY.md"
 TILES, FILE = text.make(ENGINE, (ROOT / "samples" / "crossing.txt").read_text())
 BOXES = [box for box, _ in TILES]
-COUNTS = [len(sites) for _, sites in TILES]
+SITES = [len(sites) for _, sites in TILES]
+COUNTS = [sum(cue != 0 for _, _, cue in sites) for _, sites in TILES]  # of sounding sites
 ALL = range(len(TILES))
 STOPS = [(0, 0), (6, 2)]
 K = 2
@@ -69,10 +70,13 @@ def table(*rows):
 
 def town():
     rows = [
-        [t, f"{x0}..{x1}", f"{y0}..{y1}", COUNTS[t], "; ".join(f"{spot(s)} cue {s[2]}" for s in TILES[t][1]) or "none"]
+        [
+            t, f"{x0}..{x1}", f"{y0}..{y1}", SITES[t], SITES[t] - COUNTS[t],
+            "; ".join(f"{spot(s)} cue {s[2]}" for s in TILES[t][1]) or "none",
+        ]
         for t, (x0, y0, x1, y1) in enumerate(BOXES)
-    ]
-    return table(["Tile", "x", "y", "Count", "Sites, from slot 0"], *rows)
+    ]  # fmt: skip
+    return table(["Tile", "x", "y", "Count", "Muted", "Sites, from slot 0"], *rows)
 
 
 def near_and_far():
@@ -138,7 +142,7 @@ def struck():
         assert all((marks[b] == 1) == (k <= total) for k, marks in by_k.items())
         counted = ", ".join(f"{e} ({COUNTS[e]})" for e in tiles) or "none"
         rows.append([b, counted, total, "yes" if MARKS[b] == 1 else "no"])
-    return table(["B", "Tiles nearer than B (count)", "Sites", "Struck for k = 2"], *rows)
+    return table(["B", "Tiles nearer than B (sounding sites)", "Sum", "Struck for k = 2"], *rows)
 
 
 def after(taken, stop, k):
@@ -181,7 +185,8 @@ def steps_of(number):
 
 def final_marks():
     said = {2: "opened", 1: "struck", 0: "neither"}
-    rows = [[t, MARKS[t], said[MARKS[t]] + (", and empty" if COUNTS[t] == 0 else "")] for t in ALL]
+    why = lambda t: "" if COUNTS[t] else ", and muted" if SITES[t] else ", and empty"
+    rows = [[t, MARKS[t], said[MARKS[t]] + why(t)] for t in ALL]
     assert ANSWER.opened == MARKS.count(2) and ANSWER.struck == MARKS.count(1)
     return table(["Tile", "Mark", "In words"], *rows)
 
@@ -262,6 +267,16 @@ def zero_counted():
     return "If 0 counted, tile 1 would be struck, since tile 3 has two sites, and this list would be wrong."
 
 
+def muted_counted():
+    """Wrong picture 4: with the muted site of tile 6 as many sites are nearer than tile 5 as k, and in this town the
+    last place is in tile 5."""
+    k = sum(SITES[e] for e in nearer_than(5))
+    assert k == 6 and sum(COUNTS[e] for e in nearer_than(5)) == 5 and strike(FILE, O, k)[5] == 0
+    tiles = list(TILES)
+    tiles[3], tiles[5] = (BOXES[3], [(-9, -4, 41)]), (BOXES[5], [(-9, 0, 61)])
+    return join(write(tiles), STOPS, k).lists[0][-1]
+
+
 def both_at(stop, a, b):
     """The distance of two sites that are equally far."""
     assert near(stop, a * 2) == near(stop, b * 2)
@@ -287,7 +302,9 @@ def sentences():
     assert margin((0, 0, 10, 0), (20, 0, 30, 0), (30, 0, 70, 0)) == 0 and end_1 == (25, 0)
     assert MARGINS[1, 2] >= 0 and far(middle(), BOXES[1]) < near(middle(), BOXES[2])
     return [
-        f"has {len(MARKS)} tiles and {sum(COUNTS)} sites. Stop 0 is at {spot(STOPS[0])}, stop 1 at {spot(STOPS[1])}",
+        f"has {len(MARKS)} tiles and {sum(SITES)} sites, {sum(COUNTS)} of them sounding. Stop 0 is at {spot(STOPS[0])},"
+        f" stop 1 at {spot(STOPS[1])}",
+        f"Then the sixth place of stop 0 is {place(muted_counted())}.",
         f"the closest point is (-3,-2), so near is 9 + 4 = {near_of((0, 0), 3)}. The farthest is (-9,-4),"
         f" so far is 81 + 16 = {far_of((0, 0), 3)}.",
         f"9 - 16 = {on_axis(0, 0, BOXES[1], BOXES[4])}. With o = 6 they are 2 and -4, and"
@@ -355,7 +372,7 @@ def second_opinion():
         assert held == max(max(from_o[o, e]) - min(from_o[o, b]) for o in inside(O))
     for k in range(1, 11):
         for stop, listed_places in zip(STOPS, join(FILE, STOPS, k).lists):
-            every = [(squared(stop, s), 40 * t + i, s[2]) for t in ALL for i, s in enumerate(TILES[t][1])]
+            every = [(squared(stop, s), 40 * t + i, s[2]) for t in ALL for i, s in enumerate(TILES[t][1]) if s[2] != 0]
             assert listed_places == sorted(every)[:k]
 
 
@@ -367,9 +384,9 @@ def unread():
     tried = 0
     shut = [t for t in ALL if MARKS[t] != 2]
     for t in shut:
-        assert COUNTS[t] <= 1
-        for x, y in inside(BOXES[t]) if COUNTS[t] else []:
-            assert join(refilled(t, 0, (x, y, 99)), STOPS, K) == ANSWER
+        assert SITES[t] <= 1
+        for x, y in inside(BOXES[t]) if SITES[t] else []:
+            assert join(refilled(t, 0, (x, y, 99 if COUNTS[t] else 0)), STOPS, K) == ANSWER
             tried += 1
     for byte in (0, 1, 255):
         file = bytearray(FILE)

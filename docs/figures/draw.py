@@ -71,6 +71,11 @@ def site(x, y, listed):
     return f'<circle cx="{x:g}" cy="{y:g}" r="4" stroke="{colour}" stroke-width="2" fill="{fill}"/>'
 
 
+def muted_site(x, y):
+    """A muted site: a cross."""
+    return "\n".join(line(x - 4, y - turn, x + 4, y + turn, SOFT, 2) for turn in (4, -4))
+
+
 def square(x, y, colour):
     return f'<rect x="{x - 5:g}" y="{y - 5:g}" width="10" height="10" fill="{colour}"/>'
 
@@ -215,8 +220,8 @@ def crossing():
         parts.append(box_of(box, INK if marks[number] == 2 else SOFT, FILL[marks[number]]))
         left, top = at(box[0], box[3])
         parts.append(text(left + 3, top - 5, f"{number}", INK, 13, "start"))
-        for slot, (x, y, _) in enumerate(sites):
-            parts.append(site(*at(x, y), 40 * number + slot in listed))
+        for slot, (x, y, cue) in enumerate(sites):
+            parts.append(site(*at(x, y), 40 * number + slot in listed) if cue else muted_site(*at(x, y)))
         if not sites:
             parts.append(text(*at((box[0] + box[2]) / 2, box[1] + 0.3), "empty", INK, 11, over=True))
     left, top = at(o[0], o[3])
@@ -241,9 +246,14 @@ def crossing():
     for step, mark in enumerate((2, 1, 0)):
         parts.append(rectangle(40 + 95 * step, 256, 16, 16, INK if mark == 2 else SOFT, FILL[mark]))
         parts.append(text(62 + 95 * step, 269, WORD[mark], INK, 13, "start"))
-    for step, (listed, words) in enumerate(((True, "site in a list (k = 2)"), (False, "site in no list"))):
-        parts.append(site(345 + 160 * step, 264, listed))
-        parts.append(text(355 + 160 * step, 269, words, INK, 13, "start"))
+    for step, (drawn, words) in enumerate((
+        (lambda *spot: site(*spot, True), "site in a list (k = 2)"),
+        (lambda *spot: site(*spot, False), "in no list"),
+        (muted_site, "muted"),
+    )):
+        left = 325 + (0, 155, 240)[step]
+        parts.append(drawn(left, 264))
+        parts.append(text(left + 10, 269, words, INK, 13, "start"))
     return svg(285, parts)
 
 
