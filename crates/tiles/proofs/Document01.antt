@@ -1,5 +1,5 @@
--- An opening is that of document 01 alone, then 16. So a tile without muted sites opens, or is refused, as there, and so
--- does the full check.
+-- An opening is that of document 01 alone, then 16. So a tile without muted sites opens, or is refused, as there, and
+-- so does the full check.
 use Prim.Native.Nat.{ℕ, _<_}
 use mathlib.Core.Bool.{Bool, true, false}
 use mathlib.Core.List.{List}

@@ -2,8 +2,8 @@
 -- (specs/Validate), its theorem `validate-exactly` (`GoodFile`, specs/Accepted). The call inside it is
 -- `tile::open_tile`, its definition `openTile` (specs/Tile). What it accepts and gives: `opening-exactly` (`GoodTile`,
 -- specs/Accepted), `opened-number`, `opened-inside`, `opened-muted`, `opening-refused`; what it depends on:
--- `opening-depends`. Of old files: `opening-then-16`, `opening-like-01`, `validate-like-01` (specs/Document01). f and g are
--- files, h a header, t a tile. Assumes nothing.
+-- `opening-depends`. Of old files: `opening-then-16`, `opening-like-01`, `validate-like-01` (specs/Document01). f and g
+-- are files, h a header, t a tile. Assumes nothing.
 use Prim.Native.Nat.{ℕ, _<_}
 use mathlib.Core.Bool.{true}
 use mathlib.Core.List.{List}
@@ -58,8 +58,8 @@ module _ (f : List ℕ) (h : Header) (t : ℕ) where
   unfolding siteAt mutedIn
   opened-muted e = laws.open-good f h t e .muted-counted
 
-  -- 16 is the last test: an opening is that of document 01 alone, then 16. "Old files with a cue 0 must be written again":
-  -- what document 01 opens is refused, at the tile's own position, where the directory has another muted number
+  -- 16 is the last test: an opening is that of document 01 alone, then 16. "Old files with a cue 0 must be written
+  -- again": what document 01 opens is refused, at the tile's own position, where the directory has another muted number
   pub opening-then-16 : openTile f h t
       ≡ andThen (openTile01 f h t) (λ n.
       require (eqb (howMany (λ slot. mutedCue (siteAt f h t slot .cue)) (countAt f t)) (mutedAt f t)) #muted
