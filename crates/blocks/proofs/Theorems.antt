@@ -1,8 +1,8 @@
 -- The theorems of this crate for the reader. The call is `directory::read_directory`, its definition `directory`
 -- (specs/Directory). What it accepts: `directory-exactly` (`GoodDirectory`, specs/Accepted), `entry-of-accepted`. What
 -- it depends on: `directory-depends`, `entry-depends`, `same-directory` (`SameDirectory`, specs/Same). Of old
--- files: `directory-like-01` (specs/Document01). Of the check `checksum::agrees`, definition `checkAgrees`
--- (specs/Checksum): `stored-255`. f and g are files, h a header, t a tile. Assumes nothing.
+-- files: `directory-like-01`, `zero-none-muted` (specs/Document01). Of the check `checksum::agrees`, definition
+-- `checkAgrees` (specs/Checksum): `stored-255`. f and g are files, h a header, t a tile. Assumes nothing.
 use Prim.Native.Nat.{ℕ, min, _+_, _-_, _*_, _/_, _<_, _≤_}
 use mathlib.Core.Bool.{true}
 use mathlib.Core.List.{List}
@@ -28,7 +28,7 @@ use Rattle.blocks.specs.Same.{SameDirectory}
 use Rattle.blocks.specs.declared.header.Header.{Header}
 use Rattle.blocks.proofs.ChecksumLaws.{sums-small}
 use Rattle.blocks.proofs.DirectoryLaws as laws
-use Rattle.blocks.proofs.Document01.{directory-like}
+use Rattle.blocks.proofs.Document01.{directory-like, none-muted}
 
 -- "a stored 255 never agrees"
 pub stored-255 : (s : List ℕ) → checkAgrees s ≡ true → (getD s checkAt 0 < 255) × (getD s (checkAt + 1) 0 < 255)
@@ -58,6 +58,11 @@ entry-of-accepted f h t e l =
 -- the directory comes to what it comes to there, refused ones too
 pub directory-like-01 : (f : List ℕ) → EntriesZero f → directory f ≡ directory01 f
 directory-like-01 f zero = directory-like f zero
+
+-- and no tile of an accepted one has a muted site by its entry
+pub zero-none-muted : (f : List ℕ) → EntriesZero f → (h : Header) (t : ℕ) → directory f ≡ accepted h → t < h .tiles →
+    mutedAt f t ≡ 0
+zero-none-muted f zero = none-muted f zero
 
 -- files of the same length, equal in every byte of a block, have the same block (the laws below compare blocks)
 pub same-bytes : (f g : List ℕ) (p : ℕ) → length g ≡ length f →

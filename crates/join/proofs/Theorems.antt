@@ -36,7 +36,7 @@ use Rattle.search.specs.Document01.{entries01, LikeDocument01}
 use Rattle.search.specs.declared.Place.{Place}
 use Rattle.stops.specs.Arguments.{arguments}
 use Rattle.stops.specs.Stops.{stopCount, stopsOf}
-use Rattle.tiles.specs.Document01.{Audible}
+use Rattle.tiles.specs.Document01.{NoneMuted}
 use Rattle.tiles.specs.Tile.{tilePosition, openTile, sitesAt}
 use Rattle.tiles.specs.Validate.{validate}
 use Rattle.base.proofs.Outcomes.{accepted-injective, accepted-refused, andThen-refused, by-outcome}
@@ -58,7 +58,7 @@ use Rattle.stops.proofs.ArgumentLaws.{arguments-good}
 use Rattle.stops.proofs.StopLaws.{stops-length}
 use Rattle.tiles.proofs.Theorems.{opening-refused, opening-like-01, validate-exactly}
 use Rattle.join.specs.Claims.{fullRunFor, SameAnswer, RefusedRun, PrunesAlike, opened, slicesLeft, Agreeing}
-use Rattle.join.specs.Claims.{Demand2, Demand3, UnlikeStruck, PastStays}
+use Rattle.join.specs.Claims.{Demand2, Demand3, SameCandidates, PastStays}
 use Rattle.join.specs.Inner.Running.{RunReady}
 use Rattle.join.specs.Join.{Result, End, runFor, lengthsOf, tests, filled, resultOf, ended, runEnd, joinFrom}
 use Rattle.join.specs.Join.{joinEnd}
@@ -78,7 +78,7 @@ pub never-pruned : (f : List ℕ) (h : Header) (cols : List (List ℤ)) (k : ℕ
 unfolding runFor
 never-pruned f h cols k = run.never-pruned (entries f h) (around cols) k (openingOf f h) (stopsOf cols)
 
--- 02.1: "a tile with none is treated as empty": no tile is opened that has muted sites only
+-- 02.1: "a tile with none is treated as empty": no tile is opened that has muted sites only, by the directory
 pub only-audible : (f : List ℕ) (h : Header) (cols : List (List ℤ)) (k : ℕ)
     → All (λ t. 0 < ranked (entries f h) t) (runFor f h cols k .openings)
 unfolding runFor
@@ -87,7 +87,7 @@ only-audible f h cols k = run.never-empty (entries f h) (around cols) k (opening
 -- 02.1 leaves files without muted sites as they were: where the directory has none and the tiles that are opened have
 -- no cue 0, the run is that of document 01 alone, in which every site ranks and an opening does not look at cues
 pub run-like-01 : (f : List ℕ) (h : Header) (cols : List (List ℤ)) (k : ℕ) → Bytes f
-    → ((t : ℕ) → t < h .tiles → mutedAt f t ≡ 0) → All (Audible f h) (runFor f h cols k .openings)
+    → ((t : ℕ) → t < h .tiles → mutedAt f t ≡ 0) → All (NoneMuted f h) (runFor f h cols k .openings)
     → LikeDocument01 (entries f h) (around cols) k
     × (runFor f h cols k ≡ join (entries01 (entries f h)) (around cols) k (openingOf01 f h) (stopsOf cols))
 unfolding runFor openingOf openingOf01
@@ -97,7 +97,7 @@ run-like-01 f h cols k b none sounds =
     let ps = stopsOf cols in
     let like = run.like-document-01 E O k none in
     let same = like .ran (openingOf f h) (opening-checked f h b) ps in
-    let alike = all-both (λ t. t < h .tiles) (Audible f h) (λ t. openingOf01 f h t ≡ openingOf f h t)
+    let alike = all-both (λ t. t < h .tiles) (NoneMuted f h) (λ t. openingOf01 f h t ≡ openingOf f h t)
     (runFor f h cols k .openings) (λ t l s. rw (opening-like-01 f h t (none t l) s))
     (run.only-tiles E O k (openingOf f h) ps) sounds in
     (like, same ∙ sym (run.same-run (entries01 E) O k (openingOf f h) (openingOf01 f h) ps (rw (← same) alike)))
@@ -164,16 +164,21 @@ module _ (f : List ℕ) (cols : List (List ℤ)) (k : ℕ) (g : List ℕ) (h : H
         → SameAnswer cols k h (joinEnd f cols k out) (joinEnd g cols k out′)
     same-answer a = rw (other-files out′) (answer-alike f cols k out out′ l h d a)
 
--- "no struck tile is opened, not even in a refused run", as it can be seen: whatever the blocks of struck tiles hold,
--- outcome and slices are the same
-pub pruned-unread : (f : List ℕ) (cols : List (List ℤ)) (k : ℕ) (out : Slices) (g : List ℕ) (h : Header)
-    → directory f ≡ accepted h → UnlikeStruck f g h cols k → joinEnd g cols k out ≡ joinEnd f cols k out
+-- "no struck tile is opened, not even in a refused run", and none without a sounding site, as it can be seen: whatever
+-- the blocks of these hold, outcome and slices are the same
+pub candidates-decide : (f : List ℕ) (cols : List (List ℤ)) (k : ℕ) (out : Slices) (g : List ℕ) (h : Header)
+    → directory f ≡ accepted h → SameCandidates f g h cols k → joinEnd g cols k out ≡ joinEnd f cols k out
 unfolding runFor
-pruned-unread f cols k out g h d u =
-    other-files f cols k g h d (u .same)
-    (all-both (λ t. t < h .tiles) (λ t. pruned (entries f h) (around cols) k t ≡ false)
-    (λ t. blockAt g (tilePosition h t) ≡ blockAt f (tilePosition h t)) (runFor f h cols k .openings) (u .others)
-    (run.only-tiles (entries f h) (around cols) k (openingOf f h) (stopsOf cols)) (never-pruned f h cols k)) out
+candidates-decide f cols k out g h d s =
+    let E = entries f h in
+    let opened = runFor f h cols k .openings in
+    let alike : ℕ → Type 0 = λ t. blockAt g (tilePosition h t) ≡ blockAt f (tilePosition h t) in
+    let unpruned = all-both (λ t. t < h .tiles) (λ t. pruned E (around cols) k t ≡ false)
+    (λ t. 0 < ranked E t → alike t) opened (s .candidates)
+    (run.only-tiles E (around cols) k (openingOf f h) (stopsOf cols)) (never-pruned f h cols k) in
+    other-files f cols k g h d (s .same)
+    (all-both (λ t. 0 < ranked E t → alike t) (λ t. 0 < ranked E t) alike opened (λ t a some. a some)
+    unpruned (only-audible f h cols k)) out
 
 module _ (f : List ℕ) (cols : List (List ℤ)) (k : ℕ) (out : Slices) where
   -- a run that is refused
@@ -425,30 +430,26 @@ module _ (f : List ℕ) (cols : List (List ℤ)) (k : ℕ) (out : Slices) where
           (λ p home. run.full-search (entries f h) (around cols) k (rw i at (run-lawful (a .ready axes))) p home town
           (g .directory)) (smallest (a .ready axes) .holds)
 
-      -- 02.1: "only sites with another cue rank": no used place of a list has cue 0
-      pub never-muted : Bytes f → (i j : ℕ) → i < stopCount cols → j < r .used
-          → placeAt (slicesLeft f cols k out h .lists) (i * k + j) .cue ≡ 0 → ⊥
-      unfolding fullSearch
-      never-muted b i j l u muted =
-          let a = answered r e in
-          let same : a .h ≡ h = accepted-injective (sym (a .dir) ∙ d) in
-          let three = demand-3 r e in
-          let E = entries f h in
-          let p = getD (stopsOf cols) i [] in
-          let fit = answer-fits r e in
-          let town = town-exists b in
-          let used : r .used ≡ placesUsed E k = rw same at (ap (λ (z : Result). z .used) (a .result)) in
-          let found = all-getD (λ p. FullSearch E k p (town .0)) (stopsOf cols) i []
-          (omega (arith, stops-length cols)) (full-search (town .0) (town .1)) in
-          let listed : j < length (firstOf E k p (town .0)) = omega (arith, used, found .used) in
-          let site = all-getD (SiteOf E p (town .0)) (firstOf E k p (town .0)) j noPlace listed (found .sites) in
-          let place = subst (λ x. Demand3 f cols k out x r)
-          (accepted-injective (sym (three .1 .header) ∙ d)) (three .1) .lists (town .0) (town .1) i j l
-          (omega (arith, fit .1 .0))
-          ∙ padded-used k (firstOf E k p (town .0)) j noPlace listed (omega (arith, fit .1 .0))
-          ∙ site .place in
-          let zero : site .it .cue ≡ 0 = sym (ap (λ (z : Place). z .cue) place) ∙ muted in
-          clash (site .ranked) (rw zero)
+    -- 02.1: "only sites with another cue rank": no used place of a list has cue 0
+    pub never-muted : Bytes f → (r : Result) → joinEnd f cols k out .outcome ≡ accepted r → (i j : ℕ)
+        → i < stopCount cols → j < r .used → placeAt (joinEnd f cols k out .slices .lists) (i * k + j) .cue ≡ 0 → ⊥
+    unfolding fullSearch
+    never-muted b r e i j l u muted =
+        let answer = demand-3 r e in
+        let h = answer .0 in
+        let three = answer .1 in
+        let E = entries f h in
+        let p = getD (stopsOf cols) i [] in
+        let within : j < k = omega (arith, answer-fits r e .1 .0) in
+        let town = town-exists r e h (three .header) b in
+        let found = all-getD (λ p. FullSearch E k p (town .0)) (stopsOf cols) i []
+        (omega (arith, stops-length cols)) (full-search r e h (three .header) (town .0) (town .1)) in
+        let listed : j < length (firstOf E k p (town .0)) = omega (arith, three .count-used, found .used) in
+        let site = all-getD (SiteOf E p (town .0)) (firstOf E k p (town .0)) j noPlace listed (found .sites) in
+        let place = three .lists (town .0) (town .1) i j l within
+        ∙ padded-used k (firstOf E k p (town .0)) j noPlace listed within ∙ site .place in
+        let zero : site .it .cue ≡ 0 = sym (ap (λ (z : Place). z .cue) place) ∙ muted in
+        clash (site .ranked) (rw zero)
 
     -- ---- demand 2
 

@@ -1,13 +1,13 @@
 -- What the demands claim of a call: about the file, the answer, and the lent slices at the end.
 --
---   fullRunFor   the run that striking is compared with
---   SameAnswer   two calls with the same lists, marks and counts
---   RefusedRun   a call whose run is refused
---   UnlikeStruck two files that differ in the blocks of struck tiles only
---   PastStays    a call and the elements that it has no use for
---   PrunesAlike  a call that answers, and the call that strikes
---   Demand2      a call on a file that passes the full check
---   Demand3      a call that answers
+--   fullRunFor       the run that striking is compared with
+--   SameAnswer       two calls with the same lists, marks and counts
+--   RefusedRun       a call whose run is refused
+--   SameCandidates   two files that are alike in all tiles that a run may open
+--   PastStays        a call and the elements that it has no use for
+--   PrunesAlike      a call that answers, and the call that strikes
+--   Demand2          a call on a file that passes the full check
+--   Demand3          a call that answers
 use Prim.Native.Nat.{ℕ, _+_, _*_, _<_, _≤_}
 use mathlib.Core.Bool.{true, false}
 use mathlib.Core.List.{List, []}
@@ -58,12 +58,12 @@ pub record RefusedRun (f : List ℕ) (h : Header) (cols : List (List ℤ)) (k nu
   pub some : 0 < ranked (entries f h) tile
   pub refuses : openTile f h tile ≡ refused number block
 
--- g has the length and the directory of f, and the block of every tile that is not struck; those of the struck ones may
--- hold anything
-pub record UnlikeStruck (f g : List ℕ) (h : Header) (cols : List (List ℤ)) (k : ℕ) : Type 0 where
+-- g has the length and the directory of f, and the block of every tile that is not struck and has a site that ranks;
+-- those of struck tiles, and of tiles without such a site, may hold anything
+pub record SameCandidates (f g : List ℕ) (h : Header) (cols : List (List ℤ)) (k : ℕ) : Type 0 where
   pub same : SameDirectory f g h
-  pub others : (t : ℕ) → t < h .tiles → pruned (entries f h) (around cols) k t ≡ false
-      → blockAt g (tilePosition h t) ≡ blockAt f (tilePosition h t)
+  pub candidates : (t : ℕ) → t < h .tiles → pruned (entries f h) (around cols) k t ≡ false
+      → 0 < ranked (entries f h) t → blockAt g (tilePosition h t) ≡ blockAt f (tilePosition h t)
 
 -- "Elements past these never change": past the first n × k places and the first T marks
 pub record PastStays (cols : List (List ℤ)) (k : ℕ) (h : Header) (before after : Slices) : Type 0 where

@@ -67,9 +67,9 @@ module _ {G : Geometry} (E : Directory G) where
       (places-like-01 G p g g (range 0 tiles) (each _ (λ t l. (refl, h t l))))
 
   module _ (none : (t : ℕ) → t < tiles → E .muted t ≡ 0) where
-    audible : (t : ℕ) → t < tiles → ranked E t ≡ E .size t
+    all-rank : (t : ℕ) → t < tiles → ranked E t ≡ E .size t
     unfolding ranked
-    audible t l = rw (none t l) (sub-zero _)
+    all-rank t l = rw (none t l) (sub-zero _)
 
     ranked-like-01 : (t : ℕ) → t < tiles → ranked E t ≡ ranked F t
     unfolding ranked
@@ -139,10 +139,10 @@ module _ {G : Geometry} (E : Directory G) where
       pub like-document-01 : LikeDocument01 E O k
       unfolding join
       like-document-01 = record {
-        audible = audible;
+        all-rank = all-rank;
         used = used-like-01 k;
-        struck = λ t l. pruned-like-01 t;
-        struck-number = pruned-count-like-01;
+        pruned-alike = λ t l. pruned-like-01 t;
+        pruned-number = pruned-count-like-01;
         marked = marks-like-01;
         searched = search-like-01 k;
         ran = λ read checked ps. run-like-01 read checked ps [] tt;

@@ -45,7 +45,7 @@ module _ {G : Geometry} (E : Directory G) (O : G .Box) (k : ℕ) where
   never-pruned read ps =
       all-map (join E O k read ps .openings) (λ t c. candidate-unpruned E O k t (c .1)) (join-chosen E O k read ps)
 
-  -- "the tiles that are not struck and not empty", which a tile with no site that ranks counts as
+  -- "the tiles that are not struck and not empty": a tile with no site that ranks counts as empty
   pub never-empty : (read : Reading G) (ps : List Stop) → All (λ t. 0 < ranked E t) (join E O k read ps .openings)
   never-empty read ps =
       all-map (join E O k read ps .openings) (λ t c. candidate-some E O k t (c .1)) (join-chosen E O k read ps)

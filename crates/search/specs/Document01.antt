@@ -35,10 +35,10 @@ AllRank G f = All (λ s. G .ranks s ≡ true) f
 
 pub record LikeDocument01 {G : Geometry} (E : Directory G) (O : G .Box) (k : ℕ) : Type 0 where
   -- the sites of a tile that rank are as many as its count
-  pub audible : (t : ℕ) → t < E .tiles → ranked E t ≡ E .size t
+  pub all-rank : (t : ℕ) → t < E .tiles → ranked E t ≡ E .size t
   pub used : placesUsed E k ≡ placesUsed (entries01 E) k
-  pub struck : (t : ℕ) → t < E .tiles → pruned E O k t ≡ pruned (entries01 E) O k t
-  pub struck-number : prunedCount E O k ≡ prunedCount (entries01 E) O k
+  pub pruned-alike : (t : ℕ) → t < E .tiles → pruned E O k t ≡ pruned (entries01 E) O k t
+  pub pruned-number : prunedCount E O k ≡ prunedCount (entries01 E) O k
   pub marked : (opened : List ℕ) → marks E O k opened ≡ marks (entries01 E) O k opened
   -- a full search of a town in which every site ranks
   pub searched : (p : G .Stop) (g : Town G) → ((t : ℕ) → t < E .tiles → AllRank G (g t))

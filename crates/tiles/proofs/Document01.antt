@@ -18,8 +18,8 @@ use Rattle.blocks.specs.Directory.{directory, countAt, mutedAt}
 use Rattle.blocks.specs.Document01.{EntriesZero}
 use Rattle.blocks.specs.Layout.{tileKind}
 use Rattle.blocks.specs.declared.header.Header.{Header}
-use Rattle.blocks.proofs.Document01.{directory-like, none-muted}
-use Rattle.tiles.specs.Document01.{tileBlock01, openTile01, openAll01, validate01, Audible}
+use Rattle.blocks.proofs.Theorems.{directory-like-01, zero-none-muted}
+use Rattle.tiles.specs.Document01.{tileBlock01, openTile01, openAll01, validate01, NoneMuted}
 use Rattle.tiles.specs.Tile.{mutedIn, tilePadding, siteInside, tileBlock, tilePosition, openTile, siteAt}
 use Rattle.tiles.specs.Validate.{openAll, validate}
 
@@ -56,7 +56,7 @@ module _ (f : List ℕ) (h : Header) (t : ℕ) where
   unfolding openTile openTile01
   open-then-16 = block-then-16 _ _ _ _ _
 
-  pub open-like-01 : mutedAt f t ≡ 0 → Audible f h t → openTile f h t ≡ openTile01 f h t
+  pub open-like-01 : mutedAt f t ≡ 0 → NoneMuted f h t → openTile f h t ≡ openTile01 f h t
   unfolding mutedIn siteAt
   open-like-01 none sounds = by-outcome (openTile01 f h t)
       (λ n e.
@@ -65,7 +65,7 @@ module _ (f : List ℕ) (h : Header) (t : ℕ) where
       (λ n b e. open-then-16 ∙ rw e)
 
 module _ (f : List ℕ) (zero : EntriesZero f) where
-  pub validate-like : ((h : Header) (t : ℕ) → directory f ≡ accepted h → t < h .tiles → Audible f h t) →
+  pub validate-like : ((h : Header) (t : ℕ) → directory f ≡ accepted h → t < h .tiles → NoneMuted f h t) →
       validate f ≡ validate01 f
   unfolding validate validate01 openAll openAll01
   validate-like sounds =
@@ -73,5 +73,5 @@ module _ (f : List ℕ) (zero : EntriesZero f) where
       (λ h e. ap (λ o. andThen o (λ _. accepted h))
       (turns-same (openTile f h) (openTile01 f h) 0 (h .tiles)
       (λ t a b. let l : t < h .tiles = omega arith in
-      open-like-01 f h t (none-muted f zero h t e l) (sounds h t e l))))
-      ∙ ap (λ o. andThen o (openAll01 f)) (directory-like f zero)
+      open-like-01 f h t (zero-none-muted f zero h t e l) (sounds h t e l))))
+      ∙ ap (λ o. andThen o (openAll01 f)) (directory-like-01 f zero)

@@ -2,8 +2,8 @@
 -- (specs/Validate), its theorem `validate-exactly` (`GoodFile`, specs/Accepted). The call inside it is
 -- `tile::open_tile`, its definition `openTile` (specs/Tile). What it accepts and gives: `opening-exactly` (`GoodTile`,
 -- specs/Accepted), `opened-number`, `opened-inside`, `opened-muted`, `opening-refused`; what it depends on:
--- `opening-depends`. Of old files: `opening-then-16`, `opening-like-01`, `validate-like-01` (specs/Document01). f and g
--- are files, h a header, t a tile. Assumes nothing.
+-- `opening-depends`. Of old files: `opening-then-16`, `opened-none-muted`, `opening-like-01`, `validate-like-01`
+-- (specs/Document01). f and g are files, h a header, t a tile. Assumes nothing.
 use Prim.Native.Nat.{ℕ, _<_}
 use mathlib.Core.Bool.{true}
 use mathlib.Core.List.{List}
@@ -23,7 +23,7 @@ use Rattle.base.proofs.HowMany.{how-many-none}
 use Rattle.base.proofs.Outcomes.{accepted-injective, andThen-accepted}
 use Rattle.base.proofs.Tabulate.{length-tabulate, getD-tabulate}
 use Rattle.tiles.specs.Accepted.{GoodTile, GoodFile}
-use Rattle.tiles.specs.Document01.{openTile01, validate01, Audible}
+use Rattle.tiles.specs.Document01.{openTile01, validate01, NoneMuted}
 use Rattle.tiles.specs.Tile.{siteIn, sitePoint, mutedCue, mutedIn, tilePosition, openTile}
 use Rattle.tiles.specs.Tile.{siteAt, sitesAt}
 use Rattle.tiles.specs.Validate.{validate}
@@ -68,13 +68,13 @@ module _ (f : List ℕ) (h : Header) (t : ℕ) where
   opening-then-16 = document01.open-then-16 f h t
 
   -- a tile that opens and has no muted site, by its cues, has none by the directory
-  pub audible-tile : {n : ℕ} → openTile f h t ≡ accepted n → Audible f h t → mutedAt f t ≡ 0
-  audible-tile e sounds =
+  pub opened-none-muted : {n : ℕ} → openTile f h t ≡ accepted n → NoneMuted f h t → mutedAt f t ≡ 0
+  opened-none-muted e sounds =
       let opens = andThen-accepted (openTile01 f h t) _ (sym opening-then-16 ∙ e) in
       sym (opened-muted e) ∙ how-many-none _ (countAt f t) (λ slot l. sounds (opens .0) slot (opens .1) l)
 
   -- one that has none by both opens as in document 01, or is refused as there
-  pub opening-like-01 : mutedAt f t ≡ 0 → Audible f h t → openTile f h t ≡ openTile01 f h t
+  pub opening-like-01 : mutedAt f t ≡ 0 → NoneMuted f h t → openTile f h t ≡ openTile01 f h t
   opening-like-01 = document01.open-like-01 f h t
 
   -- a refused opening names the tile's own block
@@ -93,7 +93,7 @@ module _ (f : List ℕ) (h : Header) (t : ℕ) where
 -- 02.1 leaves old files as they were: where the last two bytes of every entry are zero and no tile that document 01
 -- opens has a cue 0, the full check is that of document 01, refusals included
 pub validate-like-01 : (f : List ℕ) → EntriesZero f →
-    ((h : Header) (t : ℕ) → directory f ≡ accepted h → t < h .tiles → Audible f h t) → validate f ≡ validate01 f
+    ((h : Header) (t : ℕ) → directory f ≡ accepted h → t < h .tiles → NoneMuted f h t) → validate f ≡ validate01 f
 validate-like-01 f zero sounds = document01.validate-like f zero sounds
 
 -- what an opening comes to, and the tile's sites, depend on its own block, its entry and the header alone

@@ -2,7 +2,7 @@
 --
 --   tileBlock01, openTile01   all tests of a tile block: of its bytes, of a file
 --   openAll01, validate01     the full check
---   Audible                   a tile that has no muted site, where document 01 opens it
+--   NoneMuted                 a tile that has no muted site, where document 01 opens it
 use Prim.Native.Nat.{ℕ, _<_}
 use mathlib.Core.Bool.{false}
 use mathlib.Core.List.{List}
@@ -37,6 +37,6 @@ unfoldable pub validate01 : List ℕ → Outcome Header
 validate01 f = andThen (directory01 f) (openAll01 f)
 
 -- a tile that document 01 opens has no muted site; one that it refuses may hold anything
-abbrev pub Audible : List ℕ → Header → ℕ → Type 0
-Audible f h t = (n slot : ℕ) → openTile01 f h t ≡ accepted n → slot < countAt f t →
+abbrev pub NoneMuted : List ℕ → Header → ℕ → Type 0
+NoneMuted f h t = (n slot : ℕ) → openTile01 f h t ≡ accepted n → slot < countAt f t →
     mutedCue (siteAt f h t slot .cue) ≡ false

@@ -6,7 +6,7 @@ use Rattle.blocks.specs.Directory.{directory}
 use Rattle.blocks.specs.declared.header.Header.{Header}
 use Rattle.tiles.specs.Tile.{openTile}
 
--- "opens all tiles in order, empty ones too, and gives T or the first refusal"
+-- "opens all tiles in order, empty ones too, and gives T or the first refusal": those with muted sites only as well
 unfoldable pub openAll : List ℕ → Header → Outcome Header
 openAll f h = andThen (inTurn (openTile f h) 0 (h .tiles)) (λ _. accepted h)
 
