@@ -1,6 +1,6 @@
 //! nearby_join against the literal run and the full search; its refusals before the openings, alone and together.
 
-use super::count;
+use super::{count, drawn};
 use super::muted::never;
 use crate::compare::{self, Failure, Lengths, Query};
 use crate::damage;
@@ -271,9 +271,9 @@ pub fn run(rng: &mut Rng, tally: &mut Tally) -> Result<String, Failure> {
         count(seen.neither),
         count(seen.unused),
         count(seen.tied),
-        count(seen.plain),
-        count(seen.silent),
-        count(seen.mixed),
+        drawn(seen.plain, "a town without muted sites")?,
+        drawn(seen.silent, "a town with muted sites only")?,
+        drawn(seen.mixed, "a town with both")?,
         count(ends),
         count(refused)
     ))

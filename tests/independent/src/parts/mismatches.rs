@@ -5,7 +5,7 @@ use super::damaged::{base, Base};
 use super::expected::{refused, Trial};
 use super::joins::any_k;
 use crate::compare::{Failure, Query};
-use crate::damage::{block_mut, repair_block, set_u16};
+use crate::damage::{block_mut, flip_cue, repair_block, set_u16};
 use crate::fillings::{filling, other_cue, sounding_cue};
 use crate::paper::blocks::u32_at;
 use crate::paper::search::Joined;
@@ -58,7 +58,33 @@ impl Trial<'_> {
         Ok(())
     }
 
-    /// The muted number of one entry: next to the true one, next to the count, and bytes in the wrong order.
+    /// Each slot of a tile alone muted, and alone sounding: the file passes, and 16 when that site is changed.
+    fn every_slot(&mut self) -> Result<(), Failure> {
+        let bounds = [[-50, 60], [-5, 5]];
+        for sites in [1, 2, 39, 40] {
+            for slot in 0..sites {
+                for alone_muted in [true, false] {
+                    let entry = Entry { bounds, count: sites, muted: 0 };
+                    let mut held = filling(&entry, self.rng);
+                    for (other, site) in held.iter_mut().enumerate() {
+                        if (other == slot) == alone_muted {
+                            site.cue = 0;
+                        }
+                    }
+                    let mut file = file_of(&Town::of(vec![(bounds, held)]));
+                    let case = format!("slot {slot} of {sites} alone muted: {alone_muted}");
+                    self.checked(&file, Ok(1)).map_err(|f| f.case(&case))?;
+                    flip_cue(block_mut(&mut file, 1), slot, self.rng);
+                    repair_block(&mut file, 1);
+                    self.checked(&file, refused(16, 1)).map_err(|f| f.case(&case))?;
+                }
+            }
+        }
+        Ok(())
+    }
+
+    /// The muted number of one entry: next to the true one, next to the count, and bytes in the wrong order; and a count
+    /// below it, which is 9 before the tile is looked at.
     fn numbers(&mut self, base: &Base, tile: usize) -> Result<(), Failure> {
         let (Entry { count, muted, .. }, position) = (base.town.entries[tile], tile / 24);
         let values = [
@@ -100,6 +126,13 @@ impl Trial<'_> {
                 assert!(joined.number != 0 || value == muted || lent.marks[tile] != 2);
                 self.unread += (joined.number == 0 && value != muted) as usize;
             }
+        }
+        if muted > 0 {
+            let mut file = base.file.clone();
+            set_u16(block_mut(&mut file, position), 16 + 20 * (tile % 24) + 16, muted - 1);
+            repair_block(&mut file, position);
+            let case = format!("tile {tile}: {muted} muted by the directory, and a count of {}", muted - 1);
+            self.checked(&file, refused(9, position)).map_err(|f| f.case(&case))?;
         }
         Ok(())
     }
@@ -169,6 +202,7 @@ pub fn run(rng: &mut Rng, tally: &mut Tally) -> Result<String, Failure> {
     let mut trial = Trial { rng, tally, files: 0, unread: 0 };
     trial.every_triple()?;
     let triples = trial.files;
+    trial.every_slot()?;
     for _ in 0..60 {
         let tiles = trial.rng.pick(&[1, 2, 4, 6, 24, 25, 30, 49, 73]);
         let base = base(tiles, trial.rng);
@@ -178,6 +212,12 @@ pub fn run(rng: &mut Rng, tally: &mut Tally) -> Result<String, Failure> {
             trial.cues(&base, tile)?;
         }
         trial.old_file(&base)?;
+    }
+    // The largest file: the first and the last tile, and a block whose position takes two bytes.
+    let largest = base(960, trial.rng);
+    for tile in [0, 256 - largest.d, 959] {
+        trial.numbers(&largest, tile)?;
+        trial.cues(&largest, tile)?;
     }
     let (files, unread) = (trial.files, trial.unread);
     let after = tally.sixteens();

@@ -13,6 +13,16 @@ pub mod strikes;
 pub mod unread;
 pub mod writing;
 
+use crate::compare::Failure;
+
+/// A number of cases that were drawn, as text: without any the part would have shown nothing of them.
+pub fn drawn(n: usize, what: &str) -> Result<String, Failure> {
+    match n {
+        0 => Err(Failure::new(format!("not drawn: {what}"))),
+        _ => Ok(count(n)),
+    }
+}
+
 /// A number with commas between thousands.
 pub fn count(n: usize) -> String {
     let digits = n.to_string();

@@ -1,6 +1,6 @@
 //! "Muted sites take no place": what must never be, and muted sites put into a town as near to the stops as can be.
 
-use super::count;
+use super::{count, drawn};
 use super::joins::{any_k, list, query_of};
 use super::unread::engine;
 use crate::compare::{self, Failure, Lengths, Query};
@@ -174,8 +174,8 @@ pub fn run(rng: &mut Rng, tally: &mut Tally) -> Result<String, Failure> {
          same answer but for slots; {} tiles with muted sites only, never opened; {} runs where no site sounds",
         count(seen.towns),
         count(seen.put_in),
-        count(seen.nearer),
-        count(seen.muted_tiles),
-        count(seen.silent)
+        drawn(seen.nearer, "a muted site nearer to a stop than its last place")?,
+        drawn(seen.muted_tiles, "a tile with muted sites only")?,
+        drawn(seen.silent, "a town where no site sounds")?
     ))
 }

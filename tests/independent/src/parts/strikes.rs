@@ -1,6 +1,6 @@
 //! nearby_prune against the definition by margins, and against all points of small boxes.
 
-use super::count;
+use super::{count, drawn};
 use crate::compare::{self, Failure};
 use crate::damage;
 use crate::fillings::{filling, point_in};
@@ -142,7 +142,7 @@ pub fn run(rng: &mut Rng, tally: &mut Tally) -> Result<String, Failure> {
          points of small boxes, {} tiles struck; {} refusals",
         count(tried),
         count(struck),
-        count(spared),
+        drawn(spared, "a tile that would be struck if muted sites were added up")?,
         count(small),
         count(small_struck),
         count(refused)

@@ -1,6 +1,6 @@
 //! Demand 3: tiles that are not opened do not matter, and each opened tile does.
 
-use super::count;
+use super::{count, drawn};
 use super::joins::{any_k, list, lists_are_full_search, query_of};
 use crate::compare::{self, Failure, Lengths};
 use crate::fillings::{filling, other_cue};
@@ -158,6 +158,6 @@ pub fn run(rng: &mut Rng, tally: &mut Tally) -> Result<String, Failure> {
         count(pairs),
         count(matter),
         count(idle),
-        count(idle_muted)
+        drawn(idle_muted, "another filling of a muted tile")?
     ))
 }
