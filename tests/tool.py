@@ -22,6 +22,9 @@ from towns.engine import Engine, Refused  # noqa: E402
 WORK = ROOT / "target/tool"
 SAMPLE = ROOT / "samples/riverside.town"
 STOPS = ["1200,3000", "2600,3100", "4100,3200", "5600,3200"]
+# The last line of a refusal with 16.
+MAY_BE_OLD = "if you know that the file is from before muted sites were counted: `renew` writes it again"
+NOT_OLD = "no file from before muted sites were counted: the directory has some"
 runs = 0
 
 
@@ -164,18 +167,34 @@ def old(content):
     return bytes(file)
 
 
+def muted_lines(tiles):
+    """What `renew` prints of the sites that it counts as muted: at most 20 tiles."""
+    slots = [(t, [str(slot) for slot, held in enumerate(tile.sites) if held[2] == 0]) for t, tile in enumerate(tiles)]
+    lines = [f"  muted: tile {t}, slot{'s' if muted[1:] else ''} {', '.join(muted)}\n" for t, muted in slots if muted]
+    return lines if len(lines) <= 20 else lines[:20] + [f"  {len(lines) - 20} more tiles like these\n"]
+
+
 def renewed(engine, rng):
     source, target = WORK / "old.town", WORK / "renewed.town"
     muted = 0
-    for _ in range(40):
-        _, tiles = drawn(rng)
+    large = [town.Tile((0, 0, 9, 9), [(t % 9, t % 7, t % 2), (1, 1, t % 3)]) for t in range(60)]
+    for tiles in [drawn(rng)[1] for _ in range(40)] + [large]:
         file = engine.write(tiles)
+        said = f"{target}: {town.size(tiles)}, {len(file)} bytes\n"
         source.write_bytes(old(file))
         muted += old(file) != file
-        same(run("renew", source, target),
-             (0, f"{target}: {town.size(tiles)}, {len(file)} bytes\n", ""), "renew of an old file")
+        same(run("renew", source, target), (0, said + "".join(muted_lines(tiles)), ""), "renew of an old file")
         same(target.read_bytes(), file, "an old file is renewed to that of its town")
+        source.write_bytes(file)
+        same(run("renew", source, target), (0, said, ""), "renew of a file that is good as it is")
+        same(target.read_bytes(), file, "a good file stays")
     holds(muted > 10, "drawn towns with muted sites to renew")
+    # A cue of 255 that turned to 0 is not seen by the check: the town looks old. `check` says so, and `renew` names it.
+    tiles = [town.Tile((0, 0, 9, 9), [(1, 1, 9), (2, 2, 255)])]
+    source.write_bytes(put(engine.write(tiles), 512 + 28 + 8, bytes(1)))
+    holds(run("check", source)[2].endswith(f"\n  {MAY_BE_OLD}\n"), "check of a file that may be old")
+    same(run("renew", source, target),
+         (0, f"{target}: 1 tile, 2 sites (1 muted), 1024 bytes\n  muted: tile 0, slot 1\n", ""), "renew names the site")
     # What else is wrong with an old file is refused, and so is a file that is no old one.
     tiles = [town.Tile((0, 0, 9, 9), [(1, 1, 0), (2, 2, 5)])] * 3
     file = engine.write(tiles)
@@ -190,6 +209,7 @@ def renewed(engine, rng):
         status, said, wrong = run("renew", source, target)
         holds(status == 1 and not said and wrong.startswith(f"{source}: {head}"), f"renew of {what}: {wrong}")
         holds(not target.exists(), f"renew of {what} writes nothing")
+        same(wrong.endswith(f"\n  {NOT_OLD}\n"), content == fewer, f"renew of {what} says that it is no old file")
 
 
 def faulty(engine):
@@ -369,12 +389,12 @@ def damaged(engine):
     muted = put(large, 512 * 29 + 16 + 8, bytes(4), 29)
     head = "refused 16 (muted), block 29, tile 26"
     yield "muted by hand", muted, [head, "due: 0 sites with cue 0, the directory's muted number of this tile",
-                                   "there: 1 site with cue 0, slot 0"]
+                                   "there: 1 site with cue 0, slot 0", MAY_BE_OLD]
     yield "two muted by hand", put(put(muted, 512 * 29 + 28 + 8, bytes(4), 29), entry + 18, small(1), 1), [
         head, "due: 1 site with cue 0, the directory's muted number of this tile",
-        "there: 2 sites with cue 0, slots 0, 1"]
+        "there: 2 sites with cue 0, slots 0, 1", NOT_OLD]
     yield "none muted", put(large, entry + 18, small(2), 1), [
-        head, "due: 2 sites with cue 0, the directory's muted number of this tile", "there: 0 sites with cue 0"]
+        head, "due: 2 sites with cue 0, the directory's muted number of this tile", "there: 0 sites with cue 0", NOT_OLD]
 
 
 def checks(engine):
@@ -510,7 +530,7 @@ def refused_questions():
     same(run("ask", torn, 3, "2600,3100"),
          (1, "", f"{torn}: refused 16 (muted), block 21, tile 20\n"
                  "  due: 0 sites with cue 0, the directory's muted number of this tile\n"
-                 "  there: 1 site with cue 0, slot 0\n"), "one that is opened")
+                 f"  there: 1 site with cue 0, slot 0\n  {MAY_BE_OLD}\n"), "one that is opened")
 
 
 def usage():

@@ -79,12 +79,14 @@ town renew OLD FILE
 
 Writes a file again that was made before muted sites were counted: its directory has 0 for all tiles, \
 and a tile with a cue 0
-is refused with 16. All else of it must pass the full check. FILE is that of the same town, with its muted sites.
+is refused with 16. All else of it must pass the full check. FILE is that of the same town, with its muted sites; \
+they are printed.
+A damaged file, or one of two versions, may look the same: renew only a file that you know to be old.
 """,
 }
 
 
-SHOWN = 20  # faults of a text
+SHOWN = 20  # faults of a text, tiles with muted sites
 MAX_TEXT = 2**24  # bytes of a text; the largest town takes some 2 million
 NUMBER = "[+-]?[0-9]{1,30}"
 STOP = f"{NUMBER},{NUMBER}"
@@ -187,12 +189,15 @@ def _counted(content):
 def renew(arguments):
     name, target = arguments
     engine, content = Engine(), _content(name)
+    muted = []
     try:
         engine.validate(content)
     except Refused as refused:
         # An old file. 16 comes after the directory was accepted, so that its tiles can be read.
         if refused.number != 16 or not town.none_muted(content):
             raise _refused(name, content, refused) from None
+        muted = [f"  muted: tile {number}, {town.muted_slots(tile.sites)}"
+                 for number, tile in enumerate(town.read(content)) if tile.sounding < len(tile.sites)]
         content = _counted(content)
     try:
         engine.validate(content)
@@ -200,7 +205,8 @@ def renew(arguments):
         raise _refused(name, content, refused) from None
     tiles = town.read(content)
     _save(target, engine.write(tiles))
-    print(f"{target}: {town.size(tiles)}, {len(content)} bytes")
+    more = [f"  {len(muted) - SHOWN} more tiles like these"] if len(muted) > SHOWN else []
+    print("\n".join([f"{target}: {town.size(tiles)}, {len(content)} bytes", *muted[:SHOWN], *more]))
 
 
 def ask_(arguments):

@@ -37,6 +37,12 @@ def is_muted(held):
     return held[2] == 0
 
 
+def muted_slots(sites):
+    """The slots of the muted sites of a tile, in words."""
+    slots = [str(slot) for slot, held in enumerate(sites) if is_muted(held)]
+    return f"{'slot' if len(slots) == 1 else 'slots'} {', '.join(slots)}" if slots else "no slot"
+
+
 def directory_blocks(tiles):
     """d: how many blocks the directory of so many tiles has."""
     return -(-tiles // ENTRIES)

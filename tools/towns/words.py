@@ -4,8 +4,8 @@ The engine says the number and the block; the bytes say the rest.
 """
 from .engine import BLOCK_SIZE, LIMIT, MAX_FILE, MAX_K, MAX_SITES, MAX_STOPS, MAX_TILES, NAMES
 from .text import outside
-from .town import (ENTRIES, ENTRY_SIZE, PAYLOAD, SITE_SIZE, block, directory_blocks, entry, is_muted, several, site,
-                   two_bytes)
+from .town import (ENTRIES, ENTRY_SIZE, PAYLOAD, SITE_SIZE, block, directory_blocks, entry, is_muted, muted_slots,
+                   none_muted, several, site, two_bytes)
 
 PAYLOAD_END = 496
 CHECK = 510
@@ -152,10 +152,12 @@ def _stray(file, position):
 def _muted(file, position):
     due = entry(file.content, position - file.directory)
     held = block(file.content, position)
-    slots = [slot for slot in range(due.count) if is_muted(site(held, slot))]
-    where = f", {'slot' if len(slots) == 1 else 'slots'} {', '.join(map(str, slots))}" if slots else ""
+    sites = [site(held, slot) for slot in range(due.count)]
+    muted = sum(map(is_muted, sites))
     return (f"{several(due.muted, 'site')} with cue 0, the directory's muted number of this tile",
-            f"{several(len(slots), 'site')} with cue 0{where}")
+            f"{several(muted, 'site')} with cue 0" + (f", {muted_slots(sites)}" if muted else ""),
+            "if you know that the file is from before muted sites were counted: `renew` writes it again"
+            if none_muted(file.content) else "no file from before muted sites were counted: the directory has some")
 
 
 OF_BLOCKS = {2: _sync, 3: _check, 4: _kind, 5: _position, 6: _tiles, 7: _entries, 8: _padding, 9: _box, 10: _stray,
@@ -180,7 +182,7 @@ def _of_question(number, stops, k):
 
 
 def refusal(content, refused, stops=(), k=0):
-    """A refusal as lines: number, name and block; what was due; what stood there."""
+    """A refusal as lines: number, name and block; what was due; what stood there; of 16, what may help."""
     number, position = refused.number, refused.block
     head = f"refused {number} ({NAMES[number]})"
     if number == 1:
@@ -191,5 +193,5 @@ def refusal(content, refused, stops=(), k=0):
         said = OF_BLOCKS[number](file, position)
     else:
         said = _of_question(number, stops, k)
-    due, there = said or ("?", "?")
-    return [head, f"  due: {due}", f"  there: {there}"]
+    due, there, *more = said or ("?", "?")
+    return [head, f"  due: {due}", f"  there: {there}", *(f"  {line}" for line in more)]
