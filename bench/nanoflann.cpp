@@ -1,6 +1,6 @@
-// (c) nanoflann's k-d tree over all sites. Its own result set keeps an arbitrary one of the sites that tie at place k;
-// ours ranks by distance, then site, and asks for sites up to and including the worst distance, so one search gives the
-// exact list.
+// (c) nanoflann's k-d tree over all sounding sites. Its own result set keeps an arbitrary one of the sites that tie at
+// place k; ours ranks by distance, then site, and asks for sites up to and including the worst distance, so one search
+// gives the exact list.
 #include "peers.hpp"
 #include <limits>
 #include <nanoflann.hpp>

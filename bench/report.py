@@ -316,7 +316,7 @@ The output slices are made before. All
 lists are compared, and the run fails if any differ; so are the opened and struck tiles of (a), (e) and (f).
 
 - a: the engine, `nearby_join` of the static library
-- b: full search: every block checked and decoded, then all sites for each stop
+- b: full search: every block checked and decoded, then all sounding sites for each stop
 - c: nanoflann: every block checked and decoded, the k-d tree built, then asked for each stop
 - d: Boost.Geometry's R-tree, likewise
 - e: the paper's own algorithm in straightforward C++ (`bench/paper.cpp` says what it does and does not do): \

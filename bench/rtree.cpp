@@ -1,6 +1,6 @@
-// (d) Boost.Geometry's R-tree over all sites, built at once by its packing constructor. A query for k sites keeps an
-// arbitrary one of those that tie at place k, so we ask for one more: if it is farther than place k, the list is exact;
-// else we ask for twice as many, until one is farther or all sites are had.
+// (d) Boost.Geometry's R-tree over all sounding sites, built at once by its packing constructor. A query for k sites
+// keeps an arbitrary one of those that tie at place k, so we ask for one more: if it is farther than place k, the list
+// is exact; else we ask for twice as many, until one is farther or all of them are had.
 #include "peers.hpp"
 #include <boost/geometry.hpp>
 #include <boost/geometry/geometries/point.hpp>

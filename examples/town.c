@@ -2,8 +2,8 @@
  *
  * A line is `tile LOW_X LOW_Y HIGH_X HIGH_Y`, or `site X Y CUE` for a site of the tile above it, in centimetres; what
  * follows a # is left out (docs/FORMAT.md, "The text of a town"). Tiles are numbered from 0 in their order, and the
- * sites of a tile from slot 0. What the library would refuse is found line by line, by asking it for a town of the one
- * tile. */
+ * sites of a tile from slot 0. A site with cue 0 is muted. What the library would refuse is found line by line, by
+ * asking it for a town of the one tile. */
 #include "nearby.h"
 
 #include <stdarg.h>

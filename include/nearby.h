@@ -64,7 +64,7 @@ enum {
  * to the directory: block p has the entries of tiles 24 * p to 24 * p + 23, as far as there are any. Any other block is
  * that of tile block - d. So block 12 is that of tile 11 in a file of 25 blocks, where d is 1, and a directory block in
  * one of 400, where d is 16. The whole directory is tested before a tile is opened: where a tile is refused, T and all
- * boxes and counts are good.
+ * entries have passed their tests.
  *
  * What to do.
  * - The caller's mistake, and the same call would be refused again: NEARBY_K to NEARBY_SUPPLY, NEARBY_BOX for the box
@@ -74,7 +74,8 @@ enum {
  *     NEARBY_SYNC, NEARBY_CHECK: damaged, or something else than a town's file.
  *     NEARBY_KIND, NEARBY_POSITION: blocks lost, doubled or in another order, or damage that the check does not see.
  *     NEARBY_ENTRIES, NEARBY_STRAY in a tile: directory and tile are of different files, or such damage.
- *     NEARBY_MUTED: the same; or a file with a cue 0 from before muted sites were counted: write it again.
+ *     NEARBY_MUTED: the same; or a file with a cue 0 from before muted sites were counted: make it again from its
+ *       town, or, if you know that it is such a file, by `nearby-town renew`.
  *     NEARBY_ENTRIES in the directory, NEARBY_PADDING, NEARBY_BOX: such damage, or a file not made by nearby_write.
  *   Do not put in the refused block alone: one of an older file may pass every test, and its sites are wrong.
  *   If a full copy is refused alike, the file is bad where it came from: make it again from its town.

@@ -77,8 +77,13 @@ def ahead(place, key):
     return (place[0], place[1] // SLOTS) < key
 
 
+def sounding(sites):
+    return sum(cue != 0 for _, _, cue in sites)
+
+
 class Model:
-    """The join, with the test of nearer and the test that ends a stop as they should be."""
+    """The join, with the test of nearer, the sites that striking adds up and the test that ends a stop as they should
+    be."""
 
     def __init__(self, engine):
         self.engine = engine
@@ -86,19 +91,21 @@ class Model:
     def nearer(self, o, e, b):
         return self.engine.margin(o, e, b) < 0
 
+    def counted(self, sites):
+        return sounding(sites)
+
     def ends(self, found, k, key):
         return sum(ahead(place, key) for place in found) >= k
 
     def join(self, town, k, stops):
         """T, the numbers of opened and struck tiles, and the lists."""
         o = around(stops)
-        sounding = [sum(cue != 0 for _, _, cue in sites) for _, sites in town]
-        struck = [sum(number for (e, _), number in zip(town, sounding) if self.nearer(o, e, b)) >= k for b, _ in town]
+        struck = [sum(self.counted(sites) for e, sites in town if self.nearer(o, e, b)) >= k for b, _ in town]
         opened, lists = set(), []
         for stop in stops:
             found = []
-            waiting = [(self.engine.near(stop, box), tile) for tile, (box, _) in enumerate(town)
-                       if sounding[tile] and not struck[tile]]
+            waiting = [(self.engine.near(stop, box), tile) for tile, (box, sites) in enumerate(town)
+                       if sounding(sites) and not struck[tile]]
             for key in sorted(waiting):
                 if self.ends(found, k, key):
                     break
@@ -130,6 +137,11 @@ class EndsWhenFound(Model):
 class ZeroIsNearer(Model):
     def nearer(self, o, e, b):
         return self.engine.margin(o, e, b) <= 0
+
+
+class MutedCounted(Model):
+    def counted(self, sites):
+        return len(sites)
 
 
 # ---- the document
@@ -329,7 +341,8 @@ def mistakes(engine, document):
     both, first = [(0, 0), (10, 0)], [(0, 0)]
     asked = [("Answer 4.1", 0, "far", FarAgainstNear, 1, both), ("Answer 4.2", 0, "middle", OnlyTheMiddle, 1, both),
              ("Answer 4.3", 0, "found", EndsWhenFound, 1, first), ("Answer 4.3", 1, "harbour", EndsWhenFound, 2, first),
-             ("Answer 4.4", 0, "zero", ZeroIsNearer, 1, both), ("Answer 4.4", 1, "exchanged", ZeroIsNearer, 1, both)]
+             ("Answer 4.4", 0, "zero", ZeroIsNearer, 1, both), ("Answer 4.4", 1, "exchanged", ZeroIsNearer, 1, both),
+             ("Answer 4.5", 0, "counted", MutedCounted, 2, first)]
     for heading, number, name, mistaken, k, stops in asked:
         town = document.town(name)
         joined = engine.join(engine.write(town), stops, k)

@@ -48,7 +48,7 @@ near {G} E p t = G .minDist p (E .box t)
 
 -- What is assumed: facts of the tiles' boxes and of the stops in the box O.
 pub record Lawful {G : Geometry} (E : Directory G) (O : G .Box) : Type 0 where
-  -- "A tile has 0 to 40 sites", and at most all of them do not rank
+  -- "A tile has 0 to 40 sites"; those that do not rank are at most as many
   pub size-small : (t : ℕ) → t < E .tiles → E .size t ≤ slots
   pub muted-few : (t : ℕ) → t < E .tiles → E .muted t ≤ E .size t
   -- near is the least distance: not above any, and reached by a site that ranks, with any other cue
