@@ -205,7 +205,7 @@ def renew(arguments):
         raise _refused(name, content, refused) from None
     tiles = town.read(content)
     _save(target, engine.write(tiles))
-    more = [f"  {len(muted) - SHOWN} more tiles like these"] if len(muted) > SHOWN else []
+    more = [f"  {town.several(len(muted) - SHOWN, 'more tile')} like these"] if len(muted) > SHOWN else []
     print("\n".join([f"{target}: {town.size(tiles)}, {len(content)} bytes", *muted[:SHOWN], *more]))
 
 
