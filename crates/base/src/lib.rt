@@ -1,5 +1,5 @@
-// What every layer shares: the refusal with its numbers (document 01, "Numbers given to bad input"; 02.1), and a test
-// of two tests.
+// What every layer shares: the refusal with its numbers (document 01, "Numbers given to bad input"; 02.1, 02.2),
+// and a test of two tests.
 ghost use mathlib.Core.Path.{_≡_};
 ghost use mathlib.Core.Bool.{_&&_};
 
@@ -39,6 +39,8 @@ pub const SHORT: u32 = 14;
 pub const SUPPLY: u32 = 15;
 
 pub const MUTED: u32 = 16;
+
+pub const AXES: u32 = 17;
 
 // Both tests, without a branch.
 pub fn both(a: bool, b: bool) -> bool

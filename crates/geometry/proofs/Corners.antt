@@ -1,14 +1,15 @@
 -- The corners of a box by number: each is a point of the box, and the margin's point of O is one. Assumes nothing.
-use Prim.Native.Nat.{ℕ, _+_, _*_, _/_, _%_, _<_}
+use Prim.Native.Nat.{ℕ, zero, suc, _+_, _*_, _/_, _%_, _<_}
 use mathlib.Core.Bool.{true}
 use mathlib.Core.List.{List, [], _∷_}
-use mathlib.Core.Path.{_≡_, refl, _∙_}
+use mathlib.Core.Path.{_≡_, refl, ap, _∙_}
 use native.Mathlib.Nat.{two-pow-succ}
 use native.Mathlib.Omega.{arith}
 use lib.Dec.{eqb}
 use lib.IntN.{ℤ, pos}
-use lib.ListN.{getD, length}
+use lib.ListN.{getD, length, take}
 use borrow.Author.Tests.{eqb-true, eqb-false}
+use Rattle.geometry.specs.Axes.{axisAt}
 use Rattle.geometry.specs.Box.{lo, hi, validAxis, validBox}
 use Rattle.geometry.specs.Corners.{endAt, corner, corners}
 use Rattle.geometry.specs.Margin.{bestEnd, bestPoint}
@@ -25,6 +26,23 @@ end-index s c =
     by-test (eqb (c % 2) 0)
     (λ t. rw (eqb-true (c % 2) 0 t))
     (λ t. let m : c % 2 ≡ 1 = omega (arith, eqb-false (c % 2) 0 t) in rw m)
+
+-- three axes
+pub corner-3 : (o : List (List ℤ)) (c : ℕ) → length o ≡ 3
+    → corner o c ≡ endAt (axisAt o 0) c ∷ endAt (axisAt o 1) (c / 2) ∷ endAt (axisAt o 2) (c / 4) ∷ []
+unfolding corner
+corner-3 [] c n = absurd (omega arith)
+corner-3 (x ∷ []) c n = absurd (omega arith)
+corner-3 (x ∷ y ∷ []) c n = absurd (omega arith)
+corner-3 (x ∷ y ∷ z ∷ []) c n = let q : c / 2 / 2 ≡ c / 4 = omega arith in rw q
+corner-3 (x ∷ y ∷ z ∷ w ∷ o) c n = absurd (omega arith)
+
+-- the corners of a box of n axes are the first coordinates of those of a box with more
+pub take-corner : (n : ℕ) (o : List (List ℤ)) (c : ℕ) → take n (corner o c) ≡ corner (take n o) c
+unfolding corner
+take-corner zero o c = refl
+take-corner (suc n) [] c = refl
+take-corner (suc n) (s ∷ o) c = ap (λ z. endAt s c ∷ z) (take-corner n o (c / 2))
 
 pub corner-in : (o : List (List ℤ)) → validBox o ≡ true → (c : ℕ) → In o (corner o c)
 unfolding validBox corner endAt

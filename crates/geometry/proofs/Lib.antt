@@ -8,5 +8,5 @@ pub mod BestPoint
 mod Corners
 pub mod Around
 pub mod ByAxis
-pub mod Two
+pub mod TwoOrThree
 pub mod Theorems

@@ -37,9 +37,13 @@ use Rattle.geometry.proofs.Shift.{less-sub, at-most-sub, abs-difference
 -- they have; what holds of each holds of all
 pub use Rattle.geometry.proofs.Around.{columns-equal, equal-columns, points-rows, rows-none, rows-next}
 pub use Rattle.geometry.proofs.Around.{points-length, row-axes, all-points}
-pub use Rattle.geometry.proofs.Two.{two-columns}
+pub use Rattle.geometry.proofs.TwoOrThree.{two-columns}
 -- the distances and the margin as sums over the axes
 pub use Rattle.geometry.proofs.ByAxis.{dist-sum, min-dist-sum, max-dist-sum, margin-sum}
+-- what holds of two axes and of three holds of every town
+pub use Rattle.geometry.proofs.TwoOrThree.{by-axes}
+-- the corners by the first n axes
+pub use Rattle.geometry.proofs.Corners.{take-corner}
 
 -- ---- near and far
 

@@ -6,9 +6,11 @@
 --   lo, hi                     the ends of an axis
 --   withinLimits, validPoint   a coordinate, a point to be accepted
 --   validAxis, validBox        an axis, a box to be accepted
+--   ValidBoxes                 three boxes accepted
 --   onAxis, inside             a coordinate on an axis, a point in a box
 use mathlib.Core.Bool.{Bool, true, false, _&&_}
 use mathlib.Core.List.{List, [], _∷_}
+use mathlib.Core.Path.{_≡_}
 use lib.IntN.{ℤ, pos, negsuc}
 use lib.ListN.{getD}
 use lib.Signed.{leZ}
@@ -37,6 +39,9 @@ validAxis s = (withinLimits (lo s) && withinLimits (hi s)) && leZ (lo s) (hi s)
 unfoldable pub validBox : List (List ℤ) → Bool
 validBox [] = true
 validBox (s ∷ b) = validAxis s && validBox b
+
+abbrev pub ValidBoxes : List (List ℤ) → List (List ℤ) → List (List ℤ) → Type 0
+ValidBoxes o e b = (validBox o ≡ true) × ((validBox e ≡ true) × (validBox b ≡ true))
 
 unfoldable pub validPoint : List ℤ → Bool
 validPoint [] = true

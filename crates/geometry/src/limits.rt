@@ -1,6 +1,9 @@
 // The limits of coordinates, and the tests of boxes and points.
 ghost use mathlib.Core.Path.{_≡_};
+ghost use lib.ListN.{take};
+ghost use Rattle.geometry.specs.Axes.{KnownAxes};
 ghost use Rattle.geometry.specs.Box.{withinLimits, validAxis, validBox, validPoint, onAxis, inside};
+use crate::padding::HEIGHT;
 use base::both;
 
 const LOWEST: i32 = -1_000_000;
@@ -22,16 +25,28 @@ fn valid_axis(s: [i32; 2]) -> bool
     both(both(LOWEST <= l, l <= h), h <= HIGHEST)
 }
 
-pub fn valid_box(b: [[i32; 2]; 2]) -> bool
-    ensures { λ r. ⌜ r ≡ validBox b ⌝ }
+pub fn valid_box(axes: usize, b: [[i32; 2]; 3]) -> bool
+    requires { ⌜ KnownAxes axes ⌝ }
+    ensures { λ r. ⌜ r ≡ validBox (take axes b) ⌝ }
 {
-    both(valid_axis(b[0]), valid_axis(b[1]))
+    let plan = both(valid_axis(b[0]), valid_axis(b[1]));
+    if axes == HEIGHT {
+        both(plan, valid_axis(b[2]))
+    } else {
+        plan
+    }
 }
 
-pub fn valid_point(p: [i32; 2]) -> bool
-    ensures { λ r. ⌜ r ≡ validPoint p ⌝ }
+pub fn valid_point(axes: usize, p: [i32; 3]) -> bool
+    requires { ⌜ KnownAxes axes ⌝ }
+    ensures { λ r. ⌜ r ≡ validPoint (take axes p) ⌝ }
 {
-    both(within_limits(p[0]), within_limits(p[1]))
+    let plan = both(within_limits(p[0]), within_limits(p[1]));
+    if axes == HEIGHT {
+        both(plan, within_limits(p[2]))
+    } else {
+        plan
+    }
 }
 
 fn on_axis(s: [i32; 2], x: i32) -> bool
@@ -42,8 +57,14 @@ fn on_axis(s: [i32; 2], x: i32) -> bool
     both(l <= x, x <= h)
 }
 
-pub fn inside(b: [[i32; 2]; 2], p: [i32; 2]) -> bool
-    ensures { λ r. ⌜ r ≡ inside b p ⌝ }
+pub fn inside(axes: usize, b: [[i32; 2]; 3], p: [i32; 3]) -> bool
+    requires { ⌜ KnownAxes axes ⌝ }
+    ensures { λ r. ⌜ r ≡ inside (take axes b) (take axes p) ⌝ }
 {
-    both(on_axis(b[0], p[0]), on_axis(b[1], p[1]))
+    let plan = both(on_axis(b[0], p[0]), on_axis(b[1], p[1]));
+    if axes == HEIGHT {
+        both(plan, on_axis(b[2], p[2]))
+    } else {
+        plan
+    }
 }

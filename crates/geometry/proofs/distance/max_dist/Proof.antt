@@ -1,51 +1,21 @@
-use mathlib.Core.Bool.{true}
-use mathlib.Core.Path.{_≡_, ap}
 use borrow.Author.Needs.{needs}
-use Rattle.base.specs.Refusal.{accepted}
-use Rattle.base.proofs.Tests.{passed, failed}
-use Rattle.geometry.specs.Box.{validBox, validPoint}
-use Rattle.geometry.specs.Calls.{maxDistCall}
 use Rattle.geometry.proofs.distance.max_dist.Statement.{statement}
 use Rattle.geometry.proofs.distance.max_dist.Tie as tie
 
-valid-box-requires : tie.Need-valid-box-requires
-valid-box-requires c κs = search needs
+pad-box-requires : tie.Need-pad-box-requires
+pad-box-requires c κs = search needs
 
-refused-requires : tie.Need-refused-requires
-refused-requires c κs = search needs
+pad-point-requires : tie.Need-pad-point-requires
+pad-point-requires c κs = search needs
 
--- what the tests left
-box-valid : (c : tie.Else1) → let s : tie.Start = search in validBox (s .args .b) ≡ true
-box-valid c = passed (c .before .valid-box .ensures) (c .if1 .left)
-
-point-valid : (c : tie.Else2) → let s : tie.Start = search in validPoint (s .args .p) ≡ true
-point-valid c = passed (c .before .valid-point .ensures) (c .if2 .left)
+max-dist-over-requires : tie.Need-max-dist-over-requires
+max-dist-over-requires c κs = search needs
 
 returns : tie.Need-returns
-unfolding maxDistCall
 returns c =
-    let t : tie.Then1 = search in
-    rw (failed (t .before .valid-box .ensures) (t .if1 .taken)) (c .refused .ensures)
-
-valid-point-requires : tie.Need-valid-point-requires
-valid-point-requires c κs = search needs
-
-refused-requires-2 : tie.Need-refused-requires-2
-refused-requires-2 c κs = search needs
-
-returns-2 : tie.Need-returns-2
-unfolding maxDistCall
-returns-2 c =
-    let t : tie.Then2 = search in
-    rw (box-valid search, failed (t .before .valid-point .ensures) (t .if2 .taken)) (c .refused2 .ensures)
-
-max-dist-within-requires : tie.Need-max-dist-within-requires
-max-dist-within-requires c κs = (box-valid search, point-valid c)
-
-returns-3 : tie.Need-returns-3
-unfolding maxDistCall
-returns-3 c = rw (box-valid search, point-valid search) (ap accepted (c .max-dist-within .ensures))
+    let b : tie.After-pad-box = search in
+    let p : tie.After-pad-point = search in
+    rw (b .pad-box .ensures, p .pad-point .ensures) at (c .max-dist-over .ensures)
 
 pub max-dist-spec : {M : Type 1} → statement M
-max-dist-spec = tie.close (tie.spec valid-box-requires refused-requires returns valid-point-requires refused-requires-2
-    returns-2 max-dist-within-requires returns-3)
+max-dist-spec = tie.close (tie.spec pad-box-requires pad-point-requires max-dist-over-requires returns)
