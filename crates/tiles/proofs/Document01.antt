@@ -13,7 +13,7 @@ use Rattle.base.specs.Refusal.{Outcome, accepted, refused, require, andThen, #m
 use Rattle.base.proofs.HowMany.{how-many-none}
 use Rattle.base.proofs.InTurn.{turns-same}
 use Rattle.base.proofs.Outcomes.{andThen-same, by-outcome}
-use Rattle.blocks.specs.Block.{blockAt, entriesIn, blockHead}
+use Rattle.blocks.specs.Block.{blockAt, positionIn, entriesIn, blockStart}
 use Rattle.blocks.specs.Directory.{directory, countAt, mutedAt}
 use Rattle.blocks.specs.Document01.{EntriesZero}
 use Rattle.blocks.specs.Layout.{tileKind}
@@ -35,32 +35,34 @@ then-then (accepted a) f g = refl
 then-then (refused n b) f g = refl
 
 -- test 16, of the block of a tile with the muted number of its entry
-abbrev sixteen : List ℕ → ℕ → ℕ → ℕ → ℕ → Outcome ℕ
-sixteen s p count muted n = require (eqb (mutedIn s count) muted) #muted p (accepted n)
+abbrev sixteen : ℕ → List ℕ → ℕ → ℕ → ℕ → ℕ → Outcome ℕ
+sixteen a s p count muted n = require (eqb (mutedIn a s count) muted) #muted p (accepted n)
 
-module _ (s : List ℕ) (p : ℕ) (bounds : List (List ℤ)) (count muted : ℕ) where
-  block-then-16 : tileBlock s p bounds count muted ≡ andThen (tileBlock01 s p bounds count) (sixteen s p count muted)
+module _ (a : ℕ) (s : List ℕ) (p : ℕ) (bounds : List (List ℤ)) (count muted : ℕ) where
+  block-then-16 :
+      tileBlock a s p bounds count muted ≡ andThen (tileBlock01 a s p bounds count) (sixteen a s p count muted)
   unfolding tileBlock tileBlock01
   block-then-16 =
-      sym (then-then (blockHead tileKind s p) _ (sixteen s p count muted)
+      sym (then-then (blockStart (tileKind a) s p) _ (sixteen a s p count muted)
       ∙ rw (
+        require-then (eqb (positionIn s) p),
         require-then (eqb (entriesIn s) count),
-        require-then (tilePadding s count),
-        require-then (every (siteInside bounds s) count),
+        require-then (tilePadding a s count),
+        require-then (every (siteInside a bounds s) count),
       ))
 
 module _ (f : List ℕ) (h : Header) (t : ℕ) where
   pub open-then-16 : openTile f h t
       ≡ andThen (openTile01 f h t)
-      (sixteen (blockAt f (tilePosition h t)) (tilePosition h t) (countAt f t) (mutedAt f t))
+      (sixteen (h .axes) (blockAt f (tilePosition h t)) (tilePosition h t) (countAt f h t) (mutedAt f h t))
   unfolding openTile openTile01
-  open-then-16 = block-then-16 _ _ _ _ _
+  open-then-16 = block-then-16 _ _ _ _ _ _
 
-  pub open-like-01 : mutedAt f t ≡ 0 → NoneMuted f h t → openTile f h t ≡ openTile01 f h t
+  pub open-like-01 : mutedAt f h t ≡ 0 → NoneMuted f h t → openTile f h t ≡ openTile01 f h t
   unfolding mutedIn siteAt
   open-like-01 none sounds = by-outcome (openTile01 f h t)
       (λ n e.
-      let number = how-many-none _ (countAt f t) (λ slot l. sounds n slot e l) ∙ sym none in
+      let number = how-many-none _ (countAt f h t) (λ slot l. sounds n slot e l) ∙ sym none in
       open-then-16 ∙ rw (e, eq-eqb _ _ number))
       (λ n b e. open-then-16 ∙ rw e)
 

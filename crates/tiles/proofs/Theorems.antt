@@ -24,10 +24,9 @@ use Rattle.base.proofs.Outcomes.{accepted-injective, andThen-accepted}
 use Rattle.base.proofs.Tabulate.{length-tabulate, getD-tabulate}
 use Rattle.tiles.specs.Accepted.{GoodTile, GoodFile}
 use Rattle.tiles.specs.Document01.{openTile01, validate01, NoneMuted}
-use Rattle.tiles.specs.Tile.{siteIn, sitePoint, mutedCue, mutedIn, tilePosition, openTile}
+use Rattle.tiles.specs.Tile.{Site, siteIn, mutedCue, mutedIn, tilePosition, openTile}
 use Rattle.tiles.specs.Tile.{siteAt, sitesAt}
 use Rattle.tiles.specs.Validate.{validate}
-use Rattle.tiles.specs.declared.tile.Site.{Site}
 use Rattle.tiles.proofs.Document01 as document01
 use Rattle.tiles.proofs.TileLaws as laws
 
@@ -39,22 +38,22 @@ validate-exactly f h = (laws.validate-good f, laws.validate-enough f h)
 
 module _ (f : List ℕ) (h : Header) (t : ℕ) where
   -- an opening is accepted exactly when its block is good
-  pub opening-exactly : (openTile f h t ≡ accepted (countAt f t) → GoodTile f h t)
-      × (GoodTile f h t → openTile f h t ≡ accepted (countAt f t))
+  pub opening-exactly : (openTile f h t ≡ accepted (countAt f h t) → GoodTile f h t)
+      × (GoodTile f h t → openTile f h t ≡ accepted (countAt f h t))
   opening-exactly = (laws.open-good f h t, laws.open-enough f h t)
 
   -- an accepted opening gives the directory's count, and all its sites lie in the box
-  pub opened-number : {n : ℕ} → openTile f h t ≡ accepted n → n ≡ countAt f t
+  pub opened-number : {n : ℕ} → openTile f h t ≡ accepted n → n ≡ countAt f h t
   opened-number e = accepted-injective (sym e ∙ laws.open-enough f h t (laws.open-good f h t e))
 
-  pub opened-inside : {n : ℕ} → openTile f h t ≡ accepted n → (slot : ℕ) → slot < countAt f t →
-      inside (boxAt f t) (sitePoint (siteAt f h t slot)) ≡ true
+  pub opened-inside : {n : ℕ} → openTile f h t ≡ accepted n → (slot : ℕ) → slot < countAt f h t →
+      inside (boxAt f h t) (siteAt f h t slot .point) ≡ true
   unfolding siteAt
   opened-inside e slot l = laws.open-good f h t e .inside slot l
 
   -- 02.1: its muted sites are as many as the directory says
   pub opened-muted : {n : ℕ} → openTile f h t ≡ accepted n →
-      howMany (λ slot. mutedCue (siteAt f h t slot .cue)) (countAt f t) ≡ mutedAt f t
+      howMany (λ slot. mutedCue (siteAt f h t slot .cue)) (countAt f h t) ≡ mutedAt f h t
   unfolding siteAt mutedIn
   opened-muted e = laws.open-good f h t e .muted-counted
 
@@ -62,19 +61,19 @@ module _ (f : List ℕ) (h : Header) (t : ℕ) where
   -- again": what document 01 opens is refused, at the tile's own position, where the directory has another muted number
   pub opening-then-16 : openTile f h t
       ≡ andThen (openTile01 f h t) (λ n.
-      require (eqb (howMany (λ slot. mutedCue (siteAt f h t slot .cue)) (countAt f t)) (mutedAt f t)) #muted
+      require (eqb (howMany (λ slot. mutedCue (siteAt f h t slot .cue)) (countAt f h t)) (mutedAt f h t)) #muted
       (tilePosition h t) (accepted n))
   unfolding siteAt mutedIn
   opening-then-16 = document01.open-then-16 f h t
 
   -- a tile that opens and has no muted site, by its cues, has none by the directory
-  pub opened-none-muted : {n : ℕ} → openTile f h t ≡ accepted n → NoneMuted f h t → mutedAt f t ≡ 0
+  pub opened-none-muted : {n : ℕ} → openTile f h t ≡ accepted n → NoneMuted f h t → mutedAt f h t ≡ 0
   opened-none-muted e sounds =
       let opens = andThen-accepted (openTile01 f h t) _ (sym opening-then-16 ∙ e) in
-      sym (opened-muted e) ∙ how-many-none _ (countAt f t) (λ slot l. sounds (opens .0) slot (opens .1) l)
+      sym (opened-muted e) ∙ how-many-none _ (countAt f h t) (λ slot l. sounds (opens .0) slot (opens .1) l)
 
   -- one that has none by both opens as in document 01, or is refused as there
-  pub opening-like-01 : mutedAt f t ≡ 0 → NoneMuted f h t → openTile f h t ≡ openTile01 f h t
+  pub opening-like-01 : mutedAt f h t ≡ 0 → NoneMuted f h t → openTile f h t ≡ openTile01 f h t
   opening-like-01 = document01.open-like-01 f h t
 
   -- a refused opening names the tile's own block
@@ -82,13 +81,13 @@ module _ (f : List ℕ) (h : Header) (t : ℕ) where
   opening-refused = laws.open-at f h t
 
   -- the list of a tile's sites has the site of each slot
-  pub sites-length : length (sitesAt f h t) ≡ countAt f t
+  pub sites-length : length (sitesAt f h t) ≡ countAt f h t
   unfolding sitesAt
-  sites-length = length-tabulate (siteAt f h t) 0 (countAt f t)
+  sites-length = length-tabulate (siteAt f h t) 0 (countAt f h t)
 
-  pub sites-slot : (d : Site) (slot : ℕ) → slot < countAt f t → getD (sitesAt f h t) slot d ≡ siteAt f h t slot
+  pub sites-slot : (d : Site) (slot : ℕ) → slot < countAt f h t → getD (sitesAt f h t) slot d ≡ siteAt f h t slot
   unfolding sitesAt
-  sites-slot d slot l = getD-tabulate (siteAt f h t) d 0 (countAt f t) slot l ∙ ap (siteAt f h t) (zero-add slot)
+  sites-slot d slot l = getD-tabulate (siteAt f h t) d 0 (countAt f h t) slot l ∙ ap (siteAt f h t) (zero-add slot)
 
 -- 02.1 leaves old files as they were: where the last two bytes of every entry are zero and no tile that document 01
 -- opens has a cue 0, the full check is that of document 01, refusals included
@@ -102,11 +101,11 @@ module _ (f g : List ℕ) (h : Header) (t : ℕ) (block : blockAt g (tilePositio
   unfolding siteAt
   site-depends slot = rw block
 
-  module _ (count : countAt g t ≡ countAt f t) where
+  module _ (count : countAt g h t ≡ countAt f h t) where
     pub sites-depend : sitesAt g h t ≡ sitesAt f h t
     unfolding sitesAt siteAt
-    sites-depend = ap (λ s. tabulate (siteIn s) 0 (countAt g t)) block ∙ ap (tabulate (siteAt f h t) 0) count
+    sites-depend = ap (λ s. tabulate (siteIn (h .axes) s) 0 (countAt g h t)) block ∙ ap (tabulate (siteAt f h t) 0) count
 
-    pub opening-depends : boxAt g t ≡ boxAt f t → mutedAt g t ≡ mutedAt f t → openTile g h t ≡ openTile f h t
+    pub opening-depends : boxAt g h t ≡ boxAt f h t → mutedAt g h t ≡ mutedAt f h t → openTile g h t ≡ openTile f h t
     unfolding openTile
     opening-depends bounds muted = rw (block, bounds, count, muted)

@@ -1,4 +1,4 @@
--- Document 01 alone, without 02.1: the openings, and the full check.
+-- Without 02.1: the openings, and the full check.
 --
 --   tileBlock01, openTile01   all tests of a tile block: of its bytes, of a file
 --   openAll01, validate01     the full check
@@ -10,8 +10,8 @@ use mathlib.Core.Path.{_≡_}
 use lib.Dec.{eqb}
 use lib.IntN.{ℤ}
 use Rattle.base.specs.Every.{every}
-use Rattle.base.specs.Refusal.{Outcome, accepted, require, andThen, #entries, #padding, #stray, inTurn}
-use Rattle.blocks.specs.Block.{blockAt, entriesIn, blockHead}
+use Rattle.base.specs.Refusal.{Outcome, accepted, require, andThen, #position, #entries, #padding, #stray, inTurn}
+use Rattle.blocks.specs.Block.{blockAt, positionIn, entriesIn, blockStart}
 use Rattle.blocks.specs.Directory.{boxAt, countAt}
 use Rattle.blocks.specs.Document01.{directory01}
 use Rattle.blocks.specs.Layout.{tileKind}
@@ -19,16 +19,18 @@ use Rattle.blocks.specs.declared.header.Header.{Header}
 use Rattle.tiles.specs.Tile.{mutedCue, tilePadding, siteInside, tilePosition, siteAt}
 
 -- "openings, each 2, 3, 4, 5, 7, 8, 10"
-unfoldable pub tileBlock01 : List ℕ → ℕ → List (List ℤ) → ℕ → Outcome ℕ
-tileBlock01 s p bounds count =
-    andThen (blockHead tileKind s p) (λ _.
-    require (eqb (entriesIn s) count) #entries p
-    (require (tilePadding s count) #padding p
-    (require (every (siteInside bounds s) count) #stray p
-    (accepted count))))
+unfoldable pub tileBlock01 : ℕ → List ℕ → ℕ → List (List ℤ) → ℕ → Outcome ℕ
+tileBlock01 a s p bounds count =
+    andThen (blockStart (tileKind a) s p) (λ _.
+    require (eqb (positionIn s) p) #position p
+    (require (eqb (entriesIn s) count) #entries p
+    (require (tilePadding a s count) #padding p
+    (require (every (siteInside a bounds s) count) #stray p
+    (accepted count)))))
 
 unfoldable pub openTile01 : List ℕ → Header → ℕ → Outcome ℕ
-openTile01 f h t = tileBlock01 (blockAt f (tilePosition h t)) (tilePosition h t) (boxAt f t) (countAt f t)
+openTile01 f h t =
+    tileBlock01 (h .axes) (blockAt f (tilePosition h t)) (tilePosition h t) (boxAt f h t) (countAt f h t)
 
 unfoldable pub openAll01 : List ℕ → Header → Outcome Header
 openAll01 f h = andThen (inTurn (openTile01 f h) 0 (h .tiles)) (λ _. accepted h)
@@ -38,5 +40,5 @@ validate01 f = andThen (directory01 f) (openAll01 f)
 
 -- a tile that document 01 opens has no muted site; one that it refuses may hold anything
 abbrev pub NoneMuted : List ℕ → Header → ℕ → Type 0
-NoneMuted f h t = (n slot : ℕ) → openTile01 f h t ≡ accepted n → slot < countAt f t →
+NoneMuted f h t = (n slot : ℕ) → openTile01 f h t ≡ accepted n → slot < countAt f h t →
     mutedCue (siteAt f h t slot .cue) ≡ false

@@ -1,11 +1,12 @@
 // Opening a tile, and its sites, read in place.
 ghost use mathlib.Core.Path.{_≡_};
 ghost use Prim.Native.Nat.{_+_, _*_, _<_, _≤_};
-ghost use lib.ListN.{length};
+ghost use lib.ListN.{length, take};
 ghost use Rattle.base.specs.Refusal.{accepted, refused};
 ghost use Rattle.base.specs.Every.{every};
 ghost use Rattle.codec.specs.Number.{limit16};
-ghost use Rattle.blocks.specs.Layout.{axes, blockSize, payloadAt, siteSize, maxSites};
+ghost use Rattle.geometry.specs.Axes.{KnownAxes};
+ghost use Rattle.blocks.specs.Layout.{blockSize, payloadAt, siteSize, maxSites};
 ghost use Rattle.blocks.specs.Directory.{directory};
 ghost use Rattle.tiles.specs.Inner.Opening.{openingOutcome};
 ghost use Rattle.tiles.specs.Tile.{siteOffset, siteIn, tilePadding, siteInside, tileBlock, tilePosition};
@@ -25,12 +26,6 @@ use geometry::limits::inside;
 // The cue of a muted site.
 pub const MUTED_CUE: u32 = 0;
 
-pub struct Site {
-    pub x: i32,
-    pub y: i32,
-    pub cue: u32,
-}
-
 // What an opening answers: the number of sites, or the refusal.
 pub enum Opening {
     Opened(usize),
@@ -48,53 +43,56 @@ fn refused(number: u32, p: usize) -> Opening
     })
 }
 
-pub fn site_offset(slot: usize) -> usize
-    requires { ⌜ slot ≤ maxSites axes ⌝ }
-    ensures { λ r. ⌜ (r ≡ siteOffset slot) × (r ≡ payloadAt + siteSize axes * slot) ⌝ }
+pub fn site_offset(axes: usize, slot: usize) -> usize
+    requires { ⌜ KnownAxes axes × (slot ≤ maxSites axes) ⌝ }
+    ensures { λ r. ⌜ (r ≡ siteOffset axes slot) × (r ≡ payloadAt + siteSize axes * slot) ⌝ }
 {
-    layout::PAYLOAD_AT + layout::SITE_SIZE * slot
+    layout::PAYLOAD_AT + layout::site_size(axes) * slot
 }
 
-// The site of a slot of a tile's block.
-pub fn site_in(s: &[u8], slot: usize) -> Site
-    requires { ⌜ (slot < maxSites axes) × (length (now s) ≡ blockSize) ⌝ }
-    ensures { λ r. ⌜ r ≡ siteIn (now (s .entry)) slot ⌝ }
+// The point of the site of a slot of a tile's block: its first axes count.
+pub fn point_in(axes: usize, s: &[u8], slot: usize) -> [i32; 3]
+    requires { ⌜ KnownAxes axes × (slot < maxSites axes) × (length (now s) ≡ blockSize) ⌝ }
+    ensures { λ r. ⌜ take axes r ≡ siteIn axes (now (s .entry)) slot .point ⌝ }
 {
-    let at = site_offset(slot);
+    let at = site_offset(axes, slot);
     let x = i32_at(s, at);
     let y = i32_at(s, at + 4);
-    let cue = u32_at(s, at + layout::CUE_OFFSET);
-    Site { x, y, cue }
+    if axes == layout::HEIGHT {
+        [x, y, i32_at(s, at + 8)]
+    } else {
+        [x, y, 0]
+    }
 }
 
 // The cue of the site of a slot.
-fn cue_in(s: &[u8], slot: usize) -> u32
-    requires { ⌜ (slot < maxSites axes) × (length (now s) ≡ blockSize) ⌝ }
-    ensures { λ r. ⌜ r ≡ siteIn (now (s .entry)) slot .cue ⌝ }
+pub fn cue_in(axes: usize, s: &[u8], slot: usize) -> u32
+    requires { ⌜ KnownAxes axes × (slot < maxSites axes) × (length (now s) ≡ blockSize) ⌝ }
+    ensures { λ r. ⌜ r ≡ siteIn axes (now (s .entry)) slot .cue ⌝ }
 {
-    u32_at(s, site_offset(slot) + layout::CUE_OFFSET)
+    u32_at(s, site_offset(axes, slot) + layout::cue_offset(axes))
 }
 
 // How many of the first n sites are muted, counted without a branch.
-fn muted_in(s: &[u8], n: usize) -> usize
-    requires { ⌜ (n ≤ maxSites axes) × (length (now s) ≡ blockSize) ⌝ }
-    ensures { λ r. ⌜ r ≡ mutedIn (now (s .entry)) n ⌝ }
+fn muted_in(axes: usize, s: &[u8], n: usize) -> usize
+    requires { ⌜ KnownAxes axes × (n ≤ maxSites axes) × (length (now s) ≡ blockSize) ⌝ }
+    ensures { λ r. ⌜ r ≡ mutedIn axes (now (s .entry)) n ⌝ }
 {
     let mut muted: usize = 0;
     let mut slot: usize = 0;
     while slot < n {
-        muted += (cue_in(s, slot) == MUTED_CUE) as usize;
+        muted += (cue_in(axes, s, slot) == MUTED_CUE) as usize;
         slot += 1;
     }
     muted
 }
 
 // Test 8, of a tile with n sites.
-fn tile_padding(s: &[u8], n: usize) -> bool
-    requires { ⌜ (n ≤ maxSites axes) × (length (now s) ≡ blockSize) ⌝ }
-    ensures { λ r. ⌜ r ≡ tilePadding (now (s .entry)) n ⌝ }
+fn tile_padding(axes: usize, s: &[u8], n: usize) -> bool
+    requires { ⌜ KnownAxes axes × (n ≤ maxSites axes) × (length (now s) ≡ blockSize) ⌝ }
+    ensures { λ r. ⌜ r ≡ tilePadding axes (now (s .entry)) n ⌝ }
 {
-    let used = site_offset(n);
+    let used = site_offset(axes, n);
     both(
         zeros(s, layout::TILES_AT, layout::PAYLOAD_AT),
         zeros(s, used, layout::CHECK_AT),
@@ -102,23 +100,20 @@ fn tile_padding(s: &[u8], n: usize) -> bool
 }
 
 // Test 10 of one site.
-fn site_inside(bounds: [[i32; 2]; 2], s: &[u8], slot: usize) -> bool
-    requires { ⌜ (slot < maxSites axes) × (length (now s) ≡ blockSize) ⌝ }
-    ensures { λ r. ⌜ r ≡ siteInside bounds (now (s .entry)) slot ⌝ }
+fn site_inside(axes: usize, bounds: [[i32; 2]; 3], s: &[u8], slot: usize) -> bool
+    requires { ⌜ KnownAxes axes × (slot < maxSites axes) × (length (now s) ≡ blockSize) ⌝ }
+    ensures { λ r. ⌜ r ≡ siteInside axes (take axes bounds) (now (s .entry)) slot ⌝ }
 {
-    let site = site_in(s, slot);
-    let x = site.x;
-    let y = site.y;
-    inside(bounds, [x, y])
+    inside(axes, bounds, point_in(axes, s, slot))
 }
 
-fn sites_inside(bounds: [[i32; 2]; 2], s: &[u8], n: usize) -> bool
-    requires { ⌜ (n ≤ maxSites axes) × (length (now s) ≡ blockSize) ⌝ }
-    ensures { λ r. ⌜ r ≡ every (siteInside bounds (now (s .entry))) n ⌝ }
+fn sites_inside(axes: usize, bounds: [[i32; 2]; 3], s: &[u8], n: usize) -> bool
+    requires { ⌜ KnownAxes axes × (n ≤ maxSites axes) × (length (now s) ≡ blockSize) ⌝ }
+    ensures { λ r. ⌜ r ≡ every (siteInside axes (take axes bounds) (now (s .entry))) n ⌝ }
 {
     let mut i = 0;
     while i < n {
-        if !site_inside(bounds, s, i) {
+        if !site_inside(axes, bounds, s, i) {
             return false;
         }
         i += 1;
@@ -127,24 +122,34 @@ fn sites_inside(bounds: [[i32; 2]; 2], s: &[u8], n: usize) -> bool
 }
 
 // A tile's block, by box, count and muted number of its entry: the first test that fails decides.
-fn tile_block(s: &[u8], p: usize, bounds: [[i32; 2]; 2], count: usize, muted: usize) -> Opening
-    requires { ⌜ (length (now s) ≡ blockSize) × (p < limit16) × (count ≤ maxSites axes) ⌝ }
-    ensures { λ r. ⌜ openingOutcome r ≡ tileBlock (now (s .entry)) p bounds count muted ⌝ }
+fn tile_block(
+    axes: usize,
+    s: &[u8],
+    p: usize,
+    bounds: [[i32; 2]; 3],
+    count: usize,
+    muted: usize,
+) -> Opening
+    requires { ⌜ KnownAxes axes × (length (now s) ≡ blockSize) × (p < limit16) × (count ≤ maxSites axes) ⌝ }
+    ensures { λ r. ⌜ openingOutcome r ≡ tileBlock axes (now (s .entry)) p (take axes bounds) count muted ⌝ }
 {
-    let head = block::head_number(s, layout::TILE_KIND, p);
-    if head != 0 {
-        return refused(head, p);
+    let start = block::start_number(s, layout::tile_kind(axes), p);
+    if start != 0 {
+        return refused(start, p);
+    }
+    if u16_at(s, layout::POSITION_AT) != p {
+        return refused(base::POSITION, p);
     }
     if u16_at(s, layout::ENTRIES_AT) != count {
         return refused(base::ENTRIES, p);
     }
-    if !tile_padding(s, count) {
+    if !tile_padding(axes, s, count) {
         return refused(base::PADDING, p);
     }
-    if !sites_inside(bounds, s, count) {
+    if !sites_inside(axes, bounds, s, count) {
         return refused(base::STRAY, p);
     }
-    if muted_in(s, count) != muted {
+    if muted_in(axes, s, count) != muted {
         return refused(base::MUTED, p);
     }
     Opening::Opened(count)
@@ -167,5 +172,5 @@ pub fn open_tile(f: &[u8], h: Header, t: usize) -> Opening
     let bounds = directory::box_at(f, h, t);
     let count = directory::count_at(f, h, t);
     let muted = directory::muted_at(f, h, t);
-    tile_block(block::block_at(f, p), p, bounds, count, muted)
+    tile_block(h.axes, block::block_at(f, p), p, bounds, count, muted)
 }

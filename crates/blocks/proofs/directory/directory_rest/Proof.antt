@@ -27,7 +27,7 @@ directory-block-at-requires : tie.Need-directory-block-at-requires Inv-loop μ-l
 directory-block-at-requires c κs =
     let s : tie.Start Inv-loop μ-loop = search in
     let d : tie.After-directory-blocks Inv-loop μ-loop = search in
-    (omega (arith, s .pre .0, d .directory-blocks .ensures .0), search needs, s .pre .2)
+    (omega (arith, s .pre .0, d .directory-blocks .ensures .0), search needs, s .pre .3)
 
 enum-told : tie.Need-enum-told Inv-loop μ-loop
 enum-told c = search needs

@@ -6,12 +6,18 @@ use Rattle.blocks.proofs.directory.length_due.Tie as tie
 both-requires : tie.Need-both-requires
 both-requires c κs = search needs
 
+max-length-requires : tie.Need-max-length-requires
+max-length-requires c κs = search needs
+
 both-requires-2 : tie.Need-both-requires-2
 both-requires-2 c κs = search needs
 
 returns : tie.Need-returns
 unfolding lengthDue
-returns c = simp (c .both2 .ensures, c .before .both .ensures)
+returns c =
+    let b : tie.After-both = search in
+    let m : tie.After-max-length = search in
+    simp (c .both2 .ensures, b .both .ensures, m .max-length .ensures)
 
 pub length-due-spec : {M : Type 1} → statement M
-length-due-spec = tie.close (tie.spec both-requires both-requires-2 returns)
+length-due-spec = tie.close (tie.spec both-requires max-length-requires both-requires-2 returns)

@@ -64,7 +64,7 @@ directory-rest-requires c κs =
     let b : tie.After-directory-block-at = search in
     let h = header search in
     let k = first-block _ _ (told directoryOutcome (b .directory-block-at .ensures) (c .enum-told .given .1)) h in
-    (k .1, k .2, h)
+    (k .1, k .2, k .3, h)
 
 returns-3 : tie.Need-returns-3
 unfolding directory

@@ -11,10 +11,10 @@ use Rattle.blocks.proofs.entry.entries_valid.Statement.{statement}
 use Rattle.blocks.proofs.entry.entries_valid.Tie as tie
 
 abbrev Inv-loop : tie.InvT-loop
-Inv-loop s n i₀ i = (j : ℕ) → j < i → entryValid s j ≡ true
+Inv-loop axes s n i₀ i = (j : ℕ) → j < i → entryValid axes s j ≡ true
 
 abbrev μ-loop : tie.MeasureT-loop
-μ-loop s n i₀ i = n - i
+μ-loop axes s n i₀ i = n - i
 
 loop-holds : tie.Need-loop-holds Inv-loop μ-loop
 loop-holds c = λ j l. absurd (omega arith)
@@ -26,7 +26,7 @@ returns : tie.Need-returns Inv-loop μ-loop
 returns c =
     let l : tie.At-loop Inv-loop μ-loop = search in
     let a = l .before .before .args in
-    sym (every-fails (entryValid (a .s .now)) (a .n) (l .loop .i) (search needs)
+    sym (every-fails (entryValid (a .axes) (a .s .now)) (a .n) (l .loop .i) (search needs)
     (failed (c .before .entry-valid .ensures) (c .if1 .taken)))
 
 add-i : tie.Need-add-i Inv-loop μ-loop
@@ -44,7 +44,7 @@ returns-2 : tie.Need-returns-2 Inv-loop μ-loop
 returns-2 c =
     let l = c .before in
     let a = l .before .before .args in
-    sym (every-holds (entryValid (a .s .now)) (a .n) (λ j h. l .loop .inv j (omega arith)))
+    sym (every-holds (entryValid (a .axes) (a .s .now)) (a .n) (λ j h. l .loop .inv j (omega arith)))
 
 pub entries-valid-spec : {M : Type 1} → statement M
 entries-valid-spec = tie.close (tie.spec Inv-loop μ-loop loop-holds entry-valid-requires returns add-i loop-less

@@ -12,6 +12,9 @@ entry-box-requires c κs = search needs
 valid-box-requires : tie.Need-valid-box-requires
 valid-box-requires c κs = search needs
 
+max-sites-requires : tie.Need-max-sites-requires
+max-sites-requires c κs = search needs
+
 both-requires : tie.Need-both-requires
 both-requires c κs = search needs
 
@@ -27,17 +30,21 @@ returns c =
     let b : tie.After-entry-box = search in
     let v : tie.After-valid-box = search in
     let n : tie.After-entry-count = search in
+    let m : tie.After-max-sites = search in
+    let both : tie.After-both = search in
+    let muted : tie.After-entry-muted = search in
     simp (
       c .both2 .ensures,
-      c .before .entry-muted .ensures,
-      c .before .before .both .ensures,
+      muted .entry-muted .ensures,
+      both .both .ensures,
       v .valid-box .ensures,
       b .entry-box .ensures,
+      m .max-sites .ensures,
       n .entry-count .ensures,
     )
 
 pub entry-valid-spec : {M : Type 1} → statement M
 entry-valid-spec =
     tie.close
-    (tie.spec entry-count-requires entry-box-requires valid-box-requires both-requires entry-muted-requires
+    (tie.spec entry-count-requires entry-box-requires valid-box-requires max-sites-requires both-requires entry-muted-requires
     both-requires-2 returns)

@@ -10,10 +10,10 @@ use Rattle.tiles.proofs.tile.muted_in.Statement.{statement}
 use Rattle.tiles.proofs.tile.muted_in.Tie as tie
 
 abbrev Inv-loop : tie.InvT-loop
-Inv-loop s n muted₀ slot₀ muted slot = (slot ≤ n) × (muted ≤ slot) × (muted ≡ mutedIn s slot)
+Inv-loop axes s n muted₀ slot₀ muted slot = (slot ≤ n) × (muted ≤ slot) × (muted ≡ mutedIn axes s slot)
 
 abbrev μ-loop : tie.MeasureT-loop
-μ-loop s n muted₀ slot₀ muted slot = n - slot
+μ-loop axes s n muted₀ slot₀ muted slot = n - slot
 
 loop-holds : tie.Need-loop-holds Inv-loop μ-loop
 unfolding mutedIn howMany
@@ -45,7 +45,7 @@ loop-again c =
     let t = mutedCue (c .cue-in .result) in
     let b = bit-byte t in
     let m = bit-small t in
-    let e : bit t ≡ bit (mutedCue (siteIn (l .before .before .args .s .now) (l .loop .slot) .cue)) =
+    let e : bit t ≡ bit (mutedCue (siteIn (l .before .before .args .axes) (l .before .before .args .s .now) (l .loop .slot) .cue)) =
     ap (λ q. bit (mutedCue q)) (c .cue-in .ensures) in
     (omega arith, omega arith, rw (add-one (l .loop .slot)) (omega (arith, l .loop .inv .2)))
 

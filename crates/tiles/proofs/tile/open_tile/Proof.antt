@@ -25,6 +25,7 @@ tile-block-requires c κs =
     let s : tie.Start = search in
     let p : tie.After-tile-position = search in
     let n : tie.After-count-at = search in (
+      directory-good _ (s .pre .0) .axes,
       c .block-at .ensures .1,
       p .tile-position .ensures .1,
       rw (n .count-at .ensures) (count-small (directory-good _ (s .pre .0)) (s .args .t) (s .pre .1)),

@@ -7,7 +7,8 @@ use Rattle.tiles.proofs.tile.tile_position.Statement.{statement}
 use Rattle.tiles.proofs.tile.tile_position.Tie as tie
 
 directory-blocks-requires : tie.Need-directory-blocks-requires
-directory-blocks-requires c κs = omega (arith, directory-good _ (c .before .pre .0) .tiles .most)
+directory-blocks-requires c κs =
+    let g = directory-good _ (c .before .pre .0) in (g .axes, omega (arith, g .tiles .most))
 
 add-result : tie.Need-add-result
 add-result c = omega (arith, directory-good _ (c .before .before .pre .0) .tiles .most)
