@@ -6,7 +6,6 @@ use mathlib.Core.Path.{_≡_}
 use native.Mathlib.Nat.{not-suc-le-zero, eq-or-lt-of-le, le-of-suc-le-suc}
 use native.Mathlib.Numerals.{add-one}
 use native.Mathlib.Omega.{arith}
-use Rattle.blocks.specs.Layout.{axes, maxSites}
 use Rattle.base.proofs.HowMany.{how-many-most}
 use Rattle.encode.specs.Supply.{countOf, offset, mutedFrom}
 
@@ -21,11 +20,11 @@ module _ (counts : List ℕ) where
   offset-within t (suc n) h =
       ⊎-elim (λ e. rw e (omega arith)) (λ l. omega (arith, offset-within t n l)) (eq-or-lt-of-le (le-of-suc-le-suc h))
 
-  pub offset-small : (t : ℕ) → ((i : ℕ) → i < t → countOf counts i ≤ maxSites axes) →
-      offset counts t ≤ maxSites axes * t
+  pub offset-small : (most t : ℕ) → ((i : ℕ) → i < t → countOf counts i ≤ most) → offset counts t ≤ most * t
   unfolding offset
-  offset-small zero h = omega arith
-  offset-small (suc t) h = let a = offset-small t (λ i l. h i (omega arith)) in omega (arith, h t (omega arith))
+  offset-small most zero h = omega arith
+  offset-small most (suc t) h =
+      let a = offset-small most t (λ i l. h i (omega arith)) in omega (arith, h t (omega arith))
 
 pub muted-most : (cues : List ℕ) (i n : ℕ) → mutedFrom cues i n ≤ n
 unfolding mutedFrom

@@ -4,15 +4,16 @@ ghost use Prim.Native.Nat.{_+_, _*_, _<_, _≤_};
 ghost use lib.ListN.{length};
 ghost use Rattle.base.specs.Over.{over};
 ghost use Rattle.base.specs.Tabulate.{joined};
+ghost use Rattle.geometry.specs.Axes.{KnownAxes};
 ghost use Rattle.blocks.specs.Directory.{directoryBlocks, entriesDue};
-ghost use Rattle.blocks.specs.Layout.{axes, blockSize, entrySize, countOffset, entriesPerBlock, maxTiles};
+ghost use Rattle.blocks.specs.Layout.{blockSize, entrySize, countOffset, entriesPerBlock, maxTiles};
 ghost use Rattle.encode.specs.Encode.{boxBytes, entryBytes, directoryBytes};
 ghost use Rattle.encode.specs.Supply.{headerOf, numbersPerBox, offset, siteTotal};
 use crate::head::put_checksum;
 use crate::head::put_head;
-use crate::lists::NUMBERS_PER_BOX;
 use crate::lists::header_of;
 use crate::lists::muted_from;
+use crate::lists::numbers_per_box;
 use crate::lists::wide;
 use blocks::directory::directory_blocks;
 use blocks::directory::entries_due;
@@ -22,22 +23,30 @@ use codec::writing::put_i32;
 use codec::writing::put_u16;
 use codec::writing::put_zeros;
 
-// The four numbers of tile t's box.
-fn put_box(d: &mut [u8], at: usize, boxes: &[i32], t: usize)
-    requires { ⌜ (at + countOffset axes ≤ length (now d)) × (numbersPerBox * t + numbersPerBox ≤ length (now boxes)) ⌝ }
-    ensures { λ _. ⌜ now (d .exit) ≡ over (now (d .entry)) at (boxBytes (now (boxes .entry)) t) ⌝ }
+// The numbers of tile t's box.
+fn put_box(d: &mut [u8], start: usize, axes: usize, boxes: &[i32], t: usize)
+    requires { ⌜
+        KnownAxes axes × (start + countOffset axes ≤ length (now d))
+        × (numbersPerBox axes * t + numbersPerBox axes ≤ length (now boxes)) ⌝ }
+    ensures { λ _. ⌜ now (d .exit) ≡ over (now (d .entry)) start (boxBytes axes (now (boxes .entry)) t) ⌝ }
 {
-    let b = NUMBERS_PER_BOX * t;
-    put_i32(d, at, boxes[b]);
-    put_i32(d, at + 4, boxes[b + 1]);
-    put_i32(d, at + 8, boxes[b + 2]);
-    put_i32(d, at + 12, boxes[b + 3]);
+    let n = numbers_per_box(axes);
+    let mut at = start;
+    let mut i = n * t;
+    let mut left = n;
+    while 0 < left {
+        put_i32(d, at, boxes[i]);
+        at += layout::NUMBER_SIZE;
+        i += 1;
+        left -= 1;
+    }
 }
 
 // The entry of tile t, whose sites stand in the lists from site `site` on; gives where those of the next tile start.
 fn put_entry(
     d: &mut [u8],
     at: usize,
+    axes: usize,
     boxes: &[i32],
     counts: &[u32],
     cues: &[u32],
@@ -45,17 +54,22 @@ fn put_entry(
     site: usize,
 ) -> usize
     requires { ⌜
-        (at + entrySize axes ≤ length (now d)) × (numbersPerBox * t + numbersPerBox ≤ length (now boxes))
+        KnownAxes axes × (at + entrySize axes ≤ length (now d))
+        × (numbersPerBox axes * t + numbersPerBox axes ≤ length (now boxes))
         × (t < length (now counts)) × (length (now cues) ≡ siteTotal (now counts)) × (site ≡ offset (now counts) t) ⌝ }
     ensures { λ r. ⌜
         (now (d .exit) ≡ over (now (d .entry)) at
-        (entryBytes (now (boxes .entry)) (now (counts .entry)) (now (cues .entry)) t))
+        (entryBytes axes (now (boxes .entry)) (now (counts .entry)) (now (cues .entry)) t))
         × (r ≡ offset (now (counts .entry)) (t + 1)) ⌝ }
 {
     let n = wide(counts[t]);
-    put_box(d, at, boxes, t);
-    put_u16(d, at + layout::COUNT_OFFSET, n);
-    put_u16(d, at + layout::MUTED_OFFSET, muted_from(cues, site, n));
+    put_box(d, at, axes, boxes, t);
+    put_u16(d, at + layout::count_offset(axes), n);
+    put_u16(
+        d,
+        at + layout::muted_offset(axes),
+        muted_from(cues, site, n),
+    );
     site + n
 }
 
@@ -63,6 +77,7 @@ fn put_entry(
 fn put_entries(
     d: &mut [u8],
     start: usize,
+    axes: usize,
     boxes: &[i32],
     counts: &[u32],
     cues: &[u32],
@@ -71,12 +86,13 @@ fn put_entries(
     site: usize,
 ) -> usize
     requires { ⌜
-        (start + entrySize axes * n ≤ length (now d)) × (numbersPerBox * (first + n) ≤ length (now boxes))
+        KnownAxes axes × (start + entrySize axes * n ≤ length (now d))
+        × (numbersPerBox axes * (first + n) ≤ length (now boxes))
         × (first + n ≤ length (now counts)) × (length (now cues) ≡ siteTotal (now counts))
         × (site ≡ offset (now counts) first) ⌝ }
     ensures { λ r. ⌜
         (now (d .exit) ≡ over (now (d .entry)) start
-        (joined (entryBytes (now (boxes .entry)) (now (counts .entry)) (now (cues .entry))) first n))
+        (joined (entryBytes axes (now (boxes .entry)) (now (counts .entry)) (now (cues .entry))) first n))
         × (r ≡ offset (now (counts .entry)) (first + n)) ⌝ }
 {
     let mut at = start;
@@ -84,8 +100,8 @@ fn put_entries(
     let mut left = n;
     let mut next = site;
     while 0 < left {
-        next = put_entry(d, at, boxes, counts, cues, t, next);
-        at += layout::ENTRY_SIZE;
+        next = put_entry(d, at, axes, boxes, counts, cues, t, next);
+        at += layout::entry_size(axes);
         t += 1;
         left -= 1;
     }
@@ -96,6 +112,7 @@ fn put_entries(
 // block's first tile start.
 fn put_directory_block(
     d: &mut [u8],
+    axes: usize,
     boxes: &[i32],
     counts: &[u32],
     cues: &[u32],
@@ -103,27 +120,29 @@ fn put_directory_block(
     site: usize,
 ) -> usize
     requires { ⌜
-        (blockSize * p + blockSize ≤ length (now d)) × (length (now boxes) ≡ numbersPerBox * length (now counts))
-        × (length (now counts) ≤ maxTiles) × (p < directoryBlocks (headerOf (now counts)))
+        KnownAxes axes × (blockSize * p + blockSize ≤ length (now d))
+        × (length (now boxes) ≡ numbersPerBox axes * length (now counts))
+        × (length (now counts) ≤ maxTiles) × (p < directoryBlocks (headerOf axes (now counts)))
         × (length (now cues) ≡ siteTotal (now counts)) × (site ≡ offset (now counts) (entriesPerBlock axes * p)) ⌝ }
     ensures { λ r. ⌜
         (now (d .exit) ≡ over (now (d .entry)) (blockSize * p)
-        (directoryBytes (now (boxes .entry)) (now (counts .entry)) (now (cues .entry)) p))
+        (directoryBytes axes (now (boxes .entry)) (now (counts .entry)) (now (cues .entry)) p))
         × (r ≡ offset (now (counts .entry))
-        (entriesPerBlock axes * p + entriesDue (headerOf (now (counts .entry))) p)) ⌝ }
+        (entriesPerBlock axes * p + entriesDue (headerOf axes (now (counts .entry))) p)) ⌝ }
 {
     let at = layout::BLOCK_SIZE * p;
-    let n = entries_due(header_of(counts), p);
-    let used = entry_offset(n);
-    put_head(d, at, layout::DIRECTORY_KIND, p, n, counts.len());
+    let n = entries_due(header_of(axes, counts), p);
+    let used = entry_offset(axes, n);
+    put_head(d, at, layout::directory_kind(axes), p, n, counts.len());
     put_zeros(d, at + layout::RESERVED_AT, at + layout::PAYLOAD_AT);
     let next = put_entries(
         d,
         at + layout::PAYLOAD_AT,
+        axes,
         boxes,
         counts,
         cues,
-        layout::ENTRIES_PER_BLOCK * p,
+        layout::entries_per_block(axes) * p,
         n,
         site,
     );
@@ -133,21 +152,21 @@ fn put_directory_block(
 }
 
 // All directory blocks.
-pub fn put_directory(d: &mut [u8], boxes: &[i32], counts: &[u32], cues: &[u32])
+pub fn put_directory(d: &mut [u8], axes: usize, boxes: &[i32], counts: &[u32], cues: &[u32])
     requires { ⌜
-        (blockSize * directoryBlocks (headerOf (now counts)) ≤ length (now d))
-        × (length (now boxes) ≡ numbersPerBox * length (now counts)) × (length (now counts) ≤ maxTiles)
+        KnownAxes axes × (blockSize * directoryBlocks (headerOf axes (now counts)) ≤ length (now d))
+        × (length (now boxes) ≡ numbersPerBox axes * length (now counts)) × (length (now counts) ≤ maxTiles)
         × (length (now cues) ≡ siteTotal (now counts)) ⌝ }
     ensures { λ _. ⌜
         now (d .exit) ≡ over (now (d .entry)) 0
-        (joined (directoryBytes (now (boxes .entry)) (now (counts .entry)) (now (cues .entry))) 0
-        (directoryBlocks (headerOf (now (counts .entry))))) ⌝ }
+        (joined (directoryBytes axes (now (boxes .entry)) (now (counts .entry)) (now (cues .entry))) 0
+        (directoryBlocks (headerOf axes (now (counts .entry))))) ⌝ }
 {
     let mut p = 0;
     let mut site = 0;
-    let mut left = directory_blocks(header_of(counts));
+    let mut left = directory_blocks(header_of(axes, counts));
     while 0 < left {
-        site = put_directory_block(d, boxes, counts, cues, p, site);
+        site = put_directory_block(d, axes, boxes, counts, cues, p, site);
         p += 1;
         left -= 1;
     }

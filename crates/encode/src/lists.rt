@@ -3,12 +3,18 @@ ghost use mathlib.Core.Path.{_≡_};
 ghost use Prim.Native.Nat.{_+_, _<_, _≤_};
 ghost use lib.ListN.{length};
 ghost use Rattle.codec.specs.Number.{limit32};
-ghost use Rattle.encode.specs.Supply.{headerOf, mutedFrom};
+ghost use Rattle.geometry.specs.Axes.{KnownAxes};
+ghost use Rattle.encode.specs.Supply.{headerOf, numbersPerBox, mutedFrom};
 use blocks::header::Header;
-use blocks::layout::AXES;
 use tiles::tile::MUTED_CUE;
 
-pub const NUMBERS_PER_BOX: usize = 2 * AXES;
+// How many numbers a box has.
+pub fn numbers_per_box(axes: usize) -> usize
+    requires { ⌜ KnownAxes axes ⌝ }
+    ensures { λ r. ⌜ r ≡ numbersPerBox axes ⌝ }
+{
+    2 * axes
+}
 
 pub fn wide(n: u32) -> usize
     ensures { λ r. ⌜ (r ≡ n) × (r < limit32) ⌝ }
@@ -16,11 +22,11 @@ pub fn wide(n: u32) -> usize
     n as usize
 }
 
-pub fn header_of(counts: &[u32]) -> Header
-    ensures { λ r. ⌜ (r ≡ headerOf (now (counts .entry))) × (r .tiles ≡ length (now (counts .entry))) ⌝ }
+pub fn header_of(axes: usize, counts: &[u32]) -> Header
+    ensures { λ r. ⌜ r ≡ headerOf axes (now (counts .entry)) ⌝ }
 {
     let tiles = counts.len();
-    Header { tiles }
+    Header { tiles, axes }
 }
 
 // How many of n sites from site `first` on are muted.

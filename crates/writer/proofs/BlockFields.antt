@@ -15,26 +15,27 @@ use Rattle.base.specs.Tabulate.{tabulate, joined}
 use Rattle.blocks.specs.Block.{positionIn, entriesIn, headerIn}
 use Rattle.blocks.specs.Checksum.{sums, checkAgrees}
 use Rattle.blocks.specs.Directory.{entryOffset, entryNumber, entryBox, entryCount, entryMuted}
-use Rattle.blocks.specs.Layout.{axes, positionAt, entriesAt, tilesAt, countOffset, blockSize, syncByte, kindAt}
+use Rattle.blocks.specs.Layout.{positionAt, entriesAt, tilesAt, countOffset, blockSize, syncByte, kindAt}
 use Rattle.blocks.specs.Layout.{numberOffset, reservedAt, cueOffset, payloadAt, checkAt, mutedOffset}
 use Rattle.blocks.specs.declared.checksum.Sums.{Sums}
 use Rattle.codec.specs.Bytes.{bytes, bytes16, bytes32, bytesSigned}
 use Rattle.codec.specs.Zeros.{zeros}
-use Rattle.codec.specs.Number.{limit16, Bytes}
+use Rattle.codec.specs.Number.{limit16, Bytes, i32At}
 use Rattle.encode.specs.Encode.{headBytes, checkBytes, bodyBytes, blockBytes, boxBytes, entryBytes, siteBytes}
 use Rattle.encode.specs.Supply.{numbersPerBox, boxNumber, boxOf, countOf, offset, mutedOf, suppliedSite}
 use Rattle.geometry.specs.Around.{row}
-use Rattle.tiles.specs.Tile.{siteOffset, siteIn, sitePoint}
-use Rattle.tiles.specs.declared.tile.Site.{Site}
-use Rattle.base.proofs.Tabulate.{getD-tabulate}
+use Rattle.tiles.specs.Tile.{Site, siteOffset, siteIn}
+use Rattle.base.proofs.Joined.{length-joined}
+use Rattle.base.proofs.Tabulate.{getD-tabulate, tabulate-same}
 use Rattle.base.proofs.Tests.{and-both, both-and}
 use Rattle.codec.proofs.Bytes.{read-16, read-32, read-signed, held-16, held-32, held-signed}
 use Rattle.codec.proofs.Holds.{Holds, holds-run, holds-cons, holds-head, holds-tail, holds-left, holds-right}
 use Rattle.codec.proofs.Holds.{holds-append, holds-each, holds-joined, zeros-held, held-zeros}
-use Rattle.base.proofs.Lists.{two}
-use Rattle.encode.proofs.EncodeLaws.{length-head, length-body, sums-body}
+use Rattle.geometry.proofs.Theorems.{row-axes}
+use Rattle.encode.proofs.EncodeLaws.{length-head, length-number, length-box, length-box-count, length-body, sums-body}
 use Rattle.encode.proofs.SupplyLaws.{muted-most}
-use Rattle.writer.specs.Made.{Signed, Unsigned, boxNumbers}
+use Rattle.writer.specs.Made.{Signed, Unsigned}
+use Rattle.writer.proofs.BoxNumbers.{tabulate-whole, ends-same, ends-only}
 
 pub record Fields (s : List ℕ) (kind p n t : ℕ) (payload : List ℕ) : Type 0 where
   pub sync : getD s 0 0 ≡ syncByte
@@ -145,57 +146,63 @@ module _ (s : List ℕ) (size : length s ≡ blockSize) where
           holds-append s 0 body (checkBytes body) e b (check-held body m b (g .check))
 
 -- ---- the entry of tile t, as entry i of a block
-module _ (s : List ℕ) (i : ℕ) (boxes : List ℤ) (counts cues : List ℕ) (t : ℕ) where
+module _ (a : ℕ) (s : List ℕ) (i : ℕ) (boxes : List ℤ) (counts cues : List ℕ) (t : ℕ) where
   abbrev end : ℕ → List ℕ
-  end n = bytesSigned (boxNumber boxes t n)
+  end n = bytesSigned (boxNumber a boxes t n)
 
-  box-read : Signed boxes → Holds s (entryOffset i) (boxBytes boxes t) → entryBox s i ≡ boxOf boxes t
-  unfolding boxBytes entryBox boxOf tabulate bytesSigned bytes32 bytes
+  box-read : Signed boxes → Holds s (entryOffset a i) (boxBytes a boxes t) → entryBox a s i ≡ boxOf a boxes t
+  unfolding boxBytes entryBox boxOf
   box-read signed h =
-      let x : (n : ℕ) → n < numbersPerBox → entryNumber s i n ≡ boxNumber boxes t (0 + n) = λ n l. read-signed s _
-      (signed _) (holds-each s end 4 (entryOffset i) 0 numbersPerBox (λ k m. refl) h n l) in
-      rw (x 0 (lit< tt), x 1 (lit< tt), x 2 (lit< tt), x 3 (lit< tt))
+      ends-same a (entryNumber a s i) (boxNumber a boxes t) (λ n l. read-signed s _ (signed _)
+      (holds-run (holds-each s end 4 (entryOffset a i) 0 (numbersPerBox a)
+      (λ k m. length-number (boxNumber a boxes t (0 + k))) h n l) (ap end (zero-add n))))
 
-  box-held : Bytes s → entryBox s i ≡ boxOf boxes t → Holds s (entryOffset i) (boxBytes boxes t)
-  unfolding boxBytes entryBox boxOf boxNumbers tabulate bytesSigned bytes32 bytes
+  box-held : Bytes s → entryBox a s i ≡ boxOf a boxes t → Holds s (entryOffset a i) (boxBytes a boxes t)
+  unfolding boxBytes entryBox boxOf
   box-held byte e =
-      holds-joined s end 4 (entryOffset i) 0 numbersPerBox (λ k m. refl)
-      (λ n l. holds-run (held-signed s (entryOffset i + numberOffset n) byte)
-      (ap (λ k. bytesSigned (entryNumber s i k)) (sym (zero-add n))
-      ∙ ap bytesSigned (sym (getD-tabulate (entryNumber s i) (pos 0) 0 numbersPerBox n l)
-      ∙ ap (λ b. getD (boxNumbers b) n (pos 0)) e ∙ getD-tabulate (boxNumber boxes t) (pos 0) 0 numbersPerBox n l)))
+      holds-joined s end 4 (entryOffset a i) 0 (numbersPerBox a) (λ k m. length-number (boxNumber a boxes t (0 + k)))
+      (λ n l. holds-run (held-signed s (entryOffset a i + numberOffset n) byte)
+      (ap bytesSigned (ends-only a (entryNumber a s i) (boxNumber a boxes t) e n l) ∙ ap end (sym (zero-add n))))
+
+  -- where the count and the muted number stand
+  count-at : entryOffset a i + countOffset a ≡ entryOffset a i + length (boxBytes a boxes t)
+  count-at = ap (λ k. entryOffset a i + k) (sym (length-box a boxes counts cues t))
+
+  muted-at : entryOffset a i + mutedOffset a
+      ≡ entryOffset a i + length (boxBytes a boxes t ++ bytes16 (countOf counts t))
+  muted-at = ap (λ k. entryOffset a i + k) (sym (length-box-count a boxes counts cues t))
 
   pub entry-read : Signed boxes → countOf counts t < limit16 →
-      Holds s (entryOffset i) (entryBytes boxes counts cues t) →
-      (entryBox s i ≡ boxOf boxes t)
-      × (entryCount s i ≡ countOf counts t)
-      × (entryMuted s i ≡ mutedOf counts cues t)
-  unfolding entryCount entryMuted entryBytes boxBytes joined bytesSigned bytes32 bytes16 bytes
+      Holds s (entryOffset a i) (entryBytes a boxes counts cues t) →
+      (entryBox a s i ≡ boxOf a boxes t)
+      × (entryCount a s i ≡ countOf counts t)
+      × (entryMuted a s i ≡ mutedOf counts cues t)
+  unfolding entryCount entryMuted entryBytes
   entry-read signed small h =
-      let at = entryOffset i in
-      let four = boxBytes boxes t in
+      let at = entryOffset a i in
+      let box = boxBytes a boxes t in
       let count = bytes16 (countOf counts t) in
       let muted = bytes16 (mutedOf counts cues t) in
-      let g = holds-left s at (four ++ count) muted h in
+      let g = holds-left s at (box ++ count) muted h in
       let most = muted-most cues (offset counts t) (countOf counts t) in
       let few : mutedOf counts cues t < limit16 = omega (arith, most) in (
-        box-read signed (holds-left s at four count g),
-        read-16 s (at + countOffset axes) small (holds-right s at four count refl g),
-        read-16 s (at + mutedOffset axes) few (holds-right s at (four ++ count) muted refl h),
+        box-read signed (holds-left s at box count g),
+        read-16 s (at + countOffset a) small (holds-right s at box count count-at g),
+        read-16 s (at + mutedOffset a) few (holds-right s at (box ++ count) muted muted-at h),
       )
 
-  pub entry-held : Bytes s → entryBox s i ≡ boxOf boxes t → entryCount s i ≡ countOf counts t →
-      entryMuted s i ≡ mutedOf counts cues t → Holds s (entryOffset i) (entryBytes boxes counts cues t)
-  unfolding entryCount entryMuted entryBytes boxBytes joined bytesSigned bytes32 bytes16 bytes
-  entry-held byte box number muted-number =
-      let at = entryOffset i in
-      let four = boxBytes boxes t in
+  pub entry-held : Bytes s → entryBox a s i ≡ boxOf a boxes t → entryCount a s i ≡ countOf counts t →
+      entryMuted a s i ≡ mutedOf counts cues t → Holds s (entryOffset a i) (entryBytes a boxes counts cues t)
+  unfolding entryCount entryMuted entryBytes
+  entry-held byte box-same number muted-number =
+      let at = entryOffset a i in
+      let box = boxBytes a boxes t in
       let count = bytes16 (countOf counts t) in
       let muted = bytes16 (mutedOf counts cues t) in
-      let g = holds-append s at four count refl (box-held byte box)
-      (holds-run (held-16 s (at + countOffset axes) byte) (ap bytes16 number)) in
-      holds-append s at (four ++ count) muted refl g
-      (holds-run (held-16 s (at + mutedOffset axes) byte) (ap bytes16 muted-number))
+      let g = holds-append s at box count count-at (box-held byte box-same)
+      (holds-run (held-16 s (at + countOffset a) byte) (ap bytes16 number)) in
+      holds-append s at (box ++ count) muted muted-at g
+      (holds-run (held-16 s (at + mutedOffset a) byte) (ap bytes16 muted-number))
 
 -- ---- site i of the lists, as the site of a slot of a block
 pub row-signed : (spots : List (List ℤ)) → All Signed spots → (i : ℕ) → Signed (row spots i)
@@ -204,37 +211,46 @@ row-signed [] h i axis = lit< tt
 row-signed (c ∷ spots) h i zero = h .0 i
 row-signed (c ∷ spots) h i (suc axis) = row-signed spots (h .1) i axis
 
-pub supplied-point : (spots : List (List ℤ)) (cues : List ℕ) (i : ℕ) → length spots ≡ axes →
-    sitePoint (suppliedSite spots cues i) ≡ row spots i
-unfolding row
-supplied-point spots cues i h = rw (two spots [] h)
-
 module _ (s : List ℕ) (slot : ℕ) (spots : List (List ℤ)) (cues : List ℕ) (i : ℕ) where
-  pub site-read : Signed (row spots i) → Unsigned cues → Holds s (siteOffset slot) (siteBytes spots cues i) →
-      siteIn s slot ≡ suppliedSite spots cues i
-  unfolding siteIn siteBytes joined bytesSigned bytes32 bytes
-  site-read sp sc h =
-      let at = siteOffset slot in
-      let x = bytesSigned (getD (row spots i) 0 (pos 0)) in
-      let y = bytesSigned (getD (row spots i) 1 (pos 0)) in
-      let c = bytes32 (getD cues i 0) in
-      let g = holds-left s at (x ++ y) c h in
-      let e₀ = read-signed s at (sp 0) (holds-left s at x y g) in
-      let e₁ = read-signed s (at + 4) (sp 1) (holds-right s at x y refl g) in
-      let e₂ = read-32 s (at + cueOffset axes) (sc i) (holds-right s at (x ++ y) c refl h) in
-      rw (e₀, e₁, e₂)
+  abbrev axes : ℕ
+  axes = length spots
 
-  pub site-held : Bytes s → siteIn s slot ≡ suppliedSite spots cues i →
-      Holds s (siteOffset slot) (siteBytes spots cues i)
-  unfolding siteIn siteBytes joined bytesSigned bytes32 bytes
-  site-held byte e =
-      let at = siteOffset slot in
-      let x = bytesSigned (getD (row spots i) 0 (pos 0)) in
-      let y = bytesSigned (getD (row spots i) 1 (pos 0)) in
+  abbrev at : ℕ
+  at = siteOffset axes slot
+
+  abbrev number : ℕ → List ℕ
+  number axis = bytesSigned (getD (row spots i) axis (pos 0))
+
+  wide : (k : ℕ) → k < axes → length (number (0 + k)) ≡ 4
+  wide k l = length-number (getD (row spots i) (0 + k) (pos 0))
+
+  cue-at : at + cueOffset axes ≡ at + length (joined number 0 axes)
+  cue-at = ap (λ k. at + k) (sym (length-joined number 4 0 axes wide))
+
+  pub site-read : Signed (row spots i) → Unsigned cues → Holds s at (siteBytes axes spots cues i) →
+      siteIn axes s slot ≡ suppliedSite spots cues i
+  unfolding siteIn siteBytes
+  site-read signed unsigned h =
       let c = bytes32 (getD cues i 0) in
-      let e₀ = ap (λ (q : Site). q .x) e in
-      let e₁ = ap (λ (q : Site). q .y) e in
-      let e₂ = ap (λ (q : Site). q .cue) e in
-      let g = holds-append s at x y refl (holds-run (held-signed s at byte) (ap bytesSigned e₀))
-      (holds-run (held-signed s (at + 4) byte) (ap bytesSigned e₁)) in
-      holds-append s at (x ++ y) c refl g (holds-run (held-32 s (at + cueOffset axes) byte) (ap bytes32 e₂))
+      let g = holds-left s at (joined number 0 axes) c h in
+      let point : tabulate (λ axis. i32At s (at + numberOffset axis)) 0 axes ≡ row spots i =
+      tabulate-same (λ axis. i32At s (at + numberOffset axis)) (λ axis. getD (row spots i) axis (pos 0)) 0 axes
+      (λ axis l. let z = zero-add axis in
+      rw z (read-signed s _ (signed axis) (holds-run (holds-each s number 4 at 0 axes wide g axis l) (ap number z))))
+      ∙ tabulate-whole (row spots i) (pos 0) axes (row-axes spots i) in
+      rw (
+        point,
+        read-32 s (at + cueOffset axes) (unsigned i)
+            (holds-right s at (joined number 0 axes) c cue-at h),
+      )
+
+  pub site-held : Bytes s → siteIn axes s slot ≡ suppliedSite spots cues i → Holds s at (siteBytes axes spots cues i)
+  unfolding siteIn siteBytes
+  site-held byte e =
+      holds-append s at (joined number 0 axes) (bytes32 (getD cues i 0)) cue-at
+      (holds-joined s number 4 at 0 axes wide (λ axis l. let z = zero-add axis in
+      holds-run (held-signed s (at + numberOffset axis) byte)
+      (ap (λ k. bytesSigned (i32At s (at + numberOffset k))) (sym z)
+      ∙ ap bytesSigned (sym (getD-tabulate (λ axis. i32At s (at + numberOffset axis)) (pos 0) 0 axes axis l)
+      ∙ ap (λ (q : Site). getD (q .point) axis (pos 0)) e) ∙ ap number (sym z))))
+      (holds-run (held-32 s (at + cueOffset axes) byte) (ap (λ (q : Site). bytes32 (q .cue)) e))

@@ -4,6 +4,7 @@ use Prim.Native.Nat.{ℕ, _+_, _*_, _<_, _≤_}
 use mathlib.Core.Bool.{true}
 use mathlib.Core.List.{List}
 use mathlib.Core.Path.{_≡_, sym, ap, _∙_}
+use native.Mathlib.Nat.{div-le-self}
 use native.Mathlib.Omega.{arith}
 use lib.Dec.{eqb, ltb}
 use lib.IntN.{ℤ}
@@ -12,31 +13,33 @@ use borrow.Author.Tests.{eqb-true, eqb-false, eq-eqb, ltb-true, ltb-false}
 use Rattle.base.specs.Lists.{All}
 use Rattle.base.specs.Tabulate.{joined}
 use Rattle.blocks.specs.Accepted.{GoodHead, GoodDirectoryBlock}
-use Rattle.blocks.specs.Block.{headerIn, kindDue}
+use Rattle.blocks.specs.Block.{axesIn, headerIn, kindDue}
 use Rattle.blocks.specs.Directory.{directoryBlocks, entriesDue, entryOffset, entryBox, entryCount, entryMuted}
 use Rattle.blocks.specs.Directory.{directoryPadding}
-use Rattle.blocks.specs.Layout.{axes, blockSize, kindAt, tilesAt, reservedAt, payloadAt, checkAt, entrySize}
-use Rattle.blocks.specs.Layout.{entriesPerBlock, siteSize, maxSites, maxTiles, directoryKind, tileKind}
+use Rattle.blocks.specs.Layout.{blockSize, kindAt, tilesAt, reservedAt, payloadAt, checkAt, entrySize}
+use Rattle.blocks.specs.Layout.{payloadSize, entriesPerBlock, siteSize, maxSites, maxTiles, directoryKind, tileKind}
 use Rattle.blocks.specs.declared.header.Header.{Header}
 use Rattle.codec.specs.Zeros.{zeros}
 use Rattle.codec.specs.Number.{limit16, Bytes, u16At}
 use Rattle.encode.specs.Encode.{entryBytes, siteBytes, directoryBytes, tileBytes}
 use Rattle.encode.specs.Supply.{headerOf, boxOf, countOf, offset, mutedFrom, mutedOf, suppliedSite}
 use Rattle.geometry.specs.Around.{row}
+use Rattle.geometry.specs.Axes.{KnownAxes}
 use Rattle.geometry.specs.Box as geometry
 use Rattle.tiles.specs.Accepted.{GoodTileBlock}
-use Rattle.tiles.specs.Tile.{siteOffset, siteIn, sitePoint, mutedCue, mutedIn, tilePadding}
-use Rattle.tiles.specs.declared.tile.Site.{Site}
+use Rattle.tiles.specs.Tile.{Site, siteOffset, siteIn, mutedCue, mutedIn, tilePadding}
 use Rattle.base.proofs.Tests.{and-both, both-and, by-test}
 use Rattle.base.proofs.HowMany.{how-many-same}
+use Rattle.blocks.proofs.BlockLaws.{axes-of-kind}
+use Rattle.blocks.proofs.DirectoryLaws.{few-blocks}
 use Rattle.codec.proofs.Zeros.{zeros-at, zeros-hold}
 use Rattle.codec.proofs.Holds.{Holds, holds-each, holds-joined}
-use Rattle.encode.proofs.EncodeLaws.{length-entry, length-site, length-entries, length-sites, due-few, due-within}
-use Rattle.encode.proofs.EncodeLaws.{blocks-few}
+use Rattle.encode.proofs.EncodeLaws.{length-entry, length-site, length-entries, length-sites, parts-fit, due-few}
+use Rattle.encode.proofs.EncodeLaws.{due-within}
 use Rattle.encode.proofs.SupplyLaws.{muted-most}
 use Rattle.writer.specs.Made.{Signed, Unsigned}
 use Rattle.writer.proofs.BlockFields.{Fields, fields-read, fields-held, entry-read, entry-held, site-read}
-use Rattle.writer.proofs.BlockFields.{site-held, row-signed, supplied-point}
+use Rattle.writer.proofs.BlockFields.{site-held, row-signed}
 
 -- the fields that both kinds of block have in common
 module _ {s : List ℕ} {kind p : ℕ} where
@@ -55,85 +58,88 @@ module _ {s : List ℕ} {kind p : ℕ} where
 
 -- ---- a directory block
 -- its entries are those of its tiles
-abbrev pub Entries : List ℤ → List ℕ → List ℕ → List ℕ → ℕ → Type 0
-Entries boxes counts cues s p = (i : ℕ) → i < entriesDue (headerOf counts) p →
-    (entryBox s i ≡ boxOf boxes (entriesPerBlock axes * p + i))
-    × (entryCount s i ≡ countOf counts (entriesPerBlock axes * p + i))
-    × (entryMuted s i ≡ mutedOf counts cues (entriesPerBlock axes * p + i))
+abbrev pub Entries : ℕ → List ℤ → List ℕ → List ℕ → List ℕ → ℕ → Type 0
+Entries a boxes counts cues s p = (i : ℕ) → i < entriesDue (headerOf a counts) p →
+    (entryBox a s i ≡ boxOf a boxes (entriesPerBlock a * p + i))
+    × (entryCount a s i ≡ countOf counts (entriesPerBlock a * p + i))
+    × (entryMuted a s i ≡ mutedOf counts cues (entriesPerBlock a * p + i))
 
-module _ (boxes : List ℤ) (counts cues : List ℕ) (s : List ℕ) (p : ℕ) (size : length s ≡ blockSize) where
+module _ (a : ℕ) (boxes : List ℤ) (counts cues : List ℕ) (s : List ℕ) (p : ℕ) (size : length s ≡ blockSize) where
   payload : List ℕ
-  payload = joined (entryBytes boxes counts cues) (entriesPerBlock axes * p) (entriesDue (headerOf counts) p)
+  payload = joined (entryBytes a boxes counts cues) (entriesPerBlock a * p) (entriesDue (headerOf a counts) p)
 
   entries-fit : payloadAt + length payload ≤ checkAt
   unfolding payload
   entries-fit =
       omega (
         arith,
-        length-entries boxes counts cues (entriesPerBlock axes * p) (entriesDue (headerOf counts) p),
-        due-few (headerOf counts) p,
+        length-entries a boxes counts cues (entriesPerBlock a * p) (entriesDue (headerOf a counts) p),
+        parts-fit (entrySize a) (entriesDue (headerOf a counts) p) (omega arith) (due-few (headerOf a counts) p),
       )
 
-  payload-end : payloadAt + length payload ≡ entryOffset (entriesDue (headerOf counts) p)
+  payload-end : payloadAt + length payload ≡ entryOffset a (entriesDue (headerOf a counts) p)
   unfolding payload entryOffset
   payload-end =
-      let n = entriesDue (headerOf counts) p in
-      omega (arith, length-entries boxes counts cues (entriesPerBlock axes * p) n)
+      let n = entriesDue (headerOf a counts) p in
+      omega (arith, length-entries a boxes counts cues (entriesPerBlock a * p) n)
 
-  module _ (signed : Signed boxes) (few : length counts ≤ maxTiles) (here : p < directoryBlocks (headerOf counts))
-      (small : (t : ℕ) → t < length counts → countOf counts t ≤ maxSites axes)
-      (valid : (t : ℕ) → t < length counts → geometry.validBox (boxOf boxes t) ≡ true) where
-    entries-read : Holds s payloadAt payload → Entries boxes counts cues s p
+  module _ (known : KnownAxes a) (signed : Signed boxes) (few : length counts ≤ maxTiles)
+      (here : p < directoryBlocks (headerOf a counts))
+      (small : (t : ℕ) → t < length counts → countOf counts t ≤ maxSites a)
+      (valid : (t : ℕ) → t < length counts → geometry.validBox (boxOf a boxes t) ≡ true) where
+    entries-read : Holds s payloadAt payload → Entries a boxes counts cues s p
     unfolding payload entryOffset
     entries-read h i l =
-        let t = entriesPerBlock axes * p + i in
-        let k : t < length counts = omega (arith, due-within (headerOf counts) p here) in
-        entry-read s i boxes counts cues t signed (omega (arith, small t k))
-        (holds-each s (entryBytes boxes counts cues) (entrySize axes) payloadAt (entriesPerBlock axes * p)
-        (entriesDue (headerOf counts) p)
-        (λ j m. length-entry boxes counts cues (entriesPerBlock axes * p + j)) h i l)
+        let t = entriesPerBlock a * p + i in
+        let k : t < length counts = omega (arith, due-within (headerOf a counts) p here) in
+        entry-read a s i boxes counts cues t signed (omega (arith, small t k, div-le-self payloadSize (siteSize a)))
+        (holds-each s (entryBytes a boxes counts cues) (entrySize a) payloadAt (entriesPerBlock a * p)
+        (entriesDue (headerOf a counts) p)
+        (λ j m. length-entry a boxes counts cues (entriesPerBlock a * p + j)) h i l)
 
-    pub directory-read : Holds s 0 (directoryBytes boxes counts cues p) →
-        GoodDirectoryBlock s p (headerOf counts) × Entries boxes counts cues s p
+    pub directory-read : Holds s 0 (directoryBytes a boxes counts cues p) →
+        GoodDirectoryBlock s p (headerOf a counts) × Entries a boxes counts cues s p
     unfolding directoryBytes payload directoryPadding
     directory-read h =
-        let n = entriesDue (headerOf counts) p in
-        let g = fields-read s size directoryKind p n (length counts) payload entries-fit
-        (omega (arith, blocks-few (headerOf counts)))
-        (omega (arith, due-few (headerOf counts) p)) (omega arith) h in
+        let n = entriesDue (headerOf a counts) p in
+        let g = fields-read s size (directoryKind a) p n (length counts) payload entries-fit
+        (omega (arith, few-blocks (headerOf a counts) known))
+        (omega (arith, due-few (headerOf a counts) p, div-le-self payloadSize (entrySize a))) (omega arith) h in
         let e = entries-read (g .held) in
-        let tile : (i : ℕ) → i < n → entriesPerBlock axes * p + i < length counts = λ i l. omega
-        (arith, due-within (headerOf counts) p here) in (
+        let hd : GoodHead (directoryKind a) s p = head-of g in
+        let tile : (i : ℕ) → i < n → entriesPerBlock a * p + i < length counts = λ i l. omega
+        (arith, due-within (headerOf a counts) p here) in (
           record {
-            head = head-of g;
-            header = ap (λ t. record { tiles = t }) (g .tiles);
+            head = hd;
+            header = ap (λ t. record { tiles = t; axes = axesIn s }) (g .tiles)
+                ∙ ap (λ k. record { tiles = length counts; axes = k }) (axes-of-kind a s known (hd .due));
             entries = g .entries;
             padding = both-and (g .reserved) (ap (λ k. zeros s k checkAt) (sym payload-end) ∙ g .unused);
-            boxes = λ i l. rw (e i l .0) (valid (entriesPerBlock axes * p + i) (tile i l));
-            counts = λ i l. rw (e i l .1) (small (entriesPerBlock axes * p + i) (tile i l));
-            muted = λ i l. rw (e i l .1, e i l .2) (muted-most cues (offset counts (entriesPerBlock axes * p + i))
-                (countOf counts (entriesPerBlock axes * p + i)));
+            boxes = λ i l. rw (e i l .0) (valid (entriesPerBlock a * p + i) (tile i l));
+            counts = λ i l. rw (e i l .1) (small (entriesPerBlock a * p + i) (tile i l));
+            muted = λ i l. rw (e i l .1, e i l .2) (muted-most cues (offset counts (entriesPerBlock a * p + i))
+                (countOf counts (entriesPerBlock a * p + i)));
           },
           e,
         )
 
-  pub directory-held : Bytes s → GoodDirectoryBlock s p (headerOf counts) → Entries boxes counts cues s p →
-      Holds s 0 (directoryBytes boxes counts cues p)
+  pub directory-held : Bytes s → GoodDirectoryBlock s p (headerOf a counts) → Entries a boxes counts cues s p →
+      Holds s 0 (directoryBytes a boxes counts cues p)
   unfolding directoryBytes payload directoryPadding entryOffset
   directory-held byte g e =
-      let n = entriesDue (headerOf counts) p in
+      let n = entriesDue (headerOf a counts) p in
       let z = and-both _ _ (g .padding) in
-      fields-held s size directoryKind p n (length counts) payload entries-fit byte (record {
+      fields-held s size (directoryKind a) p n (length counts) payload entries-fit byte (record {
         sync = g .head .sync;
         kinds = kind-of (g .head);
         position = g .head .position;
         entries = g .entries;
         tiles = ap (λ (h : Header). h .tiles) (g .header);
         reserved = z .0;
-        held = holds-joined s (entryBytes boxes counts cues) (entrySize axes) payloadAt (entriesPerBlock axes * p) n
-            (λ j m. length-entry boxes counts cues (entriesPerBlock axes * p + j))
+        held = holds-joined s (entryBytes a boxes counts cues) (entrySize a) payloadAt (entriesPerBlock a * p) n
+            (λ j m. length-entry a boxes counts cues (entriesPerBlock a * p + j))
             (λ i l.
-            entry-held s i boxes counts cues (entriesPerBlock axes * p + i) byte (e i l .0) (e i l .1) (e i l .2));
+            entry-held a s i boxes counts cues (entriesPerBlock a * p + i) byte (e i l .0) (e i l .1) (e i l .2));
         unused = ap (λ k. zeros s k checkAt) payload-end ∙ z .1;
         check = g .head .check;
       })
@@ -162,65 +168,69 @@ module _ (s : List ℕ) where
 -- ---- a tile's block
 -- its sites are n sites of the lists from site `first` on
 abbrev pub Sites : List (List ℤ) → List ℕ → List ℕ → ℕ → ℕ → Type 0
-Sites spots cues s first n = (slot : ℕ) → slot < n → siteIn s slot ≡ suppliedSite spots cues (first + slot)
+Sites spots cues s first n = (slot : ℕ) → slot < n →
+    siteIn (length spots) s slot ≡ suppliedSite spots cues (first + slot)
 
 -- so that as many of them are muted
 pub sites-muted : (spots : List (List ℤ)) (cues s : List ℕ) (first n : ℕ) → Sites spots cues s first n →
-    mutedIn s n ≡ mutedFrom cues first n
+    mutedIn (length spots) s n ≡ mutedFrom cues first n
 unfolding mutedIn mutedFrom
 sites-muted spots cues s first n e = how-many-same _ _ n (λ slot l. ap (λ (q : Site). mutedCue (q .cue)) (e slot l))
 
 module _ (spots : List (List ℤ)) (cues : List ℕ) (s : List ℕ) (p first n : ℕ) (size : length s ≡ blockSize)
-    (few : n ≤ maxSites axes) where
+    (few : n ≤ maxSites (length spots)) where
+  abbrev axes : ℕ
+  axes = length spots
+
   sites : List ℕ
-  sites = joined (siteBytes spots cues) first n
+  sites = joined (siteBytes axes spots cues) first n
 
   sites-fit : payloadAt + length sites ≤ checkAt
   unfolding sites
-  sites-fit = omega (arith, length-sites spots cues first n)
+  sites-fit = omega (arith, length-sites axes spots cues first n, parts-fit (siteSize axes) n (omega arith) few)
 
-  sites-end : payloadAt + length sites ≡ siteOffset n
+  sites-end : payloadAt + length sites ≡ siteOffset axes n
   unfolding sites siteOffset
-  sites-end = omega (arith, length-sites spots cues first n)
+  sites-end = omega (arith, length-sites axes spots cues first n)
 
-  pub tile-read : All Signed spots → length spots ≡ axes → Unsigned cues → p < limit16 → (bounds : List (List ℤ)) →
+  pub tile-read : All Signed spots → Unsigned cues → p < limit16 → (bounds : List (List ℤ)) →
       ((slot : ℕ) → slot < n → geometry.inside bounds (row spots (first + slot)) ≡ true) →
-      Holds s 0 (tileBytes spots cues p first n) →
-      GoodTileBlock s p bounds n (mutedFrom cues first n) × Sites spots cues s first n
+      Holds s 0 (tileBytes axes spots cues p first n) →
+      GoodTileBlock axes s p bounds n (mutedFrom cues first n) × Sites spots cues s first n
   unfolding tileBytes sites tilePadding siteOffset
-  tile-read sp a sc lp bounds inside h =
-      let g = fields-read s size tileKind p n 0 sites sites-fit lp (omega arith) (omega arith) h in
+  tile-read sp sc lp bounds inside h =
+      let g = fields-read s size (tileKind axes) p n 0 sites sites-fit lp
+      (omega (arith, few, div-le-self payloadSize (siteSize axes))) (omega arith) h in
       let e : Sites spots cues s first n = λ slot l. site-read s slot spots cues (first + slot)
       (row-signed spots sp (first + slot)) sc
-      (holds-each s (siteBytes spots cues) (siteSize axes) payloadAt first n (λ j m. length-site spots cues (first + j))
-      (g .held) slot l) in (
+      (holds-each s (siteBytes axes spots cues) (siteSize axes) payloadAt first n
+      (λ j m. length-site axes spots cues (first + j)) (g .held) slot l) in (
         record {
           head = head-of g;
           entries = g .entries;
           padding = both-and (tile-zeros s (g .tiles) (g .reserved)) (ap (λ k. zeros s k checkAt) (sym sites-end)
               ∙ g .unused);
-          inside = λ slot l. ap (λ (q : Site). geometry.inside bounds (sitePoint q)) (e slot l)
-              ∙ ap (geometry.inside bounds) (supplied-point spots cues (first + slot) a) ∙ inside slot l;
+          inside = λ slot l. ap (λ (q : Site). geometry.inside bounds (q .point)) (e slot l) ∙ inside slot l;
           muted-counted = sites-muted spots cues s first n e;
         },
         e,
       )
 
-  pub tile-held : Bytes s → {bounds : List (List ℤ)} {muted : ℕ} → GoodTileBlock s p bounds n muted →
-      Sites spots cues s first n → Holds s 0 (tileBytes spots cues p first n)
+  pub tile-held : Bytes s → {bounds : List (List ℤ)} {muted : ℕ} → GoodTileBlock axes s p bounds n muted →
+      Sites spots cues s first n → Holds s 0 (tileBytes axes spots cues p first n)
   unfolding tileBytes sites tilePadding siteOffset
   tile-held byte g e =
       let z = and-both _ _ (g .padding) in
       let y = tiles-zero s (z .0) in
-      fields-held s size tileKind p n 0 sites sites-fit byte (record {
+      fields-held s size (tileKind axes) p n 0 sites sites-fit byte (record {
         sync = g .head .sync;
         kinds = kind-of (g .head);
         position = g .head .position;
         entries = g .entries;
         tiles = y .0;
         reserved = y .1;
-        held = holds-joined s (siteBytes spots cues) (siteSize axes) payloadAt first n
-            (λ j m. length-site spots cues (first + j))
+        held = holds-joined s (siteBytes axes spots cues) (siteSize axes) payloadAt first n
+            (λ j m. length-site axes spots cues (first + j))
             (λ slot l. site-held s slot spots cues (first + slot) byte (e slot l));
         unused = ap (λ k. zeros s k checkAt) sites-end ∙ z .1;
         check = g .head .check;

@@ -1,4 +1,5 @@
 pub mod WriteLaws
+pub mod BoxNumbers
 pub mod BlockFields
 pub mod BlockRound
 pub mod FileLaws

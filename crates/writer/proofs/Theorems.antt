@@ -17,7 +17,7 @@ use Rattle.blocks.specs.declared.header.Header.{Header}
 use Rattle.codec.specs.Number.{Bytes}
 use Rattle.encode.specs.Document01.{fileBytes01}
 use Rattle.encode.specs.Encode.{fileBytes, fileLength}
-use Rattle.encode.specs.Supply.{Supply, headerOf, tilesOf, boxOf, countOf, siteTotal, mutedOf, siteOf}
+use Rattle.encode.specs.Supply.{Supply, axesOf, headerOf, tilesOf, boxOf, countOf, siteTotal, mutedOf, siteOf}
 use Rattle.tiles.specs.Accepted.{GoodFile}
 use Rattle.tiles.specs.Tile.{mutedCue, siteAt, sitesAt}
 use Rattle.tiles.specs.Validate.{validate}
@@ -37,13 +37,13 @@ use Rattle.writer.proofs.WriteLaws.{tests-good, tests-enough, call-acce
 -- ---- the call
 -- the writer accepts exactly good lists, where the file fits the output slice, and gives the file's length
 pub write-exactly : (s : Supply) (room n : ℕ) →
-    (writeCall s room ≡ accepted n → GoodSupply s × (fileLength (headerOf (s .counts)) ≤ room)
-    × (n ≡ fileLength (headerOf (s .counts))))
-    × (GoodSupply s × (fileLength (headerOf (s .counts)) ≤ room) × (n ≡ fileLength (headerOf (s .counts))) →
+    (writeCall s room ≡ accepted n → GoodSupply s × (fileLength (headerOf (axesOf s) (s .counts)) ≤ room)
+    × (n ≡ fileLength (headerOf (axesOf s) (s .counts))))
+    × (GoodSupply s × (fileLength (headerOf (axesOf s) (s .counts)) ≤ room) × (n ≡ fileLength (headerOf (axesOf s) (s .counts))) →
     writeCall s room ≡ accepted n)
 unfolding writeCall
 write-exactly s room n = (
-  λ e. let h = andThen-accepted (writeTests s room) (λ _. accepted (fileLength (headerOf (s .counts)))) e in
+  λ e. let h = andThen-accepted (writeTests s room) (λ _. accepted (fileLength (headerOf (axesOf s) (s .counts)))) e in
       let g = tests-good s room (h .1) in
       (g .0, g .1, sym (accepted-injective (h .2))),
   λ h. call-accepted s room (tests-enough s room (h .0) (h .1)) ∙ ap accepted (sym (h .2)),
@@ -51,7 +51,7 @@ write-exactly s room n = (
 
 -- accepted, the output slice starts with the file, and "later bytes stay"
 module _ (s : Supply) (out : List ℕ) (n : ℕ) (e : writeCall s (length out) ≡ accepted n) where
-  good : GoodSupply s × (fileLength (headerOf (s .counts)) ≤ length out) × (n ≡ fileLength (headerOf (s .counts)))
+  good : GoodSupply s × (fileLength (headerOf (axesOf s) (s .counts)) ≤ length out) × (n ≡ fileLength (headerOf (axesOf s) (s .counts)))
   good = write-exactly s (length out) n .0 e
 
   size : length (fileBytes s) ≡ n
@@ -82,7 +82,7 @@ module _ (f : List ℕ) (h : Header) where
         let k = write-exactly s (length f) (length f) .0 (m .answer) .2 in
         sym (m .bytes f refl) ∙ exit-accepted s f (m .answer) ∙ over-all f (fileBytes s) (k ∙ sym n)
 
-    made-length : length f ≡ fileLength (headerOf (s .counts))
+    made-length : length f ≡ fileLength (headerOf (axesOf s) (s .counts))
     made-length = write-exactly s (length f) (length f) .0 (m .answer) .2
 
     made-holds : Holds f 0 (fileBytes s)
@@ -96,15 +96,15 @@ module _ (f : List ℕ) (h : Header) where
   makes : Bytes f → GoodFile f h → Made f h (supplyOf f h)
   makes byte g =
       let s = supplyOf f h in
-      let k : headerOf (s .counts) ≡ h = header-own f h in
+      let k : headerOf (axesOf s) (s .counts) ≡ h = header-own f h in
       let good = good-own f h g in
-      let n : length f ≡ fileLength (headerOf (s .counts)) = good-length g ∙ ap fileLength (sym k) in
-      let held = good-holds f s byte (rw k g) (reads-own f h) in
+      let n : length f ≡ fileLength (headerOf (axesOf s) (s .counts)) = good-length g ∙ ap fileLength (sym k) in
+      let held = good-holds f s byte (rw k g) (rw k (reads-own f h)) in
       let l : length (fileBytes s) ≡ length f = length-file s (good .counts) ∙ sym n in
       let e : writeCall s (length f) ≡ accepted (length f) = write-exactly s (length f) (length f) .1
       (good, omega (arith, n), n) in
       record {
-        typed = typed-own f h byte;
+        typed = typed-own f h byte (g .directory .axes);
         header = k;
         answer = e;
         bytes = λ out q. exit-accepted s out (ap (writeCall s) q ∙ e) ∙ over-all out (fileBytes s) (q ∙ sym l)
@@ -123,29 +123,29 @@ module _ (f : List ℕ) (h : Header) where
 
   -- reading back what was written gives the same boxes, counts, muted numbers and sites
   module _ (s : Supply) (m : Made f h s) where
-    made-reads : Reads f s
+    made-reads : Reads f (headerOf (axesOf s) (s .counts)) s
     made-reads = written-reads s (made-good s m) (m .typed) f (made-length s m) (made-holds s m)
 
     pub read-back : (t : ℕ) → t < h .tiles →
-        (boxAt f t ≡ boxOf (s .boxes) t)
-        × (countAt f t ≡ countOf (s .counts) t)
-        × (mutedAt f t ≡ mutedOf (s .counts) (s .cues) t)
+        (boxAt f h t ≡ boxOf (axesOf s) (s .boxes) t)
+        × (countAt f h t ≡ countOf (s .counts) t)
+        × (mutedAt f h t ≡ mutedOf (s .counts) (s .cues) t)
         × (sitesAt f h t ≡ tabulate (siteOf s t) 0 (countOf (s .counts) t))
     unfolding sitesAt
     read-back t l =
-        let r = made-reads in
         let k = m .header in
+        let r : Reads f h s = rw k at made-reads in
         let n : t < tilesOf s = rw (ap (λ (h : Header). h .tiles) k) l in (
           r .box t n,
           r .count t n,
-          written-muted s (made-good s m) (m .typed) f (made-length s m) (made-holds s m) t n,
+          rw k at (written-muted s (made-good s m) (m .typed) f (made-length s m) (made-holds s m) t n),
           rw (r .count t n) (tabulate-same (siteAt f h t) (siteOf s t) 0 (countOf (s .counts) t)
-              (λ slot o. let z = zero-add slot in rw z (rw k at (r .site t slot n o)))),
+              (λ slot o. let z = zero-add slot in rw z (r .site t slot n o))),
         )
 
     -- and no lists but these make the file
     pub only-town : s ≡ supplyOf f h
-    only-town = only-own f s (made-good s m) made-reads (m .typed .axes) ∙ ap (supplyOf f) (m .header)
+    only-town = only-own f s (made-good s m) made-reads ∙ ap (supplyOf f) (m .header)
 
 -- 02.1 leaves old files as they were: lists without a cue 0 give the bytes of document 01
 pub bytes-like-01 : (s : Supply) → ((i : ℕ) → i < siteTotal (s .counts) → mutedCue (getD (s .cues) i 0) ≡ false) →
@@ -154,7 +154,7 @@ bytes-like-01 s sounds = file-like s sounds
 
 -- ---- the same about what the call leaves in an output slice
 module _ (s : Supply) (typed : Typed s) (out : List ℕ) (n : ℕ) (e : writeCall s (length out) ≡ accepted n) where
-  made-from : Made (take n (writeExit s out)) (headerOf (s .counts)) s
+  made-from : Made (take n (writeExit s out)) (headerOf (axesOf s) (s .counts)) s
   made-from =
       let f = take n (writeExit s out) in
       let q : f ≡ fileBytes s = written-file s out n e .0 in
@@ -171,8 +171,8 @@ module _ (s : Supply) (typed : Typed s) (out : List ℕ) (n : ℕ) (e : writeCal
       }
 
   -- what the writer leaves passes the full check
-  pub written-passes : validate (take n (writeExit s out)) ≡ accepted (headerOf (s .counts))
-  written-passes = passes (take n (writeExit s out)) (headerOf (s .counts)) s made-from
+  pub written-passes : validate (take n (writeExit s out)) ≡ accepted (headerOf (axesOf s) (s .counts))
+  written-passes = passes (take n (writeExit s out)) (headerOf (axesOf s) (s .counts)) s made-from
 
 -- two towns that differ give different files
 pub different-towns : (s r : Supply) → Typed s → Typed r → (out other : List ℕ) (n k : ℕ) →
@@ -180,7 +180,7 @@ pub different-towns : (s r : Supply) → Typed s → Typed r → (out other : Li
     writeCall r (length other) ≡ accepted k → take n (writeExit s out) ≡ take k (writeExit r other) → s ≡ r
 different-towns s r ts tr out other n k e h q =
     let f = take n (writeExit s out) in
-    let m : Made f (headerOf (s .counts)) s = made-from s ts out n e in
-    let w : Made f (headerOf (r .counts)) r = rw q (made-from r tr other k h) in
-    let t : headerOf (s .counts) ≡ headerOf (r .counts) = accepted-injective (sym (passes f _ s m) ∙ passes f _ r w) in
+    let m : Made f (headerOf (axesOf s) (s .counts)) s = made-from s ts out n e in
+    let w : Made f (headerOf (axesOf r) (r .counts)) r = rw q (made-from r tr other k h) in
+    let t : headerOf (axesOf s) (s .counts) ≡ headerOf (axesOf r) (r .counts) = accepted-injective (sym (passes f _ s m) ∙ passes f _ r w) in
     only-town f _ s m ∙ ap (supplyOf f) t ∙ sym (only-town f _ r w)

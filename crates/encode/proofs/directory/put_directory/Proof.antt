@@ -1,12 +1,13 @@
 use Prim.Native.Nat.{_+_, _*_, _<_}
 use mathlib.Core.Path.{_≡_, refl, ap, _∙_}
+use native.Mathlib.Nat.{mul-zero}
 use native.Mathlib.Omega.{arith}
 use lib.ListN.{length}
 use borrow.Author.Needs.{needs}
 use Rattle.base.specs.Over.{over}
 use Rattle.base.specs.Tabulate.{joined}
 use Rattle.blocks.specs.Directory.{directoryBlocks}
-use Rattle.blocks.specs.Layout.{axes, blockSize, entriesPerBlock}
+use Rattle.blocks.specs.Layout.{blockSize, entriesPerBlock}
 use Rattle.base.proofs.Joined.{joined-turn, joined-end}
 use Rattle.encode.specs.Encode.{directoryBytes}
 use Rattle.encode.specs.Supply.{headerOf, offset}
@@ -15,32 +16,34 @@ use Rattle.encode.proofs.directory.put_directory.Statement.{statement}
 use Rattle.encode.proofs.directory.put_directory.Tie as tie
 
 abbrev Inv-loop : tie.InvT-loop
-Inv-loop d₀ boxes counts cues p₀ site₀ left₀ d p site left =
-    (p + left ≡ directoryBlocks (headerOf counts)) × (length d ≡ length d₀)
-    × (over d (blockSize * p) (joined (directoryBytes boxes counts cues) p left)
-    ≡ over d₀ 0 (joined (directoryBytes boxes counts cues) 0 (directoryBlocks (headerOf counts))))
+Inv-loop d₀ axes boxes counts cues p₀ site₀ left₀ d p site left =
+    (p + left ≡ directoryBlocks (headerOf axes counts)) × (length d ≡ length d₀)
+    × (over d (blockSize * p) (joined (directoryBytes axes boxes counts cues) p left)
+    ≡ over d₀ 0 (joined (directoryBytes axes boxes counts cues) 0 (directoryBlocks (headerOf axes counts))))
     × (0 < left → site ≡ offset counts (entriesPerBlock axes * p))
 
 abbrev μ-loop : tie.MeasureT-loop
-μ-loop d₀ boxes counts cues p₀ site₀ left₀ d p site left = left
+μ-loop d₀ axes boxes counts cues p₀ site₀ left₀ d p site left = left
 
 header-of-requires : tie.Need-header-of-requires Inv-loop μ-loop
 header-of-requires c κs = search needs
 
 directory-blocks-requires : tie.Need-directory-blocks-requires Inv-loop μ-loop
-directory-blocks-requires c κs = search needs
+directory-blocks-requires c κs =
+    let s : tie.Start Inv-loop μ-loop = search in
+    rw (c .header-of .ensures) (s .pre .0, omega (arith, s .pre .3))
 
 loop-holds : tie.Need-loop-holds Inv-loop μ-loop
 unfolding offset
 loop-holds c =
     let a : tie.Start Inv-loop μ-loop = search in
     let h : tie.After-header-of Inv-loop μ-loop = search in
-    let e = c .directory-blocks .ensures .0 ∙ ap directoryBlocks (h .header-of .ensures .0) in (
+    let e = c .directory-blocks .ensures .0 ∙ ap directoryBlocks (h .header-of .ensures) in (
       omega (arith, e),
       search needs,
       ap (λ k. over (a .args .d .now) 0
-          (joined (directoryBytes (a .args .boxes .now) (a .args .counts .now) (a .args .cues .now)) 0 k)) e,
-      λ some. refl,
+          (joined (directoryBytes (a .args .axes) (a .args .boxes .now) (a .args .counts .now) (a .args .cues .now)) 0 k)) e,
+      λ some. rw (mul-zero (entriesPerBlock (a .args .axes))),
     )
 
 put-directory-block-requires : tie.Need-put-directory-block-requires Inv-loop μ-loop
@@ -48,12 +51,13 @@ put-directory-block-requires c κs =
     let s : tie.Start Inv-loop μ-loop = search in
     let l : tie.At-loop Inv-loop μ-loop = search in
     let i : tie.In-loop Inv-loop μ-loop = search in
-    let below : l .loop .p < directoryBlocks (headerOf (s .args .counts .now)) = omega (arith, l .loop .inv .0) in (
-      omega (arith, below, s .pre .0, l .loop .inv .1),
-      s .pre .1,
+    let below : l .loop .p < directoryBlocks (headerOf (s .args .axes) (s .args .counts .now)) = omega (arith, l .loop .inv .0) in (
+      s .pre .0,
+      omega (arith, below, s .pre .1, l .loop .inv .1),
       s .pre .2,
-      below,
       s .pre .3,
+      below,
+      s .pre .4,
       l .loop .inv .3 (i .loop-test .taken),
     )
 
@@ -74,14 +78,14 @@ loop-again c =
     let b : tie.After-put-directory-block Inv-loop μ-loop = search in
     let p = b .put-directory-block in
     let k : length (p .last .0) ≡ length (l .loop .d) = p .kept .0 in
-    let w = length-directory-block (s .args .boxes .now) (s .args .counts .now) (s .args .cues .now) (l .loop .p) in (
+    let w = length-directory-block (s .args .axes) (s .args .boxes .now) (s .args .counts .now) (s .args .cues .now) (l .loop .p) in (
       omega (arith, l .loop .inv, i .loop-test),
       omega (arith, k, l .loop .inv),
-      joined-turn (directoryBytes (s .args .boxes .now) (s .args .counts .now) (s .args .cues .now)) (l .loop .d)
+      joined-turn (directoryBytes (s .args .axes) (s .args .boxes .now) (s .args .counts .now) (s .args .cues .now)) (l .loop .d)
           (blockSize * l .loop .p) (blockSize * (l .loop .p + 1)) (l .loop .p)
           (l .loop .left) (search needs) (p .ensures .0) (omega (arith, w)) ∙ l .loop .inv .2,
       λ some. p .ensures .1
-          ∙ ap (offset (s .args .counts .now)) (due-next (headerOf (s .args .counts .now)) (l .loop .p)
+          ∙ ap (offset (s .args .counts .now)) (due-next (headerOf (s .args .axes) (s .args .counts .now)) (l .loop .p)
           (omega (arith, l .loop .inv .0, some))),
     )
 
@@ -92,7 +96,7 @@ returns : tie.Need-returns Inv-loop μ-loop
 returns c =
     let s : tie.Start Inv-loop μ-loop = search in
     let l : tie.At-loop Inv-loop μ-loop = search in
-    joined-end (directoryBytes (s .args .boxes .now) (s .args .counts .now) (s .args .cues .now)) (l .loop .d)
+    joined-end (directoryBytes (s .args .axes) (s .args .boxes .now) (s .args .counts .now) (s .args .cues .now)) (l .loop .d)
     (blockSize * l .loop .p) (l .loop .p) (l .loop .left) (search needs)
     ∙ l .loop .inv .2
 

@@ -1,66 +1,91 @@
-use Prim.Native.Nat.{ℕ, _+_, _*_}
+use Prim.Native.Nat.{_+_, _*_, _≤_}
+use mathlib.Core.Path.{_≡_, ap}
 use native.Mathlib.Nat.{add-zero}
-use lib.IntN.{ℤ, pos}
-use lib.ListN.{getD}
+use native.Mathlib.Omega.{arith}
+use lib.ListN.{length}
 use borrow.Author.Needs.{needs}
 use Rattle.base.specs.Tabulate.{tabulate}
 use Rattle.encode.specs.Supply.{numbersPerBox, boxOf}
-use Rattle.codec.proofs.Number.{local-i32}
 use Rattle.writer.proofs.supply.box_of.Statement.{statement}
 use Rattle.writer.proofs.supply.box_of.Tie as tie
 
+-- where the numbers of the box start, and that they lie in the list
+first : (c : tie.After-numbers-per-box) →
+    c .numbers-per-box .result * c .before .args .t ≡ numbersPerBox (c .before .args .axes) * c .before .args .t
+first c = ap (λ n. n * c .before .args .t) (c .numbers-per-box .ensures)
+
+room : (c : tie.After-numbers-per-box) →
+    c .numbers-per-box .result * c .before .args .t + numbersPerBox (c .before .args .axes)
+    ≤ length (c .before .args .boxes .now)
+room c = omega (arith, first c, c .before .pre .1)
+
+numbers-per-box-requires : tie.Need-numbers-per-box-requires
+numbers-per-box-requires c κs = search needs
+
 mul-b : tie.Need-mul-b
-mul-b c = search needs
+mul-b c = let r = room search in search needs
 
-mul-low-x : tie.Need-mul-low-x
-mul-low-x c = search needs
+add-axis-of : tie.Need-add-axis-of
+add-axis-of c = let r = room search in search needs
 
-shared-slice-copy-out-low-x : tie.Need-shared-slice-copy-out-low-x
-shared-slice-copy-out-low-x c = search needs
+axis-of-requires : tie.Need-axis-of-requires
+axis-of-requires c κs = let r = room search in search needs
 
-add-low-y : tie.Need-add-low-y
-add-low-y c = search needs
+add-axis-of-2 : tie.Need-add-axis-of-2
+add-axis-of-2 c = let r = room search in search needs
 
-mul-low-y : tie.Need-mul-low-y
-mul-low-y c = search needs
+add-axis-of-3 : tie.Need-add-axis-of-3
+add-axis-of-3 c = let r = room search in search needs
 
-shared-slice-copy-out-low-y : tie.Need-shared-slice-copy-out-low-y
-shared-slice-copy-out-low-y c = search needs
+axis-of-requires-2 : tie.Need-axis-of-requires-2
+axis-of-requires-2 c κs = let r = room search in search needs
 
-add-high-x : tie.Need-add-high-x
-add-high-x c = search needs
+add-axis-of-4 : tie.Need-add-axis-of-4
+add-axis-of-4 c = let r = room search in search needs
 
-mul-high-x : tie.Need-mul-high-x
-mul-high-x c = search needs
+add-axis-of-5 : tie.Need-add-axis-of-5
+add-axis-of-5 c = let r = room search in search needs
 
-shared-slice-copy-out-high-x : tie.Need-shared-slice-copy-out-high-x
-shared-slice-copy-out-high-x c = search needs
+axis-of-requires-3 : tie.Need-axis-of-requires-3
+axis-of-requires-3 c κs = let r = room search in search needs
 
-add-high-y : tie.Need-add-high-y
-add-high-y c = search needs
+add-axis-of-6 : tie.Need-add-axis-of-6
+add-axis-of-6 c = let r = room search in search needs
 
-mul-high-y : tie.Need-mul-high-y
-mul-high-y c = search needs
+axis-of-requires-4 : tie.Need-axis-of-requires-4
+axis-of-requires-4 c κs = let r = room search in search needs
 
-shared-slice-copy-out-high-y : tie.Need-shared-slice-copy-out-high-y
-shared-slice-copy-out-high-y c = search needs
+add-axis-of-7 : tie.Need-add-axis-of-7
+add-axis-of-7 c = let r = room search in search needs
+
+add-axis-of-8 : tie.Need-add-axis-of-8
+add-axis-of-8 c = let r = room search in search needs
+
+axis-of-requires-5 : tie.Need-axis-of-requires-5
+axis-of-requires-5 c κs = let r = room search in search needs
 
 returns : tie.Need-returns
 unfolding boxOf tabulate
 returns c =
     let s : tie.Start = search in
-    let l : tie.After-low-x = search in
-    let z : ℕ → ℤ = λ i. getD (s .args .boxes .now) i (pos 0) in
-    let b = numbersPerBox * s .args .t in
-    simp (
-      add-zero b,
-      local-i32 (z b) (l .low-x .given),
-      local-i32 (z (b + 1)) (c .before .before .low-y .given),
-      local-i32 (z (b + 2)) (c .before .high-x .given),
-      local-i32 (z (b + 3)) (c .high-y .given),
-    )
+    let n : tie.After-numbers-per-box = search in
+    let x : tie.After-axis-of = search in
+    let y : tie.After-axis-of2 = search in
+    let e : s .args .axes ≡ 3 = omega arith in
+    simp (e, x .axis-of .ensures, y .axis-of2 .ensures, c .axis-of3 .ensures)
+    (simp (n .numbers-per-box .ensures, e, add-zero))
+
+returns-2 : tie.Need-returns-2
+unfolding boxOf tabulate
+returns-2 c =
+    let s : tie.Start = search in
+    let n : tie.After-numbers-per-box = search in
+    let x : tie.After-axis-of4 = search in
+    let e : s .args .axes ≡ 2 = omega arith in
+    simp (e, x .axis-of4 .ensures, c .axis-of5 .ensures)
+    (simp (n .numbers-per-box .ensures, e, add-zero))
 
 pub box-of-spec : {M : Type 1} → statement M
-box-of-spec = tie.close (tie.spec mul-b mul-low-x shared-slice-copy-out-low-x add-low-y mul-low-y
-    shared-slice-copy-out-low-y add-high-x mul-high-x shared-slice-copy-out-high-x add-high-y mul-high-y
-    shared-slice-copy-out-high-y returns)
+box-of-spec = tie.close (tie.spec numbers-per-box-requires mul-b add-axis-of axis-of-requires add-axis-of-2
+    add-axis-of-3 axis-of-requires-2 add-axis-of-4 add-axis-of-5 axis-of-requires-3 add-axis-of-6 axis-of-requires-4
+    add-axis-of-7 add-axis-of-8 axis-of-requires-5 returns returns-2)

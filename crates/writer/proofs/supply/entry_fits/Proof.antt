@@ -18,6 +18,9 @@ shared-slice-read-wide c = search needs
 wide-requires : tie.Need-wide-requires
 wide-requires c κs = search needs
 
+max-sites-requires : tie.Need-max-sites-requires
+max-sites-requires c κs = search needs
+
 both-requires : tie.Need-both-requires
 both-requires c κs = search needs
 
@@ -26,8 +29,10 @@ unfolding entryFits
 returns c =
     let b : tie.After-box-of = search in
     let v : tie.After-valid-box = search in
-    simp (c .both .ensures, c .before .wide .ensures .0, v .valid-box .ensures, b .box-of .ensures)
+    let w : tie.After-wide = search in
+    let m = c .before .max-sites .ensures in
+    simp (c .both .ensures, w .wide .ensures .0, m, v .valid-box .ensures, b .box-of .ensures)
 
 pub entry-fits-spec : {M : Type 1} → statement M
 entry-fits-spec = tie.close (tie.spec box-of-requires valid-box-requires mul-wide shared-slice-read-wide wide-requires
-    both-requires returns)
+    max-sites-requires both-requires returns)

@@ -1,7 +1,11 @@
 use lib.IntN.{pos}
-use lib.ListN.{getD}
+use mathlib.Core.List.{[], _∷_}
+use mathlib.Core.Path.{_≡_, refl}
+use lib.ListN.{getD, take}
 use borrow.Author.Needs.{needs}
 use Rattle.geometry.specs.Around.{row}
+use Rattle.geometry.specs.Box as geometry
+use Rattle.geometry.proofs.Theorems.{by-axes}
 use Rattle.codec.proofs.Number.{local-i32}
 use Rattle.writer.proofs.supply.site_fits.Statement.{statement}
 use Rattle.writer.proofs.supply.site_fits.Tie as tie
@@ -18,6 +22,12 @@ mul-y c = search needs
 shared-slice-copy-out-y : tie.Need-shared-slice-copy-out-y
 shared-slice-copy-out-y c = search needs
 
+mul-z : tie.Need-mul-z
+mul-z c = search needs
+
+shared-slice-copy-out-z : tie.Need-shared-slice-copy-out-z
+shared-slice-copy-out-z c = search needs
+
 inside-requires : tie.Need-inside-requires
 inside-requires c κs = search needs
 
@@ -25,11 +35,15 @@ returns : tie.Need-returns
 unfolding row
 returns c =
     let s : tie.Start = search in
-    let x = local-i32 (getD (s .args .xs .now) (s .args .i) (pos 0)) (c .before .before .x .given) in
-    let y = local-i32 (getD (s .args .ys .now) (s .args .i) (pos 0)) (c .before .y .given) in
-    simp (c .inside .ensures, x, y)
+    let a = s .args in
+    let x = local-i32 (getD (a .xs .now) (a .i) (pos 0)) (c .before .before .before .x .given) in
+    let y = local-i32 (getD (a .ys .now) (a .i) (pos 0)) (c .before .before .y .given) in
+    let z = local-i32 (getD (a .zs .now) (a .i) (pos 0)) (c .before .z .given) in
+    simp (c .inside .ensures, x, y, z)
+    (by-axes (λ n. geometry.inside (take n (a .bounds)) (take n (getD (a .xs .now) (a .i) (pos 0) ∷ getD (a .ys .now) (a .i) (pos 0) ∷ getD (a .zs .now) (a .i) (pos 0) ∷ []))
+    ≡ geometry.inside (take n (a .bounds)) (row (take n (a .xs .now ∷ a .ys .now ∷ a .zs .now ∷ [])) (a .i)))
+    refl refl (a .axes) (s .pre .0))
 
 pub site-fits-spec : {M : Type 1} → statement M
-site-fits-spec =
-    tie.close
-    (tie.spec mul-x shared-slice-copy-out-x mul-y shared-slice-copy-out-y inside-requires returns)
+site-fits-spec = tie.close (tie.spec mul-x shared-slice-copy-out-x mul-y shared-slice-copy-out-y mul-z
+    shared-slice-copy-out-z inside-requires returns)

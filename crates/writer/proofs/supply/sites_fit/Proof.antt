@@ -3,6 +3,7 @@ use mathlib.Core.Bool.{true}
 use mathlib.Core.List.{[], _∷_}
 use mathlib.Core.Path.{_≡_, sym}
 use native.Mathlib.Omega.{arith}
+use lib.ListN.{take}
 use borrow.Author.Count.{below-more}
 use borrow.Author.Needs.{needs}
 use Rattle.geometry.specs.Around.{row}
@@ -14,10 +15,11 @@ use Rattle.writer.proofs.supply.sites_fit.Statement.{statement}
 use Rattle.writer.proofs.supply.sites_fit.Tie as tie
 
 abbrev Inv-loop : tie.InvT-loop
-Inv-loop bounds xs ys first n i₀ i = (j : ℕ) → j < i → inside bounds (row (xs ∷ ys ∷ []) (first + j)) ≡ true
+Inv-loop axes bounds xs ys zs first n i₀ i =
+    (j : ℕ) → j < i → inside (take axes bounds) (row (take axes (xs ∷ ys ∷ zs ∷ [])) (first + j)) ≡ true
 
 abbrev μ-loop : tie.MeasureT-loop
-μ-loop bounds xs ys first n i₀ i = n - i
+μ-loop axes bounds xs ys zs first n i₀ i = n - i
 
 loop-holds : tie.Need-loop-holds Inv-loop μ-loop
 loop-holds c = λ j l. absurd (omega arith)
@@ -33,7 +35,8 @@ unfolding sitesFit
 returns c =
     let l : tie.At-loop Inv-loop μ-loop = search in
     let a = l .before .args in
-    sym (every-fails (λ slot. inside (a .bounds) (row (a .xs .now ∷ a .ys .now ∷ []) (a .first + slot))) (a .n)
+    sym (every-fails (λ slot. inside (take (a .axes) (a .bounds))
+    (row (take (a .axes) (a .xs .now ∷ a .ys .now ∷ a .zs .now ∷ [])) (a .first + slot))) (a .n)
     (l .loop .i) (search needs) (failed (c .before .site-fits .ensures) (c .if1 .taken)))
 
 add-i : tie.Need-add-i Inv-loop μ-loop
@@ -52,7 +55,8 @@ unfolding sitesFit
 returns-2 c =
     let l = c .before in
     let a = l .before .args in
-    sym (every-holds (λ slot. inside (a .bounds) (row (a .xs .now ∷ a .ys .now ∷ []) (a .first + slot))) (a .n)
+    sym (every-holds (λ slot. inside (take (a .axes) (a .bounds))
+    (row (take (a .axes) (a .xs .now ∷ a .ys .now ∷ a .zs .now ∷ [])) (a .first + slot))) (a .n)
     (λ i h. l .loop .inv i (omega arith)))
 
 pub sites-fit-spec : {M : Type 1} → statement M

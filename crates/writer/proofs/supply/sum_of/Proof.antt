@@ -1,18 +1,20 @@
 use Prim.Native.Nat.{_-_, _≤_}
 use mathlib.Core.Path.{_≡_, ap, _∙_}
+use native.Mathlib.Nat.{div-le-self}
 use native.Mathlib.Omega.{arith}
 use lib.ListN.{length}
 use borrow.Author.Needs.{needs}
+use Rattle.blocks.specs.Layout.{payloadSize, siteSize}
 use Rattle.encode.specs.Supply.{offset}
 use Rattle.encode.proofs.SupplyLaws.{offset-next, offset-small}
 use Rattle.writer.proofs.supply.sum_of.Statement.{statement}
 use Rattle.writer.proofs.supply.sum_of.Tie as tie
 
 abbrev Inv-loop : tie.InvT-loop
-Inv-loop counts sum₀ t₀ sum t = (sum ≡ offset counts t) × (t ≤ length counts)
+Inv-loop axes counts sum₀ t₀ sum t = (sum ≡ offset counts t) × (t ≤ length counts)
 
 abbrev μ-loop : tie.MeasureT-loop
-μ-loop counts sum₀ t₀ sum t = length counts - t
+μ-loop axes counts sum₀ t₀ sum t = length counts - t
 
 loop-holds : tie.Need-loop-holds Inv-loop μ-loop
 unfolding offset
@@ -31,9 +33,11 @@ add-sum : tie.Need-add-sum Inv-loop μ-loop
 add-sum c =
     let l : tie.At-loop Inv-loop μ-loop = search in
     let s : tie.Start Inv-loop μ-loop = search in
-    let few = s .pre .1 in
-    let small = offset-small (s .args .counts .now) (l .loop .t) (λ i h. few i (omega arith)) in
-    omega (arith, small, few (l .loop .t) (search needs), l .loop .inv)
+    let few = s .pre .2 in
+    let most = div-le-self payloadSize (siteSize (s .args .axes)) in
+    let small = offset-small (s .args .counts .now) payloadSize (l .loop .t)
+    (λ i h. omega (arith, few i (omega arith), most)) in
+    omega (arith, small, few (l .loop .t) (search needs), most, l .loop .inv)
 
 add-t : tie.Need-add-t Inv-loop μ-loop
 add-t c = search needs

@@ -3,10 +3,11 @@ use mathlib.Core.Bool.{true}
 use mathlib.Core.List.{[], _∷_}
 use mathlib.Core.Path.{_≡_, refl, sym, _∙_}
 use native.Mathlib.Omega.{arith}
-use lib.ListN.{length}
+use lib.ListN.{length, take}
 use borrow.Author.Count.{below-more}
 use borrow.Author.Needs.{needs}
-use Rattle.encode.specs.Supply.{offset, siteTotal}
+use Rattle.encode.specs.Supply.{numbersPerBox, offset, siteTotal}
+use Rattle.encode.proofs.EncodeLaws.{part-within}
 use Rattle.base.proofs.Every.{every-fails, every-holds}
 use Rattle.base.proofs.Tests.{passed, failed}
 use Rattle.encode.proofs.SupplyLaws.{offset-next, offset-within}
@@ -16,11 +17,11 @@ use Rattle.writer.proofs.supply.tiles_inside.Statement.{statement}
 use Rattle.writer.proofs.supply.tiles_inside.Tie as tie
 
 abbrev Inv-loop : tie.InvT-loop
-Inv-loop boxes counts xs ys t₀ first₀ t first = (first ≡ offset counts t) × (t ≤ length counts) ×
-    ((i : ℕ) → i < t → tileFits boxes counts (xs ∷ ys ∷ []) i ≡ true)
+Inv-loop axes boxes counts xs ys zs t₀ first₀ t first = (first ≡ offset counts t) × (t ≤ length counts) ×
+    ((i : ℕ) → i < t → tileFits axes boxes counts (take axes (xs ∷ ys ∷ zs ∷ [])) i ≡ true)
 
 abbrev μ-loop : tie.MeasureT-loop
-μ-loop boxes counts xs ys t₀ first₀ t first = length counts - t
+μ-loop axes boxes counts xs ys zs t₀ first₀ t first = length counts - t
 
 loop-holds : tie.Need-loop-holds Inv-loop μ-loop
 unfolding offset
@@ -36,7 +37,12 @@ wide-requires : tie.Need-wide-requires Inv-loop μ-loop
 wide-requires c κs = search needs
 
 box-of-requires : tie.Need-box-of-requires Inv-loop μ-loop
-box-of-requires c κs = search needs
+box-of-requires c κs =
+    let s : tie.Start Inv-loop μ-loop = search in
+    let l : tie.At-loop Inv-loop μ-loop = search in
+    let a = s .args in
+    let within = part-within (numbersPerBox (a .axes)) (l .loop .t) (length (a .counts .now)) (search needs) in
+    (s .pre .0, omega (arith, within, s .pre .1))
 
 -- the sites of the tile lie in the lists
 sites-within : (c : tie.After-wide Inv-loop μ-loop) →
@@ -57,17 +63,17 @@ tile-tested : (c : tie.After-sites-fit Inv-loop μ-loop) →
     let l : tie.At-loop Inv-loop μ-loop = search in
     let s : tie.Start Inv-loop μ-loop = search in
     let a = s .args in
-    c .sites-fit .result ≡ tileFits (a .boxes .now) (a .counts .now) (a .xs .now ∷ a .ys .now ∷ []) (l .loop .t)
+    c .sites-fit .result ≡ tileFits (a .axes) (a .boxes .now) (a .counts .now) (take (a .axes) (a .xs .now ∷ a .ys .now ∷ a .zs .now ∷ [])) (l .loop .t)
 tile-tested c =
     let l : tie.At-loop Inv-loop μ-loop = search in
     let w : tie.After-wide Inv-loop μ-loop = search in
-    c .sites-fit .ensures ∙ tile-test _ _ _ _ (c .before .box-of .ensures) (l .loop .inv .0) (w .wide .ensures .0)
+    c .sites-fit .ensures ∙ tile-test _ _ _ _ _ (c .before .box-of .ensures) (l .loop .inv .0) (w .wide .ensures .0)
 
 returns : tie.Need-returns Inv-loop μ-loop
 returns c =
     let l : tie.At-loop Inv-loop μ-loop = search in
     let a = l .before .before .args in
-    sym (every-fails (tileFits (a .boxes .now) (a .counts .now) (a .xs .now ∷ a .ys .now ∷ []))
+    sym (every-fails (tileFits (a .axes) (a .boxes .now) (a .counts .now) (take (a .axes) (a .xs .now ∷ a .ys .now ∷ a .zs .now ∷ [])))
     (length (a .counts .now)) (l .loop .t) (search needs) (failed (tile-tested search) (c .if1 .taken)))
 
 add-first : tie.Need-add-first Inv-loop μ-loop
@@ -93,7 +99,7 @@ returns-2 : tie.Need-returns-2 Inv-loop μ-loop
 returns-2 c =
     let l = c .before in
     let a = l .before .before .args in
-    sym (every-holds (tileFits (a .boxes .now) (a .counts .now) (a .xs .now ∷ a .ys .now ∷ []))
+    sym (every-holds (tileFits (a .axes) (a .boxes .now) (a .counts .now) (take (a .axes) (a .xs .now ∷ a .ys .now ∷ a .zs .now ∷ [])))
     (length (a .counts .now)) (λ i h. l .loop .inv .2 i (omega arith)))
 
 pub tiles-inside-spec : {M : Type 1} → statement M
