@@ -103,8 +103,8 @@ module _ {f : List ℕ} {h : Header} {cols : List (List ℤ)} {k : ℕ} {out : S
   smallest = around-smallest cols (stopCount cols) (r .args .some) (r .args .same)
       (all-points (λ p. validPoint p ≡ true) cols (stopCount cols) (r .args .valid))
 
-  pub region : ValidRegion O
-  region = record { valid = smallest .valid; axes = smallest .axes ∙ r .axes }
+  pub region : ValidRegion h O
+  region = record { valid = smallest .valid; axes = smallest .axes ∙ r .args .axes }
 
   pub run-lawful : Lawful (entries f h) O
   run-lawful = plan-lawful f h O (r .dir) (region .valid) (region .axes)
@@ -138,8 +138,8 @@ module _ {f : List ℕ} {h : Header} {cols : List (List ℤ)} {k : ℕ} {out : S
       let lm = length-over (out .marks) 0 (map (λ t. bit (pruned (entries f h) O k t)) (range 0 (h .tiles))) in
       record {
         dir = r .dir;
-        valid = all-points ValidStop cols (stopCount cols)
-            (λ i l. record { valid = a .valid i l; axes = row-axes cols i ∙ r .axes });
+        valid = all-points (ValidStop h) cols (stopCount cols)
+            (λ i l. record { valid = a .valid i l; axes = row-axes cols i ∙ a .axes });
         some = a .some-k;
         few = rw count-is few-enough;
         long = rw count-is (lay-long (out .lists) 0 (replicate n noPlace) n (a .dist, (a .site, a .cue)));

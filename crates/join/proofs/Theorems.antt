@@ -1,16 +1,16 @@
--- The theorems for the reader: demands 2 and 3 about files, answers and the lent slices. The call is `call::join`, its
--- definition `joinEnd` (specs/Join), what is claimed `Demand2` and `Demand3` (specs/Claims). f is the file, cols the
--- stops by columns, on as many axes as the town has.
+-- The theorems for the reader: demands 2 and 3 about files, answers and the lent slices. The calls are `call::join` and
+-- `call::join3`, their definition `joinEnd` (specs/Join), what is claimed `Demand2` and `Demand3` (specs/Claims). f is the file, cols the
+-- stops by columns, one for each axis of the call: two or three.
 use Prim.Native.Nat.{ℕ, suc, _+_, _*_, _<_, _≤_}
 use mathlib.Core.Bool.{true, false, _&&_}
 use mathlib.Core.List.{List, [], _∷_, map}
 use mathlib.Core.Path.{_≡_, refl, sym, ap, _∙_, subst}
 use native.Mathlib.Nat.{zero-add, mul-le-mul}
 use native.Mathlib.Omega.{arith}
-use lib.Dec.{leb}
+use lib.Dec.{eqb, leb}
 use lib.IntN.{ℤ}
 use lib.ListN.{length, getD, take, length-map}
-use borrow.Author.Tests.{le-leb}
+use borrow.Author.Tests.{le-leb, eq-eqb}
 use Rattle.base.specs.Lists.{All}
 use Rattle.base.specs.Refusal.{Outcome, accepted, refused}
 use Rattle.blocks.specs.Block.{blockAt}
@@ -19,10 +19,11 @@ use Rattle.blocks.specs.Same.{SameDirectory}
 use Rattle.blocks.specs.declared.header.Header.{Header}
 use Rattle.codec.specs.Number.{Bytes}
 use Rattle.geometry.specs.Around.{around}
+use Rattle.geometry.specs.Axes.{KnownAxes}
 use Rattle.geometry.specs.Box.{inside}
 use Rattle.list.specs.Slices.{Long, Slices, placeAt}
 use Rattle.plan.specs.Document01.{openingOf01}
-use Rattle.plan.specs.FilePlan.{axisCount, plane, entries, openingOf, townOf}
+use Rattle.plan.specs.FilePlan.{space, entries, openingOf, townOf}
 use Rattle.prune.specs.Claims.{PrunesExactly}
 use Rattle.prune.specs.Prune.{Counts, pruneCall}
 use Rattle.search.specs.Claims.{FullSearch, RunAnswers}
@@ -87,7 +88,7 @@ only-audible f h cols k = run.never-empty (entries f h) (around cols) k (opening
 -- 02.1 leaves files without muted sites as they were: where the directory has none and the tiles that are opened have
 -- no cue 0, the run is that of document 01 alone, in which every site ranks and an opening does not look at cues
 pub run-like-01 : (f : List ℕ) (h : Header) (cols : List (List ℤ)) (k : ℕ) → Bytes f
-    → ((t : ℕ) → t < h .tiles → mutedAt f t ≡ 0) → All (NoneMuted f h) (runFor f h cols k .openings)
+    → ((t : ℕ) → t < h .tiles → mutedAt f h t ≡ 0) → All (NoneMuted f h) (runFor f h cols k .openings)
     → LikeDocument01 (entries f h) (around cols) k
     × (runFor f h cols k ≡ join (entries01 (entries f h)) (around cols) k (openingOf01 f h) (stopsOf cols))
 unfolding runFor openingOf openingOf01
@@ -109,8 +110,8 @@ unfolding joinEnd tests joinFrom
 lengths-decide f cols k out out′ l = by-outcome (directory f)
     (λ h d.
     let w = run-writes f cols k h in
-    let same = ap (arguments (h .tiles) cols k) l in
-    by-outcome (arguments (h .tiles) cols k (lengthsOf out))
+    let same = ap (arguments h cols k) l in
+    by-outcome (arguments h cols k (lengthsOf out))
     (λ x a. rw (d, same, a, w .ends out, w .ends out′))
     (λ x y a. rw (d, same, a)))
     (λ x y d. rw d)
@@ -121,7 +122,7 @@ pub past-stays : (f : List ℕ) (cols : List (List ℤ)) (k : ℕ) (out : Slices
 unfolding joinEnd tests joinFrom filled
 past-stays f cols k out h d =
     let w = run-writes f cols k h in
-    rw d (by-outcome (arguments (h .tiles) cols k (lengthsOf out))
+    rw d (by-outcome (arguments h cols k (lengthsOf out))
     (λ x a. rw (a, w .ends out) (record {
       lists = λ i b. lay-after (out .lists) 0 (w .places) i (omega (arith, w .all-places));
       marks = λ t b. getD-after (out .marks) 0 t (w .marks) (omega (arith, w .all-marks));
@@ -132,26 +133,33 @@ past-stays f cols k out h d =
 module _ (f : List ℕ) (cols : List (List ℤ)) (k : ℕ) (g : List ℕ) (h : Header) (d : directory f ≡ accepted h)
     (same : SameDirectory f g h)
     (alike : All (λ t. blockAt g (tilePosition h t) ≡ blockAt f (tilePosition h t)) (runFor f h cols k .openings)) where
+  known : KnownAxes (h .axes)
+  known = directory-exactly f h .0 d .axes
+
   module _ (out : Slices) where
     ended-same : (u : List ℕ) (o : Outcome (List (List Place))) → ended g h cols k u out o ≡ ended f h cols k u out o
     unfolding ended filled
     ended-same u (accepted ls) =
         let o = around cols in
-        rw (used-depends f g h same k, pruned-count-depends f g h same o k, marks-depend f g h same o k u)
+        rw (
+          used-depends f g h known same k,
+          pruned-count-depends f g h known same o k,
+          marks-depend f g h known same o k u,
+        )
     ended-same u (refused x y) = refl
 
     run-same : runEnd g h cols k out ≡ runEnd f h cols k out
     unfolding runEnd runFor
     run-same =
         let r = runFor f h cols k in
-        rw (join-depends f g h same (around cols) k (stopsOf cols) alike) (ended-same (r .openings) (r .outcome))
+        rw (join-depends f g h known same (around cols) k (stopsOf cols) alike) (ended-same (r .openings) (r .outcome))
 
     -- with the same slices the whole end of the call is the same, refusals included
     pub other-files : joinEnd g cols k out ≡ joinEnd f cols k out
     unfolding joinEnd tests joinFrom
     other-files =
         let e = same-directory f g h d same in
-        rw (d, e) (by-outcome (arguments (h .tiles) cols k (lengthsOf out)) (λ x q. rw q run-same) (λ n b q. rw q))
+        rw (d, e) (by-outcome (arguments h cols k (lengthsOf out)) (λ x q. rw q run-same) (λ n b q. rw q))
 
   -- "for the same stops, k and output lengths", whatever the slices held before
   module _ (out out′ : Slices) (l : lengthsOf out′ ≡ lengthsOf out) where
@@ -159,8 +167,8 @@ module _ (f : List ℕ) (cols : List (List ℤ)) (k : ℕ) (g : List ℕ) (h : H
     pub same-outcome : joinEnd g cols k out′ .outcome ≡ joinEnd f cols k out .outcome
     same-outcome = ap (λ (z : End). z .outcome) (other-files out′) ∙ lengths-decide f cols k out out′ l
 
-    -- "gets an answer with the same lists, marks and counts": where tests 11 to 14 pass, of refused runs too
-    pub same-answer : arguments (h .tiles) cols k (lengthsOf out) ≡ accepted tt
+    -- "gets an answer with the same lists, marks and counts": where tests 11 to 14 and 17 pass, of refused runs too
+    pub same-answer : arguments h cols k (lengthsOf out) ≡ accepted tt
         → SameAnswer cols k h (joinEnd f cols k out) (joinEnd g cols k out′)
     same-answer a = rw (other-files out′) (answer-alike f cols k out out′ l h d a)
 
@@ -183,7 +191,7 @@ candidates-decide f cols k out g h d s =
 module _ (f : List ℕ) (cols : List (List ℤ)) (k : ℕ) (out : Slices) where
   -- a run that is refused
   module _ (h : Header) (d : directory f ≡ accepted h)
-      (a : arguments (h .tiles) cols k (lengthsOf out) ≡ accepted tt) (n p : ℕ)
+      (a : arguments h cols k (lengthsOf out) ≡ accepted tt) (n p : ℕ)
       (e : joinEnd f cols k out .outcome ≡ refused n p) where
     run-refused : runFor f h cols k .outcome ≡ refused n p
     unfolding runEnd ended
@@ -220,11 +228,11 @@ module _ (f : List ℕ) (cols : List (List ℤ)) (k : ℕ) (out : Slices) where
 
   -- Striking changes no run: with the struck tiles in the queue the same tiles are opened in the same order, with the
   -- same lists or the same refusal.
-  pub pruning-opens-alike : length cols ≡ axisCount → Bytes f → (h : Header) → directory f ≡ accepted h
-      → arguments (h .tiles) cols k (lengthsOf out) ≡ accepted tt → fullRunFor f h cols k ≡ runFor f h cols k
+  pub pruning-opens-alike : Bytes f → (h : Header) → directory f ≡ accepted h
+      → arguments h cols k (lengthsOf out) ≡ accepted tt → fullRunFor f h cols k ≡ runFor f h cols k
   unfolding runFor
-  pruning-opens-alike axes b h d a =
-      let w = run-ready f cols k out d a axes in
+  pruning-opens-alike b h d a =
+      let w = run-ready f cols k out d a in
       run.pruning-opens-alike (entries f h) (around cols) k (run-lawful w) (openingOf f h) (opening-checked f h b)
       (stopsOf cols) (smallest w .holds)
 
@@ -233,9 +241,9 @@ module _ (f : List ℕ) (cols : List (List ℤ)) (k : ℕ) (out : Slices) where
   -- "Suppose the join answers", with the result r: then all tests passed, and the run gave lists ls
   record Answered (r : Result) : Type 0 where
     h : Header
-    passed : arguments (h .tiles) cols k (lengthsOf out) ≡ accepted tt
-    args : GoodArguments (h .tiles) cols k (lengthsOf out)
-    ready : length cols ≡ axisCount → RunReady f h cols k out
+    passed : arguments h cols k (lengthsOf out) ≡ accepted tt
+    args : GoodArguments h cols k (lengthsOf out)
+    ready : RunReady f h cols k out
     dir : directory f ≡ accepted h
     ls : List (List Place)
     lists : runFor f h cols k .outcome ≡ accepted ls
@@ -243,7 +251,7 @@ module _ (f : List ℕ) (cols : List (List ℤ)) (k : ℕ) (out : Slices) where
     slices-are : joinEnd f cols k out .slices
         ≡ filled (inRows k ls) (marks (entries f h) (around cols) k (runFor f h cols k .openings)) out
 
-  from-run : (h : Header) → directory f ≡ accepted h → arguments (h .tiles) cols k (lengthsOf out) ≡ accepted tt
+  from-run : (h : Header) → directory f ≡ accepted h → arguments h cols k (lengthsOf out) ≡ accepted tt
       → (r : Result) → joinEnd f cols k out .outcome ≡ accepted r
       → (ls : List (List Place)) → runFor f h cols k .outcome ≡ accepted ls → Answered r
   unfolding runEnd ended
@@ -253,7 +261,7 @@ module _ (f : List ℕ) (cols : List (List ℤ)) (k : ℕ) (out : Slices) where
       record {
         h = h;
         passed = a;
-        args = arguments-good (h .tiles) cols k (lengthsOf out) a;
+        args = arguments-good h cols k (lengthsOf out) a;
         ready = run-ready f cols k out d a;
         dir = d;
         ls = ls;
@@ -265,7 +273,7 @@ module _ (f : List ℕ) (cols : List (List ℤ)) (k : ℕ) (out : Slices) where
   answered : (r : Result) → joinEnd f cols k out .outcome ≡ accepted r → Answered r
   unfolding joinEnd tests joinFrom runEnd ended
   answered r e = by-outcome (directory f)
-      (λ h d. by-outcome (arguments (h .tiles) cols k (lengthsOf out))
+      (λ h d. by-outcome (arguments h cols k (lengthsOf out))
       (λ x a. by-outcome (runFor f h cols k .outcome)
       (λ ls q. from-run h d a r e ls q)
       (λ n b q. accepted-refused {o = joinEnd f cols k out .outcome} {n = n} {b = b} e (rw (d, a, q))))
@@ -290,211 +298,212 @@ module _ (f : List ℕ) (cols : List (List ℤ)) (k : ℕ) (out : Slices) where
 
   -- ---- demand 3
 
-  module _ (axes : length cols ≡ axisCount) where
-    module _ (r : Result) (a : Answered r) where
-      abbrev H : Header
-      H = a .h
+  module _ (r : Result) (a : Answered r) where
+    abbrev H : Header
+    H = a .h
 
-      demand : RunAnswers (entries f H) (around cols) k (openingOf f H) (stopsOf cols) (a .ls)
-          (runFor f H cols k .openings)
-      unfolding runFor
-      demand =
-          run.demand-3 (entries f H) (around cols) k (run-lawful (a .ready axes)) (openingOf f H) (stopsOf cols)
-          (smallest (a .ready axes) .holds) (a .ls) (a .lists)
+    demand : RunAnswers (entries f H) (around cols) k (openingOf f H) (stopsOf cols) (a .ls)
+        (runFor f H cols k .openings)
+    unfolding runFor
+    demand =
+        run.demand-3 (entries f H) (around cols) k (run-lawful (a .ready)) (openingOf f H) (stopsOf cols)
+        (smallest (a .ready) .holds) (a .ls) (a .lists)
 
-      once-each : Distinct (runFor f H cols k .openings)
-      unfolding runFor
-      once-each = run.opened-once (entries f H) (around cols) k (openingOf f H) (stopsOf cols)
+    once-each : Distinct (runFor f H cols k .openings)
+    unfolding runFor
+    once-each = run.opened-once (entries f H) (around cols) k (openingOf f H) (stopsOf cols)
 
-      -- the mark of a tile, and all T marks
-      mark-left : (t : ℕ) → t < H .tiles → getD (slicesLeft f cols k out H .marks) t 0
-          ≡ getD (marks (entries f H) (around cols) k (opened f cols k out H)) t 0
-      unfolding filled marks
-      mark-left t i =
-          let m = mark (entries f H) (around cols) k (opened f cols k out H) in
-          rw (a .slices-are) (filled-at m (out .marks) (H .tiles) t (a .ready axes .args .marks) i
-          ∙ sym (marks-at (entries f H) (around cols) k (opened f cols k out H) t i))
+    -- the mark of a tile, and all T marks
+    mark-left : (t : ℕ) → t < H .tiles → getD (slicesLeft f cols k out H .marks) t 0
+        ≡ getD (marks (entries f H) (around cols) k (opened f cols k out H)) t 0
+    unfolding filled marks
+    mark-left t i =
+        let m = mark (entries f H) (around cols) k (opened f cols k out H) in
+        rw (a .slices-are) (filled-at m (out .marks) (H .tiles) t (a .ready .args .marks) i
+        ∙ sym (marks-at (entries f H) (around cols) k (opened f cols k out H) t i))
 
-      marks-left : take (H .tiles) (slicesLeft f cols k out H .marks)
-          ≡ marks (entries f H) (around cols) k (opened f cols k out H)
-      unfolding filled marks
-      marks-left =
-          rw (a .slices-are) (filled-take (mark (entries f H) (around cols) k (opened f cols k out H)) (out .marks)
-          (H .tiles) (a .ready axes .args .marks))
+    marks-left : take (H .tiles) (slicesLeft f cols k out H .marks)
+        ≡ marks (entries f H) (around cols) k (opened f cols k out H)
+    unfolding filled marks
+    marks-left =
+        rw (a .slices-are) (filled-take (mark (entries f H) (around cols) k (opened f cols k out H)) (out .marks)
+        (H .tiles) (a .ready .args .marks))
 
-      -- place j of the list of stop i
-      place-left : length (a .ls) ≡ stopCount cols → (i j : ℕ) → i < stopCount cols → j < k
-          → placeAt (slicesLeft f cols k out H .lists) (i * k + j) ≡ getD (inRows k (a .ls)) (i * k + j) noPlace
-      unfolding filled
-      place-left e i j p q =
-          let n = stopCount cols * k in
-          let c : length (inRows k (a .ls)) ≡ n = inRows-length k (a .ls) ∙ rw e in
-          let m : suc i * k ≤ n = mul-le-mul {n₁ = suc i} {m₁ = k} {n₂ = stopCount cols} {m₂ = k} p (omega arith) in
-          let w = a .ready axes .args in
-          rw (a .slices-are)
-          (rw (zero-add (i * k + j)) at (lay-place (out .lists) 0 (inRows k (a .ls))
-          (omega (arith, w .dist), (omega (arith, w .site), omega (arith, w .cue))) (i * k + j) (omega arith)))
+    -- place j of the list of stop i
+    place-left : length (a .ls) ≡ stopCount cols → (i j : ℕ) → i < stopCount cols → j < k
+        → placeAt (slicesLeft f cols k out H .lists) (i * k + j) ≡ getD (inRows k (a .ls)) (i * k + j) noPlace
+    unfolding filled
+    place-left e i j p q =
+        let n = stopCount cols * k in
+        let c : length (inRows k (a .ls)) ≡ n = inRows-length k (a .ls) ∙ rw e in
+        let m : suc i * k ≤ n = mul-le-mul {n₁ = suc i} {m₁ = k} {n₂ = stopCount cols} {m₂ = k} p (omega arith) in
+        let w = a .ready .args in
+        rw (a .slices-are)
+        (rw (zero-add (i * k + j)) at (lay-place (out .lists) 0 (inRows k (a .ls))
+        (omega (arith, w .dist), (omega (arith, w .site), omega (arith, w .cue))) (i * k + j) (omega arith)))
 
-    -- "Suppose the join answers."
-    pub demand-3 : (r : Result) → joinEnd f cols k out .outcome ≡ accepted r → (h : Header) × Demand3 f cols k out h r
-    demand-3 r e =
+  -- "Suppose the join answers."
+  pub demand-3 : (r : Result) → joinEnd f cols k out .outcome ≡ accepted r → (h : Header) × Demand3 f cols k out h r
+  demand-3 r e =
+      let a = answered r e in
+      let d = demand r a in
+      let h = a .h in (
+        h,
+        record {
+          header = a .dir;
+          tiles = ap (λ (z : Result). z .tiles) (a .result);
+          smallest = smallest (a .ready);
+          lists = λ town g i j p q.
+              let n = stops-length cols in
+              let m : length (a .ls) ≡ stopCount cols = sym (length-map (a .ls) (padded k))
+              ∙ ap length (d .lists town g)
+              ∙ length-map (stopsOf cols) (λ p. fullSearch (entries f h) k p town) ∙ n in
+              place-left r a m i j p q ∙ d .places town g [] i j (omega arith) q;
+          ranking = λ town g p. run.ranking-exactly (entries f h) (around cols) k (run-lawful (a .ready)) p town
+              (g .directory);
+          opened-exactly = d .opened-exactly;
+          marked-opened = λ t l. rw (mark-left r a t l) (d .marked-opened t l);
+          marked-pruned = λ t l. rw (mark-left r a t l) (d .marked-pruned t l);
+          marked-neither = λ t l. rw (mark-left r a t l) (d .marked-neither t l);
+          none-pruned = d .none-pruned;
+          once = once-each r a;
+          count-opened = ap (λ (z : Result). z .opened) (a .result) ∙ sym (rw (marks-left r a) (d .count-opened));
+          count-pruned = ap (λ (z : Result). z .pruned) (a .result) ∙ sym (rw (marks-left r a) (d .count-pruned));
+          count-used = ap (λ (z : Result). z .used) (a .result);
+          other-files = λ g same l out′ n. same-answer f cols k g h (a .dir) same l out out′ n (a .passed);
+        },
+      )
+
+  -- ---- the call that strikes
+
+  module _ (r : Result) (e : joinEnd f cols k out .outcome ≡ accepted r) (lent : List ℕ) where
+    prune-answers : r .tiles ≤ length lent
+        → pruneCall f (around cols) k lent ≡ accepted (record { tiles = r .tiles; pruned = r .pruned })
+    unfolding pruneCall validK
+    prune-answers l =
         let a = answered r e in
-        let d = demand r a in
-        let h = a .h in (
-          h,
-          record {
-            header = a .dir;
-            tiles = ap (λ (z : Result). z .tiles) (a .result);
-            smallest = smallest (a .ready axes);
-            lists = λ town g i j p q.
-                let n = stops-length cols in
-                let m : length (a .ls) ≡ stopCount cols = sym (length-map (a .ls) (padded k))
-                ∙ ap length (d .lists town g)
-                ∙ length-map (stopsOf cols) (λ p. fullSearch (entries f h) k p town) ∙ n in
-                place-left r a m i j p q ∙ d .places town g [] i j (omega arith) q;
-            ranking = λ town g p. run.ranking-exactly (entries f h) (around cols) k (run-lawful (a .ready axes)) p town
-                (g .directory);
-            opened-exactly = d .opened-exactly;
-            marked-opened = λ t l. rw (mark-left r a t l) (d .marked-opened t l);
-            marked-pruned = λ t l. rw (mark-left r a t l) (d .marked-pruned t l);
-            marked-neither = λ t l. rw (mark-left r a t l) (d .marked-neither t l);
-            none-pruned = d .none-pruned;
-            once = once-each r a;
-            count-opened = ap (λ (z : Result). z .opened) (a .result) ∙ sym (rw (marks-left r a) (d .count-opened));
-            count-pruned = ap (λ (z : Result). z .pruned) (a .result) ∙ sym (rw (marks-left r a) (d .count-pruned));
-            count-used = ap (λ (z : Result). z .used) (a .result);
-            other-files = λ g same l out′ n. same-answer f cols k g h (a .dir) same l out out′ n (a .passed);
-          },
-        )
+        let good-k : leb 1 k && leb k maxK ≡ true =
+        both-and (le-leb 1 k (a .args .some-k)) (le-leb k maxK (a .args .few-k)) in
+        let tiles : a .h .tiles ≡ r .tiles = ap (λ (z : Result). z .tiles) (sym (a .result)) in
+        let long : leb (a .h .tiles) (length lent) ≡ true =
+        le-leb (a .h .tiles) (length lent) (omega (arith, tiles)) in
+        let struck : prunedCount (entries f (a .h)) (around cols) k ≡ r .pruned =
+        ap (λ (z : Result). z .pruned) (sym (a .result)) in
+        let axes : eqb (a .h .axes) (length (around cols)) ≡ true =
+        eq-eqb (a .h .axes) (length (around cols)) (sym (smallest (a .ready) .axes ∙ a .args .axes)) in
+        rw (a .dir, good-k, axes, smallest (a .ready) .valid, long, struck, tiles)
 
-    -- ---- the call that strikes
+    -- "1 exactly when it is struck", by both calls: strike, for the smallest box around the stops, the same k and any
+    -- marks of at least T elements, gives the T and the number struck of the join, and marks the same tiles
+    pub prunes-alike : r .tiles ≤ length lent → PrunesAlike f cols k out r lent
+    prunes-alike l =
+        let a = answered r e in
+        let c : Counts = record { tiles = r .tiles; pruned = r .pruned } in
+        let tiles : r .tiles ≡ a .h .tiles = ap (λ (z : Result). z .tiles) (a .result) in
+        let struck = prunes-exactly f (around cols) k lent c (prune-answers l) in
+        let same : struck .0 ≡ a .h = accepted-injective (sym (struck .1 .header) ∙ a .dir) in
+        record {
+          smallest = smallest (a .ready);
+          answers = prune-answers l;
+          marked = λ t i.
+              let j : t < a .h .tiles = omega (arith, tiles) in
+              let mine = demand r a .marked-pruned t j in
+              let its = subst (λ x. PrunesExactly f (around cols) k lent x c) same (struck .1) .marked t j in
+              rw (mark-left r a t j) (λ m. its .1 (mine .0 m), λ m. mine .1 (its .0 m));
+        }
 
-    module _ (r : Result) (e : joinEnd f cols k out .outcome ≡ accepted r) (lent : List ℕ) where
-      prune-answers : r .tiles ≤ length lent
-          → pruneCall f (around cols) k lent ≡ accepted (record { tiles = r .tiles; pruned = r .pruned })
-      unfolding pruneCall validK
-      prune-answers l =
-          let a = answered r e in
-          let good-k : leb 1 k && leb k maxK ≡ true =
-          both-and (le-leb 1 k (a .args .some-k)) (le-leb k maxK (a .args .few-k)) in
-          let tiles : a .h .tiles ≡ r .tiles = ap (λ (z : Result). z .tiles) (sym (a .result)) in
-          let long : leb (a .h .tiles) (length lent) ≡ true =
-          le-leb (a .h .tiles) (length lent) (omega (arith, tiles)) in
-          let struck : prunedCount (entries f (a .h)) (around cols) k ≡ r .pruned =
-          ap (λ (z : Result). z .pruned) (sym (a .result)) in
-          rw (a .dir, good-k, smallest (a .ready axes) .valid, long, struck, tiles)
+  module _ (r : Result) (e : joinEnd f cols k out .outcome ≡ accepted r) (h : Header)
+      (d : directory f ≡ accepted h) where
+    -- Demand 3 speaks of some town: there is one that agrees with the directory and the opened tiles.
+    pub town-exists : Bytes f → (town : Town space) × Agreeing f cols k out h town
+    unfolding runFor
+    town-exists b =
+        let a = answered r e in
+        let i : a .h ≡ h = accepted-injective (sym (a .dir) ∙ d) in
+        let s = smallest (a .ready) in
+        let n = stops-length cols in
+        let p = first-stop (λ p. inside (around cols) p ≡ true) (stopsOf cols)
+        (omega (arith, a .ready .args .some))
+        (s .holds) in
+        rw (← i) (run.town-exists (entries f (a .h)) (around cols) k (run-lawful (a .ready)) (openingOf f (a .h))
+        (opening-checked f (a .h) b) (stopsOf cols) (a .ls) (a .lists) (p .0) (p .1))
 
-      -- "1 exactly when it is struck", by both calls: strike, for the smallest box around the stops, the same k and any
-      -- marks of at least T elements, gives the T and the number struck of the join, and marks the same tiles
-      pub prunes-alike : r .tiles ≤ length lent → PrunesAlike f cols k out r lent
-      prunes-alike l =
-          let a = answered r e in
-          let c : Counts = record { tiles = r .tiles; pruned = r .pruned } in
-          let tiles : r .tiles ≡ a .h .tiles = ap (λ (z : Result). z .tiles) (a .result) in
-          let struck = prunes-exactly f (around cols) k lent c (prune-answers l) in
-          let same : struck .0 ≡ a .h = accepted-injective (sym (struck .1 .header) ∙ a .dir) in
-          record {
-            smallest = smallest (a .ready axes);
-            answers = prune-answers l;
-            marked = λ t i.
-                let j : t < a .h .tiles = omega (arith, tiles) in
-                let mine = demand r a .marked-pruned t j in
-                let its = subst (λ x. PrunesExactly f (around cols) k lent x c) same (struck .1) .marked t j in
-                rw (mark-left r a t j) (λ m. its .1 (mine .0 m), λ m. mine .1 (its .0 m));
-          }
+    -- What a full search gives, as a reader would want it: the town's sites that rank, each once, in their ranking,
+    -- and every one left out behind every listed one.
+    pub full-search : (town : Town space) → Agreeing f cols k out h town
+        → All (λ p. FullSearch (entries f h) k p town) (stopsOf cols)
+    full-search town g =
+        let a = answered r e in
+        let i : a .h ≡ h = accepted-injective (sym (a .dir) ∙ d) in
+        all-map (stopsOf cols)
+        (λ p home. run.full-search (entries f h) (around cols) k (rw i at (run-lawful (a .ready))) p home town
+        (g .directory)) (smallest (a .ready) .holds)
 
-    module _ (r : Result) (e : joinEnd f cols k out .outcome ≡ accepted r) (h : Header)
-        (d : directory f ≡ accepted h) where
-      -- Demand 3 speaks of some town: there is one that agrees with the directory and the opened tiles.
-      pub town-exists : Bytes f → (town : Town plane) × Agreeing f cols k out h town
-      unfolding runFor
-      town-exists b =
-          let a = answered r e in
-          let i : a .h ≡ h = accepted-injective (sym (a .dir) ∙ d) in
-          let s = smallest (a .ready axes) in
-          let n = stops-length cols in
-          let p = first-stop (λ p. inside (around cols) p ≡ true) (stopsOf cols)
-          (omega (arith, a .ready axes .args .some))
-          (s .holds) in
-          rw (← i) (run.town-exists (entries f (a .h)) (around cols) k (run-lawful (a .ready axes)) (openingOf f (a .h))
-          (opening-checked f (a .h) b) (stopsOf cols) (a .ls) (a .lists) (p .0) (p .1))
+  -- 02.1: "only sites with another cue rank": no used place of a list has cue 0
+  pub never-muted : Bytes f → (r : Result) → joinEnd f cols k out .outcome ≡ accepted r → (i j : ℕ)
+      → i < stopCount cols → j < r .used → placeAt (joinEnd f cols k out .slices .lists) (i * k + j) .cue ≡ 0 → ⊥
+  unfolding fullSearch
+  never-muted b r e i j l u muted =
+      let answer = demand-3 r e in
+      let h = answer .0 in
+      let three = answer .1 in
+      let E = entries f h in
+      let p = getD (stopsOf cols) i [] in
+      let within : j < k = omega (arith, answer-fits r e .1 .0) in
+      let town = town-exists r e h (three .header) b in
+      let found = all-getD (λ p. FullSearch E k p (town .0)) (stopsOf cols) i []
+      (omega (arith, stops-length cols)) (full-search r e h (three .header) (town .0) (town .1)) in
+      let listed : j < length (firstOf E k p (town .0)) = omega (arith, three .count-used, found .used) in
+      let site = all-getD (SiteOf E p (town .0)) (firstOf E k p (town .0)) j noPlace listed (found .sites) in
+      let place = three .lists (town .0) (town .1) i j l within
+      ∙ padded-used k (firstOf E k p (town .0)) j noPlace listed within ∙ site .place in
+      let zero : site .it .cue ≡ 0 = sym (ap (λ (z : Place). z .cue) place) ∙ muted in
+      clash (site .ranked) (rw zero)
 
-      -- What a full search gives, as a reader would want it: the town's sites that rank, each once, in their ranking,
-      -- and every one left out behind every listed one.
-      pub full-search : (town : Town plane) → Agreeing f cols k out h town
-          → All (λ p. FullSearch (entries f h) k p town) (stopsOf cols)
-      full-search town g =
-          let a = answered r e in
-          let i : a .h ≡ h = accepted-injective (sym (a .dir) ∙ d) in
-          all-map (stopsOf cols)
-          (λ p home. run.full-search (entries f h) (around cols) k (rw i at (run-lawful (a .ready axes))) p home town
-          (g .directory)) (smallest (a .ready axes) .holds)
+  -- ---- demand 2
 
-    -- 02.1: "only sites with another cue rank": no used place of a list has cue 0
-    pub never-muted : Bytes f → (r : Result) → joinEnd f cols k out .outcome ≡ accepted r → (i j : ℕ)
-        → i < stopCount cols → j < r .used → placeAt (joinEnd f cols k out .slices .lists) (i * k + j) .cue ≡ 0 → ⊥
-    unfolding fullSearch
-    never-muted b r e i j l u muted =
-        let answer = demand-3 r e in
-        let h = answer .0 in
-        let three = answer .1 in
-        let E = entries f h in
-        let p = getD (stopsOf cols) i [] in
-        let within : j < k = omega (arith, answer-fits r e .1 .0) in
-        let town = town-exists r e h (three .header) b in
-        let found = all-getD (λ p. FullSearch E k p (town .0)) (stopsOf cols) i []
-        (omega (arith, stops-length cols)) (full-search r e h (three .header) (town .0) (town .1)) in
-        let listed : j < length (firstOf E k p (town .0)) = omega (arith, three .count-used, found .used) in
-        let site = all-getD (SiteOf E p (town .0)) (firstOf E k p (town .0)) j noPlace listed (found .sites) in
-        let place = three .lists (town .0) (town .1) i j l within
-        ∙ padded-used k (firstOf E k p (town .0)) j noPlace listed within ∙ site .place in
-        let zero : site .it .cue ≡ 0 = sym (ap (λ (z : Place). z .cue) place) ∙ muted in
-        clash (site .ranked) (rw zero)
+  -- "On a file that passes the full check, each list is the first k sites of the whole town by Euclidean distance,
+  -- ties by tile and slot": the join answers, with these lists
+  pub demand-2 : Bytes f → (h : Header) → validate f ≡ accepted h
+      → arguments h cols k (lengthsOf out) ≡ accepted tt
+      → joinEnd f cols k out ≡ ended f h cols k (runFor f h cols k .openings) out
+      (accepted (map (λ p. firstOf (entries f h) k p (townOf f h)) (stopsOf cols)))
+  unfolding runEnd runFor
+  demand-2 b h v a =
+      let good = validate-exactly f h .0 v in
+      let d = directory-exactly f h .1 (good .directory) in
+      let w = run-ready f cols k out d a in
+      let e = run.demand-2 (entries f h) (around cols) k (run-lawful w) (openingOf f h) (townOf f h)
+      (good-agrees f h good b)
+      (good-opens f h good) (stopsOf cols) (smallest w .holds) in
+      tests-pass f cols k out d a
+      ∙ ap (ended f h cols k (join (entries f h) (around cols) k (openingOf f h) (stopsOf cols) .openings) out) e
 
-    -- ---- demand 2
-
-    -- "On a file that passes the full check, each list is the first k sites of the whole town by Euclidean distance,
-    -- ties by tile and slot": the join answers, with these lists
-    pub demand-2 : Bytes f → (h : Header) → validate f ≡ accepted h
-        → arguments (h .tiles) cols k (lengthsOf out) ≡ accepted tt
-        → joinEnd f cols k out ≡ ended f h cols k (runFor f h cols k .openings) out
-        (accepted (map (λ p. firstOf (entries f h) k p (townOf f h)) (stopsOf cols)))
-    unfolding runEnd runFor
-    demand-2 b h v a =
-        let good = validate-exactly f h .0 v in
-        let d = directory-exactly f h .1 (good .directory) in
-        let w = run-ready f cols k out d a axes in
-        let e = run.demand-2 (entries f h) (around cols) k (run-lawful w) (openingOf f h) (townOf f h)
-        (good-agrees f h good b)
-        (good-opens f h good) (stopsOf cols) (smallest w .holds) in
-        tests-pass f cols k out d a
-        ∙ ap (ended f h cols k (join (entries f h) (around cols) k (openingOf f h) (stopsOf cols) .openings) out) e
-
-    -- the same, place by place and sentence by sentence
-    pub demand-2-places : Bytes f → (h : Header) → validate f ≡ accepted h
-        → arguments (h .tiles) cols k (lengthsOf out) ≡ accepted tt → (r : Result) × Demand2 f cols k out h r
-    unfolding ended runFor
-    demand-2-places b h v a =
-        let good = validate-exactly f h .0 v in
-        let d = directory-exactly f h .1 (good .directory) in
-        let r = resultOf f h cols k (runFor f h cols k .openings) in
-        let e : joinEnd f cols k out .outcome ≡ accepted r = ap (λ (z : End). z .outcome) (demand-2 b h v a) in
-        let own : Agreeing f cols k out h (townOf f h) = record {
-          directory = good-agrees f h good b;
-          blocks = all-map (runFor f h cols k .openings) (good-opens f h good)
-              (run.only-tiles (entries f h) (around cols) k (openingOf f h) (stopsOf cols));
-        } in
-        let three = demand-3 r e in
-        let i : three .0 ≡ h = accepted-injective (sym (three .1 .header) ∙ d) in (
-          r,
-          record {
-            answers = e;
-            tiles = refl;
-            used = refl;
-            lists = subst (λ x. Demand3 f cols k out x r) i (three .1) .lists (townOf f h) own;
-            first = full-search r e h d (townOf f h) own;
-            ranking = λ p. run.ranking-exactly (entries f h) (around cols) k
-                (run-lawful (run-ready f cols k out d a axes)) p (townOf f h) (own .directory);
-            agrees = own .directory;
-          },
-        )
+  -- the same, place by place and sentence by sentence
+  pub demand-2-places : Bytes f → (h : Header) → validate f ≡ accepted h
+      → arguments h cols k (lengthsOf out) ≡ accepted tt → (r : Result) × Demand2 f cols k out h r
+  unfolding ended runFor
+  demand-2-places b h v a =
+      let good = validate-exactly f h .0 v in
+      let d = directory-exactly f h .1 (good .directory) in
+      let r = resultOf f h cols k (runFor f h cols k .openings) in
+      let e : joinEnd f cols k out .outcome ≡ accepted r = ap (λ (z : End). z .outcome) (demand-2 b h v a) in
+      let own : Agreeing f cols k out h (townOf f h) = record {
+        directory = good-agrees f h good b;
+        blocks = all-map (runFor f h cols k .openings) (good-opens f h good)
+            (run.only-tiles (entries f h) (around cols) k (openingOf f h) (stopsOf cols));
+      } in
+      let three = demand-3 r e in
+      let i : three .0 ≡ h = accepted-injective (sym (three .1 .header) ∙ d) in (
+        r,
+        record {
+          answers = e;
+          tiles = refl;
+          used = refl;
+          lists = subst (λ x. Demand3 f cols k out x r) i (three .1) .lists (townOf f h) own;
+          first = full-search r e h d (townOf f h) own;
+          ranking = λ p. run.ranking-exactly (entries f h) (around cols) k
+              (run-lawful (run-ready f cols k out d a)) p (townOf f h) (own .directory);
+          agrees = own .directory;
+        },
+      )

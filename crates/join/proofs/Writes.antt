@@ -69,14 +69,14 @@ module _ (f : List ℕ) (cols : List (List ℤ)) (k : ℕ) where
 
   -- two calls with slices of the same lengths
   pub answer-alike : (out out′ : Slices) → lengthsOf out′ ≡ lengthsOf out → (h : Header) → directory f ≡ accepted h
-      → arguments (h .tiles) cols k (lengthsOf out) ≡ accepted tt
+      → arguments h cols k (lengthsOf out) ≡ accepted tt
       → SameAnswer cols k h (joinEnd f cols k out) (joinEnd f cols k out′)
   unfolding filled
   answer-alike out out′ l h d a =
       let w = run-writes h in
-      let a′ = ap (arguments (h .tiles) cols k) l ∙ a in
-      let g = arguments-good (h .tiles) cols k (lengthsOf out) a in
-      let g′ = arguments-good (h .tiles) cols k (lengthsOf out′) a′ in
+      let a′ = ap (arguments h cols k) l ∙ a in
+      let g = arguments-good h cols k (lengthsOf out) a in
+      let g′ = arguments-good h cols k (lengthsOf out′) a′ in
       rw (tests-pass f cols k out d a ∙ w .ends out, tests-pass f cols k out′ d a′ ∙ w .ends out′) (record {
         outcome = refl;
         lists = λ i b. place-read (w .places) (w .all-places) i b (out′ .lists) (g′ .dist, (g′ .site, g′ .cue))

@@ -23,7 +23,7 @@ use Rattle.blocks.specs.Same.{SameDirectory}
 use Rattle.blocks.specs.declared.header.Header.{Header}
 use Rattle.geometry.specs.Around.{around, SmallestAround}
 use Rattle.list.specs.Slices.{Slices, placeAt}
-use Rattle.plan.specs.FilePlan.{plane, entries, openingOf, townOf}
+use Rattle.plan.specs.FilePlan.{space, entries, openingOf, townOf}
 use Rattle.prune.specs.Prune.{pruneCall, marksAfter}
 use Rattle.search.specs.Claims.{FullSearch}
 use Rattle.search.specs.FullSearch.{SiteOf, ByDistanceTileSlot, fullSearch, Fits, Changes}
@@ -90,7 +90,7 @@ module _ (f : List ℕ) (cols : List (List ℤ)) (k : ℕ) (out : Slices) (h : H
   slicesLeft = joinEnd f cols k out .slices
 
   -- "any town that agrees with the directory and the opened tiles, whatever its other tiles hold"
-  abbrev pub Agreeing : Town plane → Type 0
+  abbrev pub Agreeing : Town space → Type 0
   Agreeing town = Fits (entries f h) (openingOf f h) opened town
 
   -- "On a file that passes the full check", with the header h: the whole town is its own, `townOf`
@@ -121,16 +121,16 @@ module _ (f : List ℕ) (cols : List (List ℤ)) (k : ℕ) (out : Slices) (h : H
     pub smallest : SmallestAround (length cols) (stopsOf cols) (around cols)
     -- "For every stop, the join's list equals what a full search of that town gives: the same distance, site and cue at
     -- each place"
-    pub lists : (town : Town plane) → Agreeing town → (i j : ℕ) → i < stopCount cols → j < k
+    pub lists : (town : Town space) → Agreeing town → (i j : ℕ) → i < stopCount cols → j < k
         → placeAt (slicesLeft .lists) (i * k + j)
         ≡ getD (fullSearch (entries f h) k (getD (stopsOf cols) i []) town) j noPlace
     -- the order of such a town's sites: "by D from the stop, then tile, then slot"
-    pub ranking : (town : Town plane) → Agreeing town → (p : List ℤ) (a b : Place)
+    pub ranking : (town : Town space) → Agreeing town → (p : List ℤ) (a b : Place)
         (s : SiteOf (entries f h) p town a) (u : SiteOf (entries f h) p town b)
         → (rank a b ≡ true) ↔ ByDistanceTileSlot (entries f h) s u
     -- "A tile was opened exactly when some other filling of it .. changes what the full search gives for at least one
     -- stop"
-    pub opened-exactly : (town : Town plane) → Agreeing town → (t : ℕ)
+    pub opened-exactly : (town : Town space) → Agreeing town → (t : ℕ)
         → (member t opened ≡ true) ↔ Changes (entries f h) k town (stopsOf cols) t
     -- "A tile is marked 2 exactly when it was opened and 1 exactly when it is struck"
     pub marked-opened : (t : ℕ) → t < h .tiles → (getD (slicesLeft .marks) t 0 ≡ openedMark) ↔ (member t opened ≡ true)

@@ -1,8 +1,9 @@
--- Document 01, "The join": what the call comes to, and what it leaves in the four slices.
+-- Document 01, "The join", with 02.2: what the call comes to, and what it leaves in the four slices. A call has a column
+-- of coordinates for each of its axes.
 --
 --   Result, joinOutcome      what the answer carries
 --   runFor                   the run of the search on a file
---   tests                    tests 1 to 14
+--   tests                    tests 1 to 14 and 17
 --   filled, resultOf         what a run writes, and its result
 --   ended, runEnd            the end of a run
 --   End, joinEnd             what the call comes to, and the slices at its end
@@ -55,11 +56,11 @@ lengthsOf out = record {
   marks = length (out .marks);
 }
 
--- "1; each directory block 2 to 9 in table order; 11 to 14": gives the header
+-- "1; each directory block 2 to 9 in table order; 11 to 14", 02.2: 17 "tested after 12"; gives the header
 unfoldable pub tests : List ℕ → List (List ℤ) → ℕ → Slices → Outcome Header
 tests f cols k out =
     andThen (directory f) (λ h.
-    andThen (arguments (h .tiles) cols k (lengthsOf out)) (λ _.
+    andThen (arguments h cols k (lengthsOf out)) (λ _.
     accepted h))
 
 -- n × k places and T marks over the slices; "elements past these never change"

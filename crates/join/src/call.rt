@@ -1,9 +1,11 @@
 // The call of document 01, "The join".
 ghost use mathlib.Core.List.{[], _∷_};
 ghost use mathlib.Core.Path.{_≡_};
+ghost use lib.ListN.{take};
 ghost use Rattle.base.specs.Refusal as outcome;
 ghost use Rattle.base.specs.Refusal.{accepted};
 ghost use Rattle.blocks.specs.Directory.{directory};
+ghost use Rattle.geometry.specs.Axes.{Columns};
 ghost use Rattle.list.specs.Slices.{lent};
 ghost use Rattle.join.specs.Join.{joinOutcome, joinEnd, runEnd};
 ghost use Rattle.join.specs.Inner.Running.{RunReady};
@@ -11,6 +13,8 @@ use base::Refusal;
 use blocks::directory::DirectoryAnswer;
 use blocks::directory::read_directory;
 use blocks::header::Header;
+use blocks::layout::HEIGHT;
+use blocks::layout::PLAN;
 use list::clear::clear_places;
 use plan::region::ORIGIN;
 use prune::marking::mark_pruned;
@@ -39,31 +43,35 @@ fn refused(number: u32) -> JoinAnswer
     JoinAnswer::Refused(Refusal { number, block: 0 })
 }
 
-// The run: places cleared, tiles pruned, the stops gathered as points and served, and the opened tiles counted.
+// The run: places cleared, tiles pruned, the stops gathered as points and served, and the opened tiles counted. Of a plan
+// town the third column is the second again, and not looked at.
 fn run(
     f: &[u8],
     h: Header,
     xs: &[i32],
     ys: &[i32],
+    zs: &[i32],
     k: usize,
     dist: &mut [u64],
     site: &mut [u32],
     cue: &mut [u32],
     marks: &mut [u8],
 ) -> JoinAnswer
-    requires { ⌜ RunReady (now f) h (now xs ∷ now ys ∷ []) k (lent (now dist) (now site) (now cue) (now marks)) ⌝ }
+    requires { ⌜ Columns (h .axes) (now ys) (now zs)
+        × RunReady (now f) h (take (h .axes) (now xs ∷ now ys ∷ now zs ∷ [])) k
+        (lent (now dist) (now site) (now cue) (now marks)) ⌝ }
     ensures { λ r. ⌜ record {
       outcome = joinOutcome r;
       slices = lent (now (dist .exit)) (now (site .exit)) (now (cue .exit)) (now (marks .exit));
     }
-        ≡ runEnd (now (f .entry)) h (now (xs .entry) ∷ now (ys .entry) ∷ []) k
+        ≡ runEnd (now (f .entry)) h (take (h .axes) (now (xs .entry) ∷ now (ys .entry) ∷ now (zs .entry) ∷ [])) k
         (lent (now (dist .entry)) (now (site .entry)) (now (cue .entry)) (now (marks .entry))) ⌝ }
 {
     let n = xs.len();
     clear_places(dist, site, cue, n * k);
-    let pruned = mark_pruned(f, h, around(xs, ys), k, marks);
+    let pruned = mark_pruned(f, h, around(xs, ys, zs), k, marks);
     let mut stops = [ORIGIN; MAX_STOPS];
-    gather_stops(xs, ys, &mut stops);
+    gather_stops(xs, ys, zs, &mut stops);
     let tiles = h.tiles;
     match serve(f, h, &stops[..n], k, dist, site, cue, marks) {
         Serving::Served(used) => {
@@ -79,24 +87,26 @@ fn run(
     }
 }
 
-// The call on a file whose directory is accepted.
+// The call for a number of axes, on a file whose directory is accepted.
 fn join_accepted(
     f: &[u8],
     h: Header,
+    axes: usize,
     xs: &[i32],
     ys: &[i32],
+    zs: &[i32],
     k: u32,
     dist: &mut [u64],
     site: &mut [u32],
     cue: &mut [u32],
     marks: &mut [u8],
 ) -> JoinAnswer
-    requires { ⌜ directory (now f) ≡ accepted h ⌝ }
+    requires { ⌜ (directory (now f) ≡ accepted h) × Columns axes (now ys) (now zs) ⌝ }
     ensures { λ r. ⌜ record {
       outcome = joinOutcome r;
       slices = lent (now (dist .exit)) (now (site .exit)) (now (cue .exit)) (now (marks .exit));
     }
-        ≡ joinEnd (now (f .entry)) (now (xs .entry) ∷ now (ys .entry) ∷ []) k
+        ≡ joinEnd (now (f .entry)) (take axes (now (xs .entry) ∷ now (ys .entry) ∷ now (zs .entry) ∷ [])) k
         (lent (now (dist .entry)) (now (site .entry)) (now (cue .entry)) (now (marks .entry))) ⌝ }
 {
     let lengths = Lengths {
@@ -105,13 +115,52 @@ fn join_accepted(
         cue: cue.len(),
         marks: marks.len(),
     };
-    let number = failed_argument(h, xs, ys, k, lengths);
+    let number = failed_argument(h, axes, xs, ys, zs, k, lengths);
     if number != 0 {
         return refused(number);
     }
-    run(f, h, xs, ys, k as usize, dist, site, cue, marks)
+    run(f, h, xs, ys, zs, k as usize, dist, site, cue, marks)
 }
 
+fn join_columns(
+    f: &[u8],
+    axes: usize,
+    xs: &[i32],
+    ys: &[i32],
+    zs: &[i32],
+    k: u32,
+    dist: &mut [u64],
+    site: &mut [u32],
+    cue: &mut [u32],
+    marks: &mut [u8],
+) -> JoinAnswer
+    requires { ⌜ Columns axes (now ys) (now zs) ⌝ }
+    ensures { λ r. ⌜ record {
+      outcome = joinOutcome r;
+      slices = lent (now (dist .exit)) (now (site .exit)) (now (cue .exit)) (now (marks .exit));
+    }
+        ≡ joinEnd (now (f .entry)) (take axes (now (xs .entry) ∷ now (ys .entry) ∷ now (zs .entry) ∷ [])) k
+        (lent (now (dist .entry)) (now (site .entry)) (now (cue .entry)) (now (marks .entry))) ⌝ }
+{
+    match read_directory(f) {
+        DirectoryAnswer::Accepted(h) => join_accepted(
+            f,
+            h,
+            axes,
+            xs,
+            ys,
+            zs,
+            k,
+            dist,
+            site,
+            cue,
+            marks,
+        ),
+        DirectoryAnswer::Refused(r) => JoinAnswer::Refused(r),
+    }
+}
+
+// For a plan town.
 pub fn join(
     f: &[u8],
     xs: &[i32],
@@ -129,8 +178,27 @@ pub fn join(
         ≡ joinEnd (now (f .entry)) (now (xs .entry) ∷ now (ys .entry) ∷ []) k
         (lent (now (dist .entry)) (now (site .entry)) (now (cue .entry)) (now (marks .entry))) ⌝ }
 {
-    match read_directory(f) {
-        DirectoryAnswer::Accepted(h) => join_accepted(f, h, xs, ys, k, dist, site, cue, marks),
-        DirectoryAnswer::Refused(r) => JoinAnswer::Refused(r),
+    join_columns(f, PLAN, xs, ys, ys, k, dist, site, cue, marks)
+}
+
+// For a town with height.
+pub fn join3(
+    f: &[u8],
+    xs: &[i32],
+    ys: &[i32],
+    zs: &[i32],
+    k: u32,
+    dist: &mut [u64],
+    site: &mut [u32],
+    cue: &mut [u32],
+    marks: &mut [u8],
+) -> JoinAnswer
+    ensures { λ r. ⌜ record {
+      outcome = joinOutcome r;
+      slices = lent (now (dist .exit)) (now (site .exit)) (now (cue .exit)) (now (marks .exit));
     }
+        ≡ joinEnd (now (f .entry)) (now (xs .entry) ∷ now (ys .entry) ∷ now (zs .entry) ∷ []) k
+        (lent (now (dist .entry)) (now (site .entry)) (now (cue .entry)) (now (marks .entry))) ⌝ }
+{
+    join_columns(f, HEIGHT, xs, ys, zs, k, dist, site, cue, marks)
 }

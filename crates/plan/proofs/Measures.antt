@@ -11,6 +11,7 @@ use Rattle.base.specs.Refusal.{accepted}
 use Rattle.blocks.specs.Directory.{directory, boxAt}
 use Rattle.blocks.specs.Layout.{maxTiles}
 use Rattle.blocks.specs.declared.header.Header.{Header}
+use Rattle.geometry.specs.Axes.{KnownAxes}
 use Rattle.geometry.specs.Margin.{closer}
 use Rattle.search.specs.Plan.{near}
 use Rattle.blocks.proofs.DirectoryLaws.{directory-good}
@@ -22,21 +23,25 @@ use Rattle.plan.proofs.Lawful.{box-axes}
 
 module _ (f : List ℕ) (h : Header) (dir : directory f ≡ accepted h) where
   -- tile e is closer than tile b from a region exactly when from each corner far of e is below near of b
-  pub closer-by-corners : {o : List (List ℤ)} → ValidRegion o → (e b : ℕ) → e < h .tiles → b < h .tiles
-      → closer o (boxAt f e) (boxAt f b)
-      ≡ every (λ c. ltb (far f (cornerOf o c) e) (near (entries f h) (cornerOf o c) b)) cornerCount
+  pub closer-by-corners : {o : List (List ℤ)} → ValidRegion h o → (e b : ℕ) → e < h .tiles → b < h .tiles
+      → closer o (boxAt f h e) (boxAt f h b)
+      ≡ every (λ c. ltb (far f h (cornerOf o c) e) (near (entries f h) (cornerOf o c) b)) (cornerCount h)
   unfolding far
   closer-by-corners {o} v e b i j =
-      let n : (t : ℕ) → length (boxAt f t) ≡ length o = λ t. box-axes f t ∙ sym (v .axes) in
-      rw (v .axes) at (closer-corners o (boxAt f e) (boxAt f b) (v .valid) (entry-of-accepted f h e dir i .0)
+      let n : (t : ℕ) → length (boxAt f h t) ≡ length o = λ t. box-axes f h t ∙ sym (v .axes) in
+      rw (v .axes) at (closer-corners o (boxAt f h e) (boxAt f h b) (v .valid) (entry-of-accepted f h e dir i .0)
       (entry-of-accepted f h b dir j .0) (n e) (n b))
 
-  pub near-bounded : {p : List ℤ} → ValidStop p → (t : ℕ) → t < h .tiles → near (entries f h) p t ≤ 8000000000000
+  pub known-axes : KnownAxes (h .axes)
+  known-axes = directory-good f dir .axes
+
+  pub near-bounded : {p : List ℤ} → ValidStop h p → (t : ℕ) → t < h .tiles → near (entries f h) p t ≤ 12000000000000
   near-bounded {p} v t l =
-      let same : length p ≡ length (boxAt f t) = v .axes ∙ sym (box-axes f t) in
+      let same : length p ≡ length (boxAt f h t) = v .axes ∙ sym (box-axes f h t) in
       let valid = entry-of-accepted f h t dir l .0 in
-      let m = min-at-most-max (boxAt f t) p valid (v .valid) same in
-      omega (arith, rw (v .axes) at (max-dist-bounded (boxAt f t) p valid (v .valid) same))
+      let m = min-at-most-max (boxAt f h t) p valid (v .valid) same in
+      let few : length p ≤ 3 = rw (v .axes) (known-axes .1) in
+      omega (arith, max-dist-bounded (boxAt f h t) p valid (v .valid) same)
 
   pub tiles-few : h .tiles ≤ maxTiles
   tiles-few = directory-good f dir .tiles .most

@@ -17,8 +17,7 @@ use Rattle.search.specs.Lists.{count, All}
 use Rattle.search.specs.Plan.{Fills, Agrees}
 use Rattle.search.specs.Run.{Checked}
 use Rattle.tiles.specs.Accepted.{GoodFile}
-use Rattle.tiles.specs.Tile.{siteIn, mutedCue, tilePosition, openTile, siteAt, sitesAt}
-use Rattle.tiles.specs.declared.tile.Site.{Site}
+use Rattle.tiles.specs.Tile.{Site, siteIn, mutedCue, tilePosition, openTile, siteAt, sitesAt}
 use Rattle.base.proofs.HowMany.{how-many-first, how-many-same}
 use Rattle.base.proofs.Outcomes.{accepted-injective, andThen-accepted, by-outcome}
 use Rattle.blocks.proofs.BlockLaws.{length-block, block-bytes}
@@ -88,9 +87,10 @@ module _ (f : List ℕ) (h : Header) (t : ℕ) where
       let o = andThen-accepted (openTile f h t) (λ _. accepted (sitesAt f h t)) e .1 in
       rw n (record {
         sited = record {
+          axes = good .axes;
           whole = length-block f (directoryBlocks h + t) (block-fits good (directoryBlocks h + t) (omega arith));
           few = count-small good t l;
-          valid = λ slot i. inside-valid (boxAt f t) _ (box-valid good t l) (opened-inside f h t o slot i);
+          valid = λ slot i. inside-valid (boxAt f h t) _ (box-valid good t l) (opened-inside f h t o slot i);
         };
         is = refl;
         own = refl;
@@ -101,10 +101,10 @@ module _ (f : List ℕ) (h : Header) (t : ℕ) where
     unfolding sitesAt
     opened-fills e = record {
       counted = sites-length f h t;
-      muted-counted = count-tabulate _ (siteAt f h t) 0 (countAt f t)
-          ∙ how-many-same _ _ (countAt f t) (λ i l. rw (zero-add i) (not-not (mutedCue (siteAt f h t i .cue))))
+      muted-counted = count-tabulate _ (siteAt f h t) 0 (countAt f h t)
+          ∙ how-many-same _ _ (countAt f h t) (λ i l. rw (zero-add i) (not-not (mutedCue (siteAt f h t i .cue))))
           ∙ opened-muted f h t e;
-      inside = all-tabulate _ (siteAt f h t) 0 (countAt f t)
+      inside = all-tabulate _ (siteAt f h t) 0 (countAt f h t)
           (λ i l. rw (zero-add i) (opened-inside f h t e i l, cue-small f bytes h t i));
     }
 
@@ -119,7 +119,7 @@ module _ (f : List ℕ) (h : Header) where
 
   -- a file that passes the full check
   module _ (good : GoodFile f h) where
-    opens : (t : ℕ) → t < h .tiles → openTile f h t ≡ accepted (countAt f t)
+    opens : (t : ℕ) → t < h .tiles → openTile f h t ≡ accepted (countAt f h t)
     opens t i = opening-exactly f h t .1 (good .opened t i)
 
     pub all-open : (t : ℕ) → t < h .tiles → openingOf f h t ≡ accepted (townOf f h t)

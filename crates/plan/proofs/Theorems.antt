@@ -12,6 +12,7 @@ use Rattle.blocks.specs.Directory.{directory, boxAt, countAt, mutedAt}
 use Rattle.blocks.specs.Same.{SameDirectory}
 use Rattle.blocks.specs.declared.header.Header.{Header}
 use Rattle.codec.specs.Number.{Bytes}
+use Rattle.geometry.specs.Axes.{KnownAxes}
 use Rattle.geometry.specs.Box.{validBox}
 use Rattle.search.specs.Lists.{All}
 use Rattle.search.specs.Plan.{Lawful, Agrees}
@@ -19,19 +20,18 @@ use Rattle.search.specs.Pruning.{pruned, prunedCount}
 use Rattle.search.specs.Run.{Checked, join, placesUsed, marks}
 use Rattle.tiles.specs.Accepted.{GoodFile}
 use Rattle.tiles.specs.Tile.{tilePosition}
-use Rattle.tiles.specs.declared.tile.Site.{Site}
 use Rattle.blocks.proofs.Theorems.{entry-depends}
 use Rattle.search.proofs.Lists.{all-both}
 use Rattle.search.proofs.SameEntries.{same-pruned, same-pruned-count, same-marks, same-used, same-join}
 use Rattle.search.proofs.Theorems.{only-tiles, same-run}
 use Rattle.tiles.proofs.Theorems.{sites-depend, opening-depends}
-use Rattle.plan.specs.FilePlan.{axisCount, entries, openingOf, townOf}
+use Rattle.plan.specs.FilePlan.{entries, openingOf, townOf, Site}
 use Rattle.plan.proofs.Lawful.{lawful}
 use Rattle.plan.proofs.Openings.{opening-town, openings-checked, all-open, own-town}
 
 module _ (f : List ℕ) (h : Header) where
   -- box arithmetic and directory are as the search assumes, for every stop in O
-  pub plan-lawful : (o : List (List ℤ)) → directory f ≡ accepted h → validBox o ≡ true → length o ≡ axisCount
+  pub plan-lawful : (o : List (List ℤ)) → directory f ≡ accepted h → validBox o ≡ true → length o ≡ h .axes
       → Lawful (entries f h) o
   plan-lawful = lawful f h
 
@@ -51,13 +51,13 @@ module _ (f : List ℕ) (h : Header) where
   good-agrees good = own-town f h good
 
 -- "Any file of the same length, equal to this one in every byte of the directory and of the opened tiles": g against f
-module _ (f g : List ℕ) (h : Header) (same : SameDirectory f g h) where
+module _ (f g : List ℕ) (h : Header) (known : KnownAxes (h .axes)) (same : SameDirectory f g h) where
   entry-same : (t : ℕ) → t < h .tiles
-      → (boxAt g t ≡ boxAt f t) × (countAt g t ≡ countAt f t) × (mutedAt g t ≡ mutedAt f t)
-  entry-same t l = entry-depends f g h t same l
+      → (boxAt g h t ≡ boxAt f h t) × (countAt g h t ≡ countAt f h t) × (mutedAt g h t ≡ mutedAt f h t)
+  entry-same t l = entry-depends f g h t known same l
 
   pub used-depends : (k : ℕ) → placesUsed (entries g h) k ≡ placesUsed (entries f h) k
-  used-depends = same-used (entries f h) (boxAt g) (countAt g) (mutedAt g) entry-same
+  used-depends = same-used (entries f h) (boxAt g h) (countAt g h) (mutedAt g h) entry-same
 
   -- a tile whose block is the same opens alike
   pub openings-depend : (t : ℕ) → t < h .tiles → blockAt g (tilePosition h t) ≡ blockAt f (tilePosition h t)
@@ -70,13 +70,13 @@ module _ (f g : List ℕ) (h : Header) (same : SameDirectory f g h) where
   -- the same tiles are struck, the same marks and counts follow from the same openings
   module _ (o : List (List ℤ)) (k : ℕ) where
     pub pruned-depends : (t : ℕ) → t < h .tiles → pruned (entries g h) o k t ≡ pruned (entries f h) o k t
-    pruned-depends = same-pruned (entries f h) (boxAt g) (countAt g) (mutedAt g) entry-same o k
+    pruned-depends = same-pruned (entries f h) (boxAt g h) (countAt g h) (mutedAt g h) entry-same o k
 
     pub pruned-count-depends : prunedCount (entries g h) o k ≡ prunedCount (entries f h) o k
-    pruned-count-depends = same-pruned-count (entries f h) (boxAt g) (countAt g) (mutedAt g) entry-same o k
+    pruned-count-depends = same-pruned-count (entries f h) (boxAt g h) (countAt g h) (mutedAt g h) entry-same o k
 
     pub marks-depend : (opened : List ℕ) → marks (entries g h) o k opened ≡ marks (entries f h) o k opened
-    marks-depend = same-marks (entries f h) (boxAt g) (countAt g) (mutedAt g) entry-same o k
+    marks-depend = same-marks (entries f h) (boxAt g h) (countAt g h) (mutedAt g h) entry-same o k
 
     -- "gets an answer with the same lists": the same run, where the blocks of the tiles opened are the same
     pub join-depends : (ps : List (List ℤ))
@@ -86,7 +86,7 @@ module _ (f g : List ℕ) (h : Header) (same : SameDirectory f g h) where
     join-depends ps alike =
         let E = entries f h in
         let opened = join E o k (openingOf f h) ps .openings in
-        same-join E (boxAt g) (countAt g) (mutedAt g) entry-same o k (openingOf g h) ps
+        same-join E (boxAt g h) (countAt g h) (mutedAt g h) entry-same o k (openingOf g h) ps
         ∙ same-run E o k (openingOf f h) (openingOf g h) ps
         (all-both (λ t. t < h .tiles) (λ t. blockAt g (tilePosition h t) ≡ blockAt f (tilePosition h t))
         (λ t. openingOf g h t ≡ openingOf f h t) opened openings-depend (only-tiles E o k (openingOf f h) ps) alike)

@@ -1,8 +1,7 @@
 -- A file whose directory is accepted, as the search sees it.
 --
---   axisCount    the axes of a town
 --   cueRanks     whether a site with this cue ranks
---   plane        the geometry of documents 01 and 02
+--   space        the geometry of documents 01 and 02
 --   entries      the directory's boxes, counts and muted numbers
 --   openingOf    what opening a tile gives
 --   townOf       the file's own town
@@ -13,41 +12,37 @@ use mathlib.Core.Path.{_≡_}
 use lib.IntN.{ℤ}
 use Rattle.base.specs.Refusal.{Outcome, accepted, andThen}
 use Rattle.blocks.specs.Directory.{boxAt, countAt, mutedAt}
-use Rattle.blocks.specs.Layout as layout
 use Rattle.blocks.specs.declared.header.Header.{Header}
 use Rattle.codec.specs.Number.{limit32}
 use Rattle.geometry.specs.Box.{inside}
 use Rattle.geometry.specs.Distance.{D, minDist}
 use Rattle.geometry.specs.Margin.{closer}
 use Rattle.search.specs.Plan.{Geometry, Directory}
-use Rattle.tiles.specs.Tile.{sitePoint, mutedCue, openTile, sitesAt}
-pub use Rattle.tiles.specs.declared.tile.Site.{Site}
-
-abbrev pub axisCount : ℕ
-axisCount = layout.axes
+use Rattle.tiles.specs.Tile.{mutedCue, openTile, sitesAt}
+pub use Rattle.tiles.specs.Tile.{Site}
 
 -- 02.1: "Town builders mute a site by giving it cue 0 .. only sites with another cue rank"
 abbrev pub cueRanks : ℕ → Bool
 cueRanks cue = not (mutedCue cue)
 
--- points by their coordinates; "a cue (unsigned 32 bits, any number)"
-abbrev pub plane : Geometry
-plane = record {
+-- points by their coordinates, over any number of axes; "a cue (unsigned 32 bits, any number)"
+abbrev pub space : Geometry
+space = record {
   Site = Site;
   Stop = List ℤ;
   Box = List (List ℤ);
   cue = λ s. s .cue;
   ranks = λ s. cueRanks (s .cue);
-  Inside = λ b s. (inside b (sitePoint s) ≡ true) × (s .cue < limit32);
+  Inside = λ b s. (inside b (s .point) ≡ true) × (s .cue < limit32);
   Within = λ b p. inside b p ≡ true;
-  D = λ p s. D p (sitePoint s);
+  D = λ p s. D p (s .point);
   minDist = λ p b. minDist b p;
   closer = closer;
 }
 
 -- the boxes, counts and muted numbers of the directory
-abbrev pub entries : List ℕ → Header → Directory plane
-entries f h = record { tiles = h .tiles; box = boxAt f; size = countAt f; muted = mutedAt f }
+abbrev pub entries : List ℕ → Header → Directory space
+entries f h = record { tiles = h .tiles; box = boxAt f h; size = countAt f h; muted = mutedAt f h }
 
 -- "opened, which checks its block": its sites by slot, or the refusal
 unfoldable pub openingOf : List ℕ → Header → ℕ → Outcome (List Site)

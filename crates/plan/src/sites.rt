@@ -7,7 +7,7 @@ ghost use Rattle.search.specs.Plan.{slots, ranked};
 ghost use Rattle.tiles.specs.Inner.Opening.{openingOutcome};
 ghost use Rattle.tiles.specs.Tile.{siteIn};
 ghost use Rattle.plan.specs.FilePlan.{cueRanks, entries, openingOf, townOf};
-ghost use Rattle.plan.specs.Inner.Seam.{TileOf, ValidStop, Opens, Sited, BlockOf, sitePlace};
+ghost use Rattle.plan.specs.Inner.Seam.{TileOf, stopOf, ValidStop, Opens, Sited, BlockOf, sitePlace};
 use crate::region::Stop;
 use blocks::block;
 use blocks::directory;
@@ -50,17 +50,17 @@ pub fn block_of(f: &[u8], h: Header, t: usize) -> &[u8]
 }
 
 // The place of the site of a slot of a tile's block with n sites, under its number, for the stop p.
-pub fn place_in(s: &[u8], n: usize, slot: usize, number: u32, p: Stop) -> Place
-    requires { ⌜ Sited (now s) n × (slot < n) × ValidStop p ⌝ }
-    ensures { λ r. ⌜ r ≡ sitePlace p number (siteIn (now (s .entry)) slot) ⌝ }
+pub fn place_in(h: Header, s: &[u8], n: usize, slot: usize, number: u32, p: Stop) -> Place
+    requires { ⌜ Sited h (now s) n × (slot < n) × ValidStop h (stopOf h p) ⌝ }
+    ensures { λ r. ⌜ r ≡ sitePlace (stopOf h p) number (siteIn (h .axes) (now (s .entry)) slot) ⌝ }
 {
-    let found = tile::site_in(s, slot);
-    let x = found.x;
-    let y = found.y;
+    let axes = h.axes;
+    let point = tile::point_in(axes, s, slot);
+    let cue = tile::cue_in(axes, s, slot);
     Place {
-        dist: squared_dist(p, [x, y]),
+        dist: squared_dist(axes, p, point),
         site: number,
-        cue: found.cue,
+        cue,
     }
 }
 

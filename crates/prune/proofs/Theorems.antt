@@ -1,16 +1,16 @@
 -- The theorem of this crate for the reader: a call that answers, its marks and the number struck. The call is
--- `call::prune`, its definitions `pruneCall` and `marksAfter` (specs/Prune), what is claimed `PrunesExactly`
--- (specs/Claims). f is the file, o the box O.
+-- `call::prune`, or `call::prune3` for a town with height, its definitions `pruneCall` and `marksAfter` (specs/Prune),
+-- what is claimed `PrunesExactly` (specs/Claims). f is the file, o the box O.
 use Prim.Native.Nat.{ℕ, _≤_}
 use mathlib.Core.List.{List, [], map}
 use mathlib.Core.Path.{_≡_, refl, sym, ap, _∙_}
 use native.Mathlib.Omega.{arith}
-use lib.Dec.{leb}
+use lib.Dec.{eqb, leb}
 use lib.IntN.{ℤ}
 use lib.ListN.{length}
 use borrow.Author.Tests.{leb-true}
 use Rattle.base.specs.Over.{over}
-use Rattle.base.specs.Refusal.{accepted, #k, #box, #short}
+use Rattle.base.specs.Refusal.{accepted, #k, #axes, #box, #short}
 use Rattle.blocks.specs.Directory.{directory}
 use Rattle.blocks.specs.declared.header.Header.{Header}
 use Rattle.geometry.specs.Box.{validBox}
@@ -57,7 +57,8 @@ module _ (f : List ℕ) (o : List (List ℤ)) (k : ℕ) (lent : List ℕ) where
       let d = andThen-accepted (directory f) _ e in
       let h = d .0 in
       let good-k = require-accepted (validK k) #k 0 _ (d .2) in
-      let good-box = require-accepted (validBox o) #box 0 _ (good-k .1) in
+      let good-axes = require-accepted (eqb (h .axes) (length o)) #axes 0 _ (good-k .1) in
+      let good-box = require-accepted (validBox o) #box 0 _ (good-axes .1) in
       let long = require-accepted (leb (h .tiles) (length lent)) #short 0 _ (good-box .1) in
       record {
         h = h;

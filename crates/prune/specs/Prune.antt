@@ -1,15 +1,15 @@
--- Document 01, "Striking": what the call comes to, and what it leaves in the marks.
+-- Document 01, "Striking", with 02.2: what the call comes to, and what it leaves in the marks.
 --
 --   Counts, pruneOutcome     what the answer carries
 --   pruneCall                what the call comes to
 --   pruneMarks, marksAfter   the marks of the tiles, and the slice at the end
 use Prim.Native.Nat.{ℕ}
 use mathlib.Core.List.{List, map}
-use lib.Dec.{leb}
+use lib.Dec.{eqb, leb}
 use lib.IntN.{ℤ}
 use lib.ListN.{length}
 use Rattle.base.specs.Over.{over}
-use Rattle.base.specs.Refusal.{Outcome, accepted, refused, require, andThen, #k, #box, #short}
+use Rattle.base.specs.Refusal.{Outcome, accepted, refused, require, andThen, #k, #axes, #box, #short}
 use Rattle.blocks.specs.Directory.{directory}
 use Rattle.blocks.specs.declared.header.Header.{Header}
 use Rattle.geometry.specs.Box.{validBox}
@@ -29,14 +29,16 @@ abbrev pub pruneOutcome : PruneAnswer → Outcome Counts
 pruneOutcome (Pruned tiles pruned) = accepted (record { tiles = tiles; pruned = pruned })
 pruneOutcome (Refused r) = refused (r .number) (r .block)
 
--- "Strike: 1, directory, 11, 9 for O, 14"
+-- "Strike: 1, directory, 11, 9 for O, 14"; 02.2: "17 when the call has another number of axes than the town .., in
+-- strike after 11"
 unfoldable pub pruneCall : List ℕ → List (List ℤ) → ℕ → List ℕ → Outcome Counts
 pruneCall f o k marks =
     andThen (directory f) (λ h.
     require (validK k) #k 0
+    (require (eqb (h .axes) (length o)) #axes 0
     (require (validBox o) #box 0
     (require (leb (h .tiles) (length marks)) #short 0
-    (accepted (record { tiles = h .tiles; pruned = prunedCount (entries f h) o k })))))
+    (accepted (record { tiles = h .tiles; pruned = prunedCount (entries f h) o k }))))))
 
 -- "Marks: 1 struck, 0 not."
 unfoldable pub pruneMarks : List ℕ → Header → List (List ℤ) → ℕ → List ℕ

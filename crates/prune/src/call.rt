@@ -1,15 +1,20 @@
 // The call of document 01, "Striking".
 ghost use mathlib.Core.Path.{_≡_};
+ghost use lib.ListN.{take};
 ghost use Rattle.base.specs.Refusal as outcome;
 ghost use Rattle.base.specs.Refusal.{accepted};
 ghost use Rattle.blocks.specs.Directory.{directory};
+ghost use Rattle.geometry.specs.Axes.{KnownAxes};
 ghost use Rattle.prune.specs.Prune.{pruneOutcome, pruneCall, marksAfter};
 use crate::marking;
 use base::Refusal;
 use blocks::directory::DirectoryAnswer;
 use blocks::directory::read_directory;
 use blocks::header::Header;
+use blocks::layout::HEIGHT;
+use blocks::layout::PLAN;
 use geometry::limits;
+use geometry::padding::pad_box;
 use plan::region::Region;
 
 pub enum PruneAnswer {
@@ -23,17 +28,28 @@ fn refused(number: u32) -> PruneAnswer
     PruneAnswer::Refused(Refusal { number, block: 0 })
 }
 
-// The call on a file whose directory is accepted.
-fn prune_accepted(f: &[u8], h: Header, o: Region, k: u32, marks: &mut [u8]) -> PruneAnswer
-    requires { ⌜ directory (now f) ≡ accepted h ⌝ }
-    ensures { λ r. ⌜ pruneOutcome r ≡ pruneCall (now (f .entry)) o k (now (marks .entry)) ⌝ }
+// The call for a number of axes, on a file whose directory is accepted.
+fn prune_accepted(
+    f: &[u8],
+    h: Header,
+    axes: usize,
+    o: Region,
+    k: u32,
+    marks: &mut [u8],
+) -> PruneAnswer
+    requires { ⌜ (directory (now f) ≡ accepted h) × KnownAxes axes ⌝ }
+    ensures { λ r. ⌜ pruneOutcome r ≡ pruneCall (now (f .entry)) (take axes o) k (now (marks .entry)) ⌝ }
     ensures { λ r. ⌜ now (marks .exit)
-        ≡ marksAfter (now (f .entry)) o k (now (marks .entry)) (pruneCall (now (f .entry)) o k (now (marks .entry))) ⌝ }
+        ≡ marksAfter (now (f .entry)) (take axes o) k (now (marks .entry))
+        (pruneCall (now (f .entry)) (take axes o) k (now (marks .entry))) ⌝ }
 {
     if !search::valid_k(k) {
         return refused(base::K);
     }
-    if !limits::valid_box(o) {
+    if h.axes != axes {
+        return refused(base::AXES);
+    }
+    if !limits::valid_box(axes, o) {
         return refused(base::BOX);
     }
     if marks.len() < h.tiles {
@@ -45,13 +61,33 @@ fn prune_accepted(f: &[u8], h: Header, o: Region, k: u32, marks: &mut [u8]) -> P
     PruneAnswer::Pruned { tiles, pruned }
 }
 
-pub fn prune(f: &[u8], o: Region, k: u32, marks: &mut [u8]) -> PruneAnswer
+fn prune_over(f: &[u8], axes: usize, o: Region, k: u32, marks: &mut [u8]) -> PruneAnswer
+    requires { ⌜ KnownAxes axes ⌝ }
+    ensures { λ r. ⌜ pruneOutcome r ≡ pruneCall (now (f .entry)) (take axes o) k (now (marks .entry)) ⌝ }
+    ensures { λ r. ⌜ now (marks .exit)
+        ≡ marksAfter (now (f .entry)) (take axes o) k (now (marks .entry))
+        (pruneCall (now (f .entry)) (take axes o) k (now (marks .entry))) ⌝ }
+{
+    match read_directory(f) {
+        DirectoryAnswer::Accepted(h) => prune_accepted(f, h, axes, o, k, marks),
+        DirectoryAnswer::Refused(r) => PruneAnswer::Refused(r),
+    }
+}
+
+// For a plan town.
+pub fn prune(f: &[u8], o: [[i32; 2]; 2], k: u32, marks: &mut [u8]) -> PruneAnswer
     ensures { λ r. ⌜ pruneOutcome r ≡ pruneCall (now (f .entry)) o k (now (marks .entry)) ⌝ }
     ensures { λ r. ⌜ now (marks .exit)
         ≡ marksAfter (now (f .entry)) o k (now (marks .entry)) (pruneCall (now (f .entry)) o k (now (marks .entry))) ⌝ }
 {
-    match read_directory(f) {
-        DirectoryAnswer::Accepted(h) => prune_accepted(f, h, o, k, marks),
-        DirectoryAnswer::Refused(r) => PruneAnswer::Refused(r),
-    }
+    prune_over(f, PLAN, pad_box(o), k, marks)
+}
+
+// For a town with height.
+pub fn prune3(f: &[u8], o: [[i32; 2]; 3], k: u32, marks: &mut [u8]) -> PruneAnswer
+    ensures { λ r. ⌜ pruneOutcome r ≡ pruneCall (now (f .entry)) o k (now (marks .entry)) ⌝ }
+    ensures { λ r. ⌜ now (marks .exit)
+        ≡ marksAfter (now (f .entry)) o k (now (marks .entry)) (pruneCall (now (f .entry)) o k (now (marks .entry))) ⌝ }
+{
+    prune_over(f, HEIGHT, o, k, marks)
 }

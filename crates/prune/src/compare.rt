@@ -1,12 +1,17 @@
 // Far in the tables against near.
 ghost use mathlib.Core.Path.{_≡_};
-ghost use Prim.Native.Nat.{_<_, _≤_};
-ghost use lib.ListN.{length};
+ghost use Prim.Native.Nat.{_+_, _*_, _<_, _≤_};
+ghost use lib.Dec.{ltb};
+ghost use lib.ListN.{getD, length};
+ghost use Rattle.base.specs.Every.{every};
 ghost use Rattle.blocks.specs.Layout.{maxTiles};
+ghost use Rattle.geometry.specs.Axes.{KnownAxes};
 ghost use Rattle.prune.specs.Inner.Tables.{farSize, belowAll, FirstBelow};
 use base::both;
+use blocks::header::Header;
+use blocks::layout::HEIGHT;
 use blocks::layout::MAX_TILES;
-use plan::region::CORNERS;
+use plan::region::MAX_CORNERS;
 
 // From one tile on, the first before `to` that is far below near, from corner 0; `to` if there is none.
 pub fn next_below(far: &[u64], from: usize, to: usize, near: u64) -> usize
@@ -23,17 +28,31 @@ pub fn next_below(far: &[u64], from: usize, to: usize, near: u64) -> usize
     e
 }
 
-// Whether tile e is far below near, from each corner. The last corner, opposite to the first, comes first: a tile that
-// passed the test of one mostly fails that of the other.
-pub fn below(far: &[u64], e: usize, near: [u64; CORNERS]) -> bool
-    requires { ⌜ (e < maxTiles) × (length (now far) ≡ farSize) ⌝ }
-    ensures { λ r. ⌜ r ≡ belowAll (now (far .entry)) near e ⌝ }
+// Whether tile e is far below near, from each of four corners: those of the low z are the first four. The last of them,
+// opposite to the first, comes first: a tile that passed the test of one mostly fails that of the other.
+fn below_four(far: &[u64], e: usize, near: [u64; MAX_CORNERS], first: usize) -> bool
+    requires { ⌜ (e < maxTiles) × (length (now far) ≡ farSize) × (first ≤ 4) ⌝ }
+    ensures { λ r. ⌜ r ≡ every (λ c. ltb (getD (now (far .entry)) ((first + c) * maxTiles + e) 0)
+        (getD near (first + c) 0)) 4 ⌝ }
 {
     let mut all = true;
-    let mut c = CORNERS;
+    let mut c: usize = 4;
     while 0 < c {
         c -= 1;
-        all = both(all, far[c * MAX_TILES + e] < near[c]);
+        all = both(all, far[(first + c) * MAX_TILES + e] < near[first + c]);
     }
     all
+}
+
+// Whether tile e is far below near, from each corner.
+pub fn below(h: Header, far: &[u64], e: usize, near: [u64; MAX_CORNERS]) -> bool
+    requires { ⌜ KnownAxes (h .axes) × (e < maxTiles) × (length (now far) ≡ farSize) ⌝ }
+    ensures { λ r. ⌜ r ≡ belowAll h (now (far .entry)) near e ⌝ }
+{
+    let low = below_four(far, e, near, 0);
+    if h.axes == HEIGHT {
+        both(low, below_four(far, e, near, 4))
+    } else {
+        low
+    }
 }

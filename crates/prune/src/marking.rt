@@ -8,8 +8,9 @@ ghost use Rattle.base.specs.Over.{over};
 ghost use Rattle.base.specs.Refusal.{accepted};
 ghost use Rattle.blocks.specs.Directory.{directory};
 ghost use Rattle.blocks.specs.Layout.{maxTiles};
+ghost use Rattle.geometry.specs.Axes.{KnownAxes};
 ghost use Rattle.plan.specs.FilePlan.{entries};
-ghost use Rattle.plan.specs.Inner.Seam.{TileOf, ValidRegion, cornerCount};
+ghost use Rattle.plan.specs.Inner.Seam.{TileOf, regionOf, ValidRegion, cornerCount};
 ghost use Rattle.search.specs.Lists.{bit};
 ghost use Rattle.search.specs.Plan.{slots, ranked};
 ghost use Rattle.search.specs.Pruning.{pruned, prunedCount};
@@ -20,20 +21,21 @@ use crate::tables;
 use blocks::header::Header;
 use blocks::layout::MAX_TILES;
 use plan::measure::NONE;
-use plan::region::CORNERS;
+use plan::region::MAX_CORNERS;
 use plan::region::Region;
+use plan::region::corners;
 use plan::sites;
 
 // How many tiles are tried first.
 const FEW: usize = 32;
 
 // How many sites of tile e rank where it is far below near from each corner, else 0.
-fn weight(f: &[u8], h: Header, far: &[u64], e: usize, near: [u64; CORNERS]) -> usize
+fn weight(f: &[u8], h: Header, far: &[u64], e: usize, near: [u64; MAX_CORNERS]) -> usize
     requires { ⌜ TileOf (now f) h e × (length (now far) ≡ farSize) ⌝ }
-    ensures { λ r. ⌜ (r ≡ cond (belowAll (now (far .entry)) near e) (ranked (entries (now (f .entry)) h) e) 0)
+    ensures { λ r. ⌜ (r ≡ cond (belowAll h (now (far .entry)) near e) (ranked (entries (now (f .entry)) h) e) 0)
         × (r ≤ slots) ⌝ }
 {
-    if compare::below(far, e, near) {
+    if compare::below(h, far, e, near) {
         return sites::ranked(f, h, e);
     }
     0
@@ -45,7 +47,7 @@ fn reaches_among(
     f: &[u8],
     h: Header,
     far: &[u64],
-    near: [u64; CORNERS],
+    near: [u64; MAX_CORNERS],
     from: usize,
     to: usize,
     k: usize,
@@ -76,7 +78,14 @@ fn few_after(t: usize, h: Header) -> usize
 
 // Whether those of all tiles add up to at least k. A few tiles from `middle` on, which lie about O, are tried first:
 // against a tile far from O they mostly do it.
-fn reaches(f: &[u8], h: Header, far: &[u64], middle: usize, near: [u64; CORNERS], k: usize) -> bool
+fn reaches(
+    f: &[u8],
+    h: Header,
+    far: &[u64],
+    middle: usize,
+    near: [u64; MAX_CORNERS],
+    k: usize,
+) -> bool
     requires { ⌜ (directory (now f) ≡ accepted h) × (length (now far) ≡ farSize) × (middle ≤ h .tiles) ⌝ }
     ensures { λ r. ⌜ r ≡ leb k (sumBelow (now (f .entry)) h (now (far .entry)) near 0 (h .tiles)) ⌝ }
 {
@@ -89,9 +98,9 @@ fn reaches(f: &[u8], h: Header, far: &[u64], middle: usize, near: [u64; CORNERS]
 
 // The mark of tile t: 1 where it is pruned, else 0.
 fn prune_tile(f: &[u8], h: Header, far: &[u64], middle: usize, o: Region, k: usize, t: usize) -> u8
-    requires { ⌜ TileOf (now f) h t × ValidRegion o × (middle ≤ h .tiles) ⌝ }
-    requires { ⌜ FarTable (now f) h o cornerCount (now far) ⌝ }
-    ensures { λ r. ⌜ r ≡ bit (pruned (entries (now (f .entry)) h) o k t) ⌝ }
+    requires { ⌜ TileOf (now f) h t × ValidRegion h (regionOf h o) × (middle ≤ h .tiles) ⌝ }
+    requires { ⌜ FarTable (now f) h (regionOf h o) (cornerCount h) (now far) ⌝ }
+    ensures { λ r. ⌜ r ≡ bit (pruned (entries (now (f .entry)) h) (regionOf h o) k t) ⌝ }
 {
     if reaches(f, h, far, middle, tables::near_from(f, h, o, t), k) {
         return search::PRUNED;
@@ -102,11 +111,11 @@ fn prune_tile(f: &[u8], h: Header, far: &[u64], middle: usize, o: Region, k: usi
 // A tile that lies about O: of all tiles the one with the least far from two opposite corners. It is only where
 // the sums start: nothing rests on it.
 fn middle_tile(far: &[u64], h: Header) -> usize
-    requires { ⌜ (h .tiles ≤ maxTiles) × (length (now far) ≡ farSize) ⌝ }
+    requires { ⌜ KnownAxes (h .axes) × (h .tiles ≤ maxTiles) × (length (now far) ≡ farSize) ⌝ }
     ensures { λ r. ⌜ r ≤ h .tiles ⌝ }
 {
     let tiles = h.tiles;
-    let opposite = (CORNERS - 1) * MAX_TILES;
+    let opposite = (corners(h) - 1) * MAX_TILES;
     let mut middle: usize = 0;
     let mut least: u64 = NONE;
     let mut t: usize = 0;
@@ -123,10 +132,11 @@ fn middle_tile(far: &[u64], h: Header) -> usize
 
 // The marks of all tiles, and the number pruned.
 fn prune_all(f: &[u8], h: Header, far: &[u64], o: Region, k: usize, marks: &mut [u8]) -> usize
-    requires { ⌜ (directory (now f) ≡ accepted h) × (h .tiles ≤ length (now marks)) × ValidRegion o ⌝ }
-    requires { ⌜ FarTable (now f) h o cornerCount (now far) ⌝ }
-    ensures { λ r. ⌜ (r ≡ prunedCount (entries (now (f .entry)) h) o k) × (r ≤ h .tiles) ⌝ }
-    ensures { λ r. ⌜ now (marks .exit) ≡ over (now (marks .entry)) 0 (pruneMarks (now (f .entry)) h o k) ⌝ }
+    requires { ⌜ (directory (now f) ≡ accepted h) × (h .tiles ≤ length (now marks)) × ValidRegion h (regionOf h o) ⌝ }
+    requires { ⌜ FarTable (now f) h (regionOf h o) (cornerCount h) (now far) ⌝ }
+    ensures { λ r. ⌜ (r ≡ prunedCount (entries (now (f .entry)) h) (regionOf h o) k) × (r ≤ h .tiles) ⌝ }
+    ensures { λ r. ⌜ now (marks .exit)
+        ≡ over (now (marks .entry)) 0 (pruneMarks (now (f .entry)) h (regionOf h o) k) ⌝ }
 {
     let middle = middle_tile(far, h);
     let mut count: usize = 0;
@@ -142,11 +152,12 @@ fn prune_all(f: &[u8], h: Header, far: &[u64], o: Region, k: usize, marks: &mut 
 
 // The same, with the table made first.
 pub fn mark_pruned(f: &[u8], h: Header, o: Region, k: usize, marks: &mut [u8]) -> usize
-    requires { ⌜ (directory (now f) ≡ accepted h) × (h .tiles ≤ length (now marks)) × ValidRegion o ⌝ }
-    ensures { λ r. ⌜ (r ≡ prunedCount (entries (now (f .entry)) h) o k) × (r ≤ h .tiles) ⌝ }
-    ensures { λ r. ⌜ now (marks .exit) ≡ over (now (marks .entry)) 0 (pruneMarks (now (f .entry)) h o k) ⌝ }
+    requires { ⌜ (directory (now f) ≡ accepted h) × (h .tiles ≤ length (now marks)) × ValidRegion h (regionOf h o) ⌝ }
+    ensures { λ r. ⌜ (r ≡ prunedCount (entries (now (f .entry)) h) (regionOf h o) k) × (r ≤ h .tiles) ⌝ }
+    ensures { λ r. ⌜ now (marks .exit)
+        ≡ over (now (marks .entry)) 0 (pruneMarks (now (f .entry)) h (regionOf h o) k) ⌝ }
 {
-    let mut far = [0u64; CORNERS * MAX_TILES];
+    let mut far = [0u64; MAX_CORNERS * MAX_TILES];
     tables::fill_corners(f, h, o, &mut far);
     prune_all(f, h, &far, o, k, marks)
 }

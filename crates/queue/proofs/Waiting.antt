@@ -244,7 +244,7 @@ module _ {G : Geometry} {E : Directory G} {p : G .Stop} {order keys : List ℕ} 
   tile-in-order P a = all-getD P order (r .at) 0 index-at a
 
 -- keys just filled
-module _ (f : List ℕ) (h : Header) (dir : directory f ≡ accepted h) {p : List ℤ} (v : ValidStop p) (order : List ℕ)
+module _ (f : List ℕ) (h : Header) (dir : directory f ≡ accepted h) {p : List ℤ} (v : ValidStop h p) (order : List ℕ)
     (tiles : All (λ t. t < h .tiles) order) (keys : List ℕ) (long : length order ≤ length keys) where
   abbrev newKeys : List ℕ
   newKeys = over keys 0 (map (near (entries f h) p) order)

@@ -7,7 +7,7 @@ ghost use Rattle.base.specs.Over.{over};
 ghost use Rattle.base.specs.Refusal.{accepted};
 ghost use Rattle.blocks.specs.Directory.{directory};
 ghost use Rattle.plan.specs.FilePlan.{entries};
-ghost use Rattle.plan.specs.Inner.Seam.{ValidStop};
+ghost use Rattle.plan.specs.Inner.Seam.{stopOf, ValidStop};
 ghost use Rattle.search.specs.Lists.{All};
 ghost use Rattle.search.specs.Plan.{near};
 ghost use Rattle.queue.specs.Inner.Keys.{leastKey, Passed};
@@ -18,10 +18,10 @@ use plan::region::Stop;
 
 // The key of each waiting tile, for the stop p.
 pub fn fill_keys(f: &[u8], h: Header, order: &[usize], p: Stop, keys: &mut [u64])
-    requires { ⌜ (directory (now f) ≡ accepted h) × ValidStop p × All (λ t. t < h .tiles) (now order)
+    requires { ⌜ (directory (now f) ≡ accepted h) × ValidStop h (stopOf h p) × All (λ t. t < h .tiles) (now order)
         × (length (now order) ≤ length (now keys)) ⌝ }
     ensures { λ _. ⌜ now (keys .exit)
-        ≡ over (now (keys .entry)) 0 (map (near (entries (now (f .entry)) h) p) (now (order .entry))) ⌝ }
+        ≡ over (now (keys .entry)) 0 (map (near (entries (now (f .entry)) h) (stopOf h p)) (now (order .entry))) ⌝ }
 {
     let mut j: usize = 0;
     while j < order.len() {

@@ -15,7 +15,8 @@ use Rattle.blocks.specs.declared.header.Header.{Header}
 use Rattle.list.specs.Inner.Keeping.{places, Adds, Ready}
 use Rattle.list.specs.Slices.{Slices, lay, cleared}
 use Rattle.places.specs.declared.tile.Target.{Target}
-use Rattle.plan.specs.FilePlan.{plane, entries, openingOf, Site}
+use Rattle.plan.specs.FilePlan.{space, entries, openingOf, Site}
+use Rattle.plan.specs.Inner.Seam.{stopOf}
 use Rattle.queue.specs.Inner.Keys.{none, leastKey}
 use Rattle.queue.specs.declared.keys.Least.{Least}
 use Rattle.search.specs.Inner.Cut.{lastAhead}
@@ -39,11 +40,11 @@ use Rattle.serve.specs.Inner.Serving.{walkOf, withSites, afterTile, Stop
 module _ (f : List ℕ) (h : Header) (order : List ℕ) (g : Target) (o₀ : Slices) where
   -- the whole walk, and what is left of it
   abbrev pub wholeWalk : Trace (List Place)
-  wholeWalk = walkOf f h order (g .stop) (g .k)
+  wholeWalk = walkOf f h order (stopOf h (g .stop)) (g .k)
 
   abbrev pub restWalk : List ℕ → List Place → Trace (List Place)
   restWalk keys l =
-      cutWalk (entries f h) (g .k) (openingOf f h) (g .stop) (inOrder (entries f h) (living order keys) (g .stop)) l
+      cutWalk (entries f h) (g .k) (openingOf f h) (stopOf h (g .stop)) (inOrder (entries f h) (living order keys) (stopOf h (g .stop))) l
 
   -- the list as the slices hold it
   abbrev found : Slices → ℕ → List Place
@@ -52,7 +53,7 @@ module _ (f : List ℕ) (h : Header) (order : List ℕ) (g : Target) (o₀ : Sli
   pub record TileTurn (keys : List ℕ) (o : Slices) (used : ℕ) : Type 0 where
     pub ready : Ready (o .lists) (g .at) used (g .k)
     pub laid : o .lists ≡ lay (o₀ .lists) (g .at) (found o used)
-    pub keyed : Keyed (entries f h) (g .stop) order keys
+    pub keyed : Keyed (entries f h) (stopOf h (g .stop)) order keys
     pub opens : OpenedOpen f h (o .marks)
     pub lengths : SameLengths (o .lists) (o₀ .lists)
     pub long : length (o .marks) ≡ length (o₀ .marks)
@@ -61,12 +62,12 @@ module _ (f : List ℕ) (h : Header) (order : List ℕ) (g : Target) (o₀ : Sli
     pub under : over (o .marks) 0 (replicate (h .tiles) 0) ≡ over (o₀ .marks) 0 (replicate (h .tiles) 0)
 
   -- at the start: all tiles wait, with their keys
-  pub tile-starts : {keys : List ℕ} → Ready (o₀ .lists) (g .at) 0 (g .k) → Keyed (entries f h) (g .stop) order keys
+  pub tile-starts : {keys : List ℕ} → Ready (o₀ .lists) (g .at) 0 (g .k) → Keyed (entries f h) (stopOf h (g .stop)) order keys
       → living order keys ≡ order → OpenedOpen f h (o₀ .marks) → TileTurn keys o₀ 0
   unfolding places tabulate
   tile-starts {keys} ready keyed all opens =
       let w : restWalk keys [] ≡ wholeWalk =
-      ap (λ z. cutWalk (entries f h) (g .k) (openingOf f h) (g .stop) (inOrder (entries f h) z (g .stop)) []) all in
+      ap (λ z. cutWalk (entries f h) (g .k) (openingOf f h) (stopOf h (g .stop)) (inOrder (entries f h) z (stopOf h (g .stop))) []) all in
       record {
         ready = ready;
         laid = sym (lay-self (o₀ .lists) (g .at) 0);
@@ -92,10 +93,10 @@ module _ {f : List ℕ} {h : Header} {order : List ℕ} {g : Target} {o₀ : Sli
   F p n = found f h order g o₀ p n
 
   abbrev ends : ℕ → List Place → Bool
-  ends = cutEnds (entries f h) (g .k) (g .stop)
+  ends = cutEnds (entries f h) (g .k) (stopOf h (g .stop))
 
   abbrev adds : ℕ → List Site → List Place → List Place
-  adds = cutAdds (entries f h) (g .k) (g .stop)
+  adds = cutAdds (entries f h) (g .k) (stopOf h (g .stop))
 
   -- the stop's places cover what was written
   covered : cleared (g .at) (g .k) (h .tiles) o ≡ cleared (g .at) (g .k) (h .tiles) o₀
@@ -142,14 +143,14 @@ module _ {f : List ℕ} {h : Header} {order : List ℕ} {g : Target} {o₀ : Sli
       tile = getD order (r .at) 0
 
       abbrev laterTiles : List ℕ
-      laterTiles = inOrder (entries f h) (living order (set keys (r .at) none)) (g .stop)
+      laterTiles = inOrder (entries f h) (living order (set keys (r .at) none)) (stopOf h (g .stop))
 
-      key-is : r .key ≡ near (entries f h) (g .stop) tile
+      key-is : r .key ≡ near (entries f h) (stopOf h (g .stop)) tile
       key-is =
           let a = rw (← s) at (least-here keys 0 (length order) (rw s at below)) in
           sym (a .2) ∙ turn .keyed .own (r .at) (omega (arith, a .1)) (omega (arith, a .2))
 
-      waits-first : inOrder (entries f h) (living order keys) (g .stop) ≡ tile ∷ laterTiles
+      waits-first : inOrder (entries f h) (living order keys) (stopOf h (g .stop)) ≡ tile ∷ laterTiles
       waits-first = living-next (turn .keyed) r s below
 
       -- the list is full ahead of the next key
@@ -159,7 +160,7 @@ module _ {f : List ℕ} {h : Header} {order : List ℕ} {g : Target} {o₀ : Sli
           (walk-ends ends adds (openingOf f h) tile laterTiles (F o used) (rw (← key-is) e)))
 
       module _ (free : lastAhead (g .k) (F o used) (r .key) tile ≡ false) where
-        near-not-full : lastAhead (g .k) (F o used) (near (entries f h) (g .stop) tile) tile ≡ false
+        near-not-full : lastAhead (g .k) (F o used) (near (entries f h) (stopOf h (g .stop)) tile) tile ≡ false
         near-not-full = rw (← key-is) free
 
         -- its opening is refused
@@ -180,14 +181,14 @@ module _ {f : List ℕ} {h : Header} {order : List ℕ} {g : Target} {o₀ : Sli
         -- it opens, and the walk goes on
         module _ (l : List Site) (e : openingOf f h tile ≡ accepted l) (tiles : tile < h .tiles)
             (marks : h .tiles ≤ length (o .marks)) {n : ℕ}
-            (number : n ≡ length (withSites tile g used l (o .lists))) where
+            (number : n ≡ length (withSites h tile g used l (o .lists))) where
           abbrev next : Slices
-          next = afterTile tile g used (accepted l) o
+          next = afterTile h tile g used (accepted l) o
 
-          added : Adds (o .lists) (g .at) used (g .k) (tilePlaces plane (g .stop) tile l) n (next .lists)
+          added : Adds (o .lists) (g .at) used (g .k) (tilePlaces space (stopOf h (g .stop)) tile l) n (next .lists)
           added = record { number = number; laid = refl }
 
-          list-is : F next n ≡ withSites tile g used l (o .lists)
+          list-is : F next n ≡ withSites h tile g used l (o .lists)
           list-is = added-list (turn .ready) added
 
           walk-is : R keys (F o used) ≡ record {
@@ -211,7 +212,7 @@ module _ {f : List ℕ} {h : Header} {order : List ℕ} {g : Target} {o₀ : Sli
                 laid = added-laid (turn .ready) added (o₀ .lists) (turn .laid);
                 keyed = keyed-next (turn .keyed) r s below;
                 opens = opens-next;
-                lengths = lay-lengths (o .lists) (g .at) (withSites tile g used l (o .lists)) (turn .lengths);
+                lengths = lay-lengths (o .lists) (g .at) (withSites h tile g used l (o .lists)) (turn .lengths);
                 long = length-set (o .marks) tile openedMark ∙ turn .long;
                 out = turn .out ∙ ap (λ w. w .out) walk-is;
                 asked = turn .asked ∙ ap (λ w. markAll (o .marks) (w .asked)) walk-is;

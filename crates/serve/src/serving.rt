@@ -1,9 +1,12 @@
 // Serving the stops: for each, the waiting tiles by key, until its list is full ahead of the next key.
+ghost use mathlib.Core.List.{map};
 ghost use mathlib.Core.Path.{_≡_};
 ghost use lib.ListN.{length};
+ghost use Rattle.base.specs.Lists.{All};
 ghost use Rattle.base.specs.Refusal.{accepted, andThen};
 ghost use Rattle.list.specs.Slices.{lent};
 ghost use Rattle.plan.specs.FilePlan.{openingOf};
+ghost use Rattle.plan.specs.Inner.Seam.{stopOf};
 ghost use Rattle.serve.specs.Inner.Serving.{servingOutcome, TileReady, withSites, afterTile};
 ghost use Rattle.serve.specs.Inner.Serving.{StopReady, StopServed, walkOf, StopsReady, Serves};
 use crate::marks::open_once;
@@ -43,10 +46,10 @@ fn take_tile(
 ) -> Serving
     requires { ⌜ TileReady (now f) h t target used (lent (now dist) (now site) (now cue) (now marks)) ⌝ }
     ensures { λ r. ⌜ servingOutcome r ≡ andThen (openingOf (now (f .entry)) h t)
-        (λ l. accepted (length (withSites t target used l
+        (λ l. accepted (length (withSites h t target used l
         (lent (now (dist .entry)) (now (site .entry)) (now (cue .entry)) (now (marks .entry)) .lists)))) ⌝ }
     ensures { λ r. ⌜ lent (now (dist .exit)) (now (site .exit)) (now (cue .exit)) (now (marks .exit))
-        ≡ afterTile t target used (openingOf (now (f .entry)) h t)
+        ≡ afterTile h t target used (openingOf (now (f .entry)) h t)
         (lent (now (dist .entry)) (now (site .entry)) (now (cue .entry)) (now (marks .entry))) ⌝ }
 {
     match open_once(f, h, t, marks) {
@@ -70,7 +73,7 @@ fn serve_stop(
     requires { ⌜ StopReady (now f) h (now order) target (now keys)
         (lent (now dist) (now site) (now cue) (now marks)) ⌝ }
     ensures { λ r. ⌜ StopServed (now (f .entry)) h
-        (walkOf (now (f .entry)) h (now (order .entry)) (target .stop) (target .k)) (target .k) (target .at)
+        (walkOf (now (f .entry)) h (now (order .entry)) (stopOf h (target .stop)) (target .k)) (target .k) (target .at)
         (lent (now (dist .entry)) (now (site .entry)) (now (cue .entry)) (now (marks .entry))) (servingOutcome r)
         (lent (now (dist .exit)) (now (site .exit)) (now (cue .exit)) (now (marks .exit))) ⌝ }
 {
@@ -116,8 +119,9 @@ pub fn serve(
     cue: &mut [u32],
     marks: &mut [u8],
 ) -> Serving
-    requires { ⌜ StopsReady (now f) h (now stops) k (lent (now dist) (now site) (now cue) (now marks)) ⌝ }
-    ensures { λ r. ⌜ Serves (now (f .entry)) h (now (stops .entry)) k
+    requires { ⌜ All (λ p. length p ≡ 3) (now stops)
+        × StopsReady (now f) h (map (stopOf h) (now stops)) k (lent (now dist) (now site) (now cue) (now marks)) ⌝ }
+    ensures { λ r. ⌜ Serves (now (f .entry)) h (map (stopOf h) (now (stops .entry))) k
         (lent (now (dist .entry)) (now (site .entry)) (now (cue .entry)) (now (marks .entry))) (servingOutcome r)
         (lent (now (dist .exit)) (now (site .exit)) (now (cue .exit)) (now (marks .exit))) ⌝ }
 {

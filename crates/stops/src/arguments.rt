@@ -1,7 +1,9 @@
-// Tests 11 to 14 of the join.
+// Tests 11 to 14 and 17 of the join. Stops come by columns, x, y and z: of a plan call y stands for z.
 ghost use mathlib.Core.List.{[], _∷_};
 ghost use mathlib.Core.Path.{_≡_};
+ghost use lib.ListN.{take};
 ghost use Rattle.base.specs.Inner.AnswerNumber.{numberOutcome};
+ghost use Rattle.geometry.specs.Axes.{Columns};
 ghost use Rattle.stops.specs.Arguments.{stopsDue, room, arguments};
 use crate::around::valid_stops;
 use base::both;
@@ -18,11 +20,15 @@ pub struct Lengths {
 }
 
 // Test 12.
-fn stops_due(xs: &[i32], ys: &[i32]) -> bool
-    ensures { λ r. ⌜ r ≡ stopsDue (now (xs .entry) ∷ now (ys .entry) ∷ []) ⌝ }
+fn stops_due(axes: usize, xs: &[i32], ys: &[i32], zs: &[i32]) -> bool
+    requires { ⌜ Columns axes (now ys) (now zs) ⌝ }
+    ensures { λ r. ⌜ r ≡ stopsDue (take axes (now (xs .entry) ∷ now (ys .entry) ∷ now (zs .entry) ∷ [])) ⌝ }
 {
     let n = xs.len();
-    both(both(1 <= n, n <= MAX_STOPS), ys.len() == n)
+    both(
+        both(1 <= n, n <= MAX_STOPS),
+        both(ys.len() == n, zs.len() == n),
+    )
 }
 
 // Test 14: n places in each of three slices, and T marks.
@@ -35,17 +41,30 @@ fn room(n: usize, h: Header, l: Lengths) -> bool
     )
 }
 
-// The number of the first test that the arguments fail, or 0.
-pub fn failed_argument(h: Header, xs: &[i32], ys: &[i32], k: u32, l: Lengths) -> u32
-    ensures { λ r. ⌜ numberOutcome r 0 ≡ arguments (h .tiles) (now (xs .entry) ∷ now (ys .entry) ∷ []) k l ⌝ }
+// The number of the first test that the arguments of a call for this number of axes fail, or 0.
+pub fn failed_argument(
+    h: Header,
+    axes: usize,
+    xs: &[i32],
+    ys: &[i32],
+    zs: &[i32],
+    k: u32,
+    l: Lengths,
+) -> u32
+    requires { ⌜ Columns axes (now ys) (now zs) ⌝ }
+    ensures { λ r. ⌜ numberOutcome r 0
+        ≡ arguments h (take axes (now (xs .entry) ∷ now (ys .entry) ∷ now (zs .entry) ∷ [])) k l ⌝ }
 {
     if !valid_k(k) {
         return base::K;
     }
-    if !stops_due(xs, ys) {
+    if !stops_due(axes, xs, ys, zs) {
         return base::STOPS;
     }
-    if !valid_stops(xs, ys) {
+    if h.axes != axes {
+        return base::AXES;
+    }
+    if !valid_stops(axes, xs, ys, zs) {
         return base::SPOT;
     }
     let n = xs.len() * (k as usize);

@@ -3,8 +3,9 @@ ghost use mathlib.Core.Path.{_≡_};
 ghost use mathlib.Core.Bool.{cond};
 ghost use mathlib.Core.List.{[], _∷_};
 ghost use Prim.Native.Nat.{_<_};
-ghost use lib.ListN.{length};
+ghost use lib.ListN.{length, take};
 ghost use lib.Signed.{ltZ};
+ghost use Rattle.geometry.specs.Axes.{KnownAxes};
 ghost use Rattle.geometry.specs.Around.{least, greatest, around};
 ghost use Rattle.stops.specs.Arguments.{stopsValid};
 use crate::stop::stop_at;
@@ -12,13 +13,13 @@ use geometry::limits::valid_point;
 use plan::region::Region;
 
 // Test 13.
-pub fn valid_stops(xs: &[i32], ys: &[i32]) -> bool
-    requires { ⌜ length (now ys) ≡ length (now xs) ⌝ }
-    ensures { λ r. ⌜ r ≡ stopsValid (now (xs .entry) ∷ now (ys .entry) ∷ []) ⌝ }
+pub fn valid_stops(axes: usize, xs: &[i32], ys: &[i32], zs: &[i32]) -> bool
+    requires { ⌜ KnownAxes axes × (length (now ys) ≡ length (now xs)) × (length (now zs) ≡ length (now xs)) ⌝ }
+    ensures { λ r. ⌜ r ≡ stopsValid (take axes (now (xs .entry) ∷ now (ys .entry) ∷ now (zs .entry) ∷ [])) ⌝ }
 {
     let mut i: usize = 0;
     while i < xs.len() {
-        if !valid_point(stop_at(xs, ys, i)) {
+        if !valid_point(axes, stop_at(xs, ys, zs, i)) {
             return false;
         }
         i += 1;
@@ -65,13 +66,15 @@ fn greatest(xs: &[i32]) -> i32
 }
 
 // The smallest box around the stops.
-pub fn around(xs: &[i32], ys: &[i32]) -> Region
-    requires { ⌜ (0 < length (now xs)) × (0 < length (now ys)) ⌝ }
-    ensures { λ r. ⌜ r ≡ around (now (xs .entry) ∷ now (ys .entry) ∷ []) ⌝ }
+pub fn around(xs: &[i32], ys: &[i32], zs: &[i32]) -> Region
+    requires { ⌜ (0 < length (now xs)) × (0 < length (now ys)) × (0 < length (now zs)) ⌝ }
+    ensures { λ r. ⌜ r ≡ around (now (xs .entry) ∷ now (ys .entry) ∷ now (zs .entry) ∷ []) ⌝ }
 {
     let low_x = least(xs);
     let high_x = greatest(xs);
     let low_y = least(ys);
     let high_y = greatest(ys);
-    [[low_x, high_x], [low_y, high_y]]
+    let low_z = least(zs);
+    let high_z = greatest(zs);
+    [[low_x, high_x], [low_y, high_y], [low_z, high_z]]
 }

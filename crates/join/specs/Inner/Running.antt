@@ -7,13 +7,10 @@ use Rattle.base.specs.Refusal.{accepted}
 use Rattle.blocks.specs.Directory.{directory}
 use Rattle.blocks.specs.declared.header.Header.{Header}
 use Rattle.list.specs.Slices.{Slices}
-use Rattle.plan.specs.FilePlan.{axisCount}
 use Rattle.stops.specs.Inner.Good.{GoodArguments}
 use Rattle.join.specs.Join.{lengthsOf}
-use lib.ListN.{length}
 
--- tests 1 to 14 passed
+-- tests 1 to 14 and 17 passed
 pub record RunReady (f : List ℕ) (h : Header) (cols : List (List ℤ)) (k : ℕ) (out : Slices) : Type 0 where
   pub dir : directory f ≡ accepted h
-  pub axes : length cols ≡ axisCount
-  pub args : GoodArguments (h .tiles) cols k (lengthsOf out)
+  pub args : GoodArguments h cols k (lengthsOf out)

@@ -1,8 +1,10 @@
 -- The tables of distances from the corners of a region that the code keeps.
 --
+--   maxCorners   of a region, with height
 --   farSize      elements of the table of far: that of corner c and tile t stands at c * maxTiles + t
---   fars, nears  far from a stop to each tile; near from each corner to a tile
+--   fars         far from a stop to each tile
 --   FarTable     the parts of the first corners are filled
+--   NearTable    near from each corner to a tile
 --   belowAll     a tile is far below near, from each corner
 --   sumBelow     how many sites rank of those of some tiles that are
 --   FirstBelow   the first tile that is, from one corner
@@ -22,25 +24,29 @@ use Rattle.plan.specs.Inner.Seam.{cornerOf, cornerCount, far}
 use Rattle.search.specs.Lists.{range, total}
 use Rattle.search.specs.Plan.{near, ranked}
 
+-- room for the corners of a region with height
+abbrev pub maxCorners : ℕ
+maxCorners = 8
+
 abbrev pub farSize : ℕ
-farSize = cornerCount * maxTiles
+farSize = maxCorners * maxTiles
 
 abbrev pub fars : List ℕ → Header → List ℤ → List ℕ
-fars f h p = map (far f p) (range 0 (h .tiles))
-
-abbrev pub nears : List ℕ → Header → List (List ℤ) → ℕ → List ℕ
-nears f h o t = map (λ c. near (entries f h) (cornerOf o c) t) (range 0 cornerCount)
+fars f h p = map (far f h p) (range 0 (h .tiles))
 
 pub record FarTable (f : List ℕ) (h : Header) (o : List (List ℤ)) (n : ℕ) (table : List ℕ) : Type 0 where
   pub long : length table ≡ farSize
-  pub at : (c t : ℕ) → c < n → t < h .tiles → getD table (c * maxTiles + t) 0 ≡ far f (cornerOf o c) t
+  pub at : (c t : ℕ) → c < n → t < h .tiles → getD table (c * maxTiles + t) 0 ≡ far f h (cornerOf o c) t
 
-unfoldable pub belowAll : List ℕ → List ℕ → ℕ → Bool
-belowAll table near e = every (λ c. ltb (getD table (c * maxTiles + e) 0) (getD near c 0)) cornerCount
+abbrev pub NearTable : List ℕ → Header → List (List ℤ) → ℕ → List ℕ → Type 0
+NearTable f h o t nears = (c : ℕ) → c < cornerCount h → getD nears c 0 ≡ near (entries f h) (cornerOf o c) t
+
+unfoldable pub belowAll : Header → List ℕ → List ℕ → ℕ → Bool
+belowAll h table near e = every (λ c. ltb (getD table (c * maxTiles + e) 0) (getD near c 0)) (cornerCount h)
 
 -- of the n tiles from a on
 abbrev pub sumBelow : List ℕ → Header → List ℕ → List ℕ → ℕ → ℕ → ℕ
-sumBelow f h table near a n = total (belowAll table near) (ranked (entries f h)) (range a n)
+sumBelow f h table near a n = total (belowAll h table near) (ranked (entries f h)) (range a n)
 
 -- from one tile on the first before `to` that is far below near, from the corner whose part stands first; `to` if
 -- there is none

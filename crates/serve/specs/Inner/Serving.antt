@@ -18,8 +18,8 @@ use Rattle.blocks.specs.declared.header.Header.{Header}
 use Rattle.list.specs.Inner.Keeping.{places, Ready}
 use Rattle.list.specs.Slices.{Long, Lists, Slices, placeAt, lay, cleared}
 use Rattle.places.specs.declared.tile.Target.{Target}
-use Rattle.plan.specs.FilePlan.{plane, entries, openingOf, Site}
-use Rattle.plan.specs.Inner.Seam.{TileOf, ValidStop}
+use Rattle.plan.specs.FilePlan.{space, entries, openingOf, Site}
+use Rattle.plan.specs.Inner.Seam.{TileOf, stopOf, ValidStop}
 use Rattle.queue.specs.Inner.Keys.{waits}
 use Rattle.search.specs.Inner.Cut.{inserts}
 use Rattle.search.specs.Inner.Places.{maxPlaces}
@@ -40,15 +40,15 @@ servingOutcome (Refused r) = refused (r .number) (r .block)
 
 pub record TileReady (f : List ℕ) (h : Header) (t : ℕ) (g : Target) (used : ℕ) (o : Slices) : Type 0 where
   pub tile : TileOf f h t
-  pub stop : ValidStop (g .stop)
+  pub stop : ValidStop h (stopOf h (g .stop))
   pub list : Ready (o .lists) (g .at) used (g .k)
   pub marks : h .tiles ≤ length (o .marks)
   pub opens : OpenedOpen f h (o .marks)
 
-module _ (t : ℕ) (g : Target) (used : ℕ) where
+module _ (h : Header) (t : ℕ) (g : Target) (used : ℕ) where
   -- the list with the tile's sites that rank put in
   abbrev pub withSites : List Site → Lists → List Place
-  withSites l o = inserts rank (g .k) (tilePlaces plane (g .stop) t l) (places o (g .at) used)
+  withSites l o = inserts rank (g .k) (tilePlaces space (stopOf h (g .stop)) t l) (places o (g .at) used)
 
   -- opened, with these in the list; or refused, with nothing changed
   abbrev pub afterTile : Outcome (List Site) → Slices → Slices
@@ -68,7 +68,7 @@ pub record StopReady (f : List ℕ) (h : Header) (order : List ℕ) (g : Target)
   pub dir : directory f ≡ accepted h
   pub tiles : All (λ t. t < h .tiles) order
   pub rise : Strict ltb order
-  pub stop : ValidStop (g .stop)
+  pub stop : ValidStop h (stopOf h (g .stop))
   pub list : Ready (o .lists) (g .at) 0 (g .k)
   pub room : length order ≤ length keys
   pub marks : h .tiles ≤ length (o .marks)
@@ -88,7 +88,7 @@ pub record StopServed (f : List ℕ) (h : Header) (w : Trace (List Place)) (k at
 
 pub record StopsReady (f : List ℕ) (h : Header) (ps : List (List ℤ)) (k : ℕ) (o : Slices) : Type 0 where
   pub dir : directory f ≡ accepted h
-  pub valid : All ValidStop ps
+  pub valid : All (ValidStop h) ps
   pub some : 0 < k
   pub few : length ps * k ≤ maxPlaces
   pub long : Long (o .lists) (length ps * k)

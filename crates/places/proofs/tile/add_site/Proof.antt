@@ -2,8 +2,8 @@ use mathlib.Core.Path.{_≡_, ap, _∙_}
 use borrow.Author.Needs.{needs}
 use Rattle.base.proofs.Tests.{passed, failed}
 use Rattle.list.proofs.Full.{put-nothing}
-use Rattle.plan.specs.FilePlan.{cueRanks, plane}
-use Rattle.plan.specs.Inner.Seam.{siteIn}
+use Rattle.plan.specs.FilePlan.{cueRanks, space}
+use Rattle.plan.specs.Inner.Seam.{stopOf, siteIn}
 use Rattle.search.specs.declared.Place.{Place}
 use Rattle.places.proofs.Adding.{the-ranking, the-muted}
 use Rattle.places.proofs.tile.add_site.Statement.{statement}
@@ -11,7 +11,8 @@ use Rattle.places.proofs.tile.add_site.Tie as tie
 
 -- the test by the cue is that by the site
 ranks-told : (c : tie.After-ranks) →
-    let s : tie.Start = search in c .ranks .result ≡ plane .ranks (siteIn (s .args .s .now) (s .args .slot))
+    let s : tie.Start = search in
+    c .ranks .result ≡ space .ranks (siteIn (s .args .h .axes) (s .args .s .now) (s .args .slot))
 ranks-told c =
     let x : tie.After-place-in = search in
     c .ranks .ensures ∙ ap (λ (z : Place). cueRanks (z .cue)) (x .place-in .ensures)
@@ -33,7 +34,8 @@ returns c =
     let s : tie.Start = search in
     let a = s .args in
     let t : tie.Then1 = search in
-    rw (the-muted (a .s .now) (a .target .stop) (a .first) (a .slot) (failed (ranks-told search) (t .if1 .taken)))
+    let p = stopOf (a .h) (a .target .stop) in
+    rw (the-muted (a .h) (a .s .now) p (a .first) (a .slot) (failed (ranks-told search) (t .if1 .taken)))
     (put-nothing _ (a .target .at) (a .used) (a .target .k))
 
 insert-place-requires : tie.Need-insert-place-requires
@@ -55,8 +57,9 @@ returns-2 c =
     let e : tie.Else1 = search in
     let x : tie.After-place-in = search in
     let put : tie.After-insert-place = search in
+    let p = stopOf (a .h) (a .target .stop) in
     rw (
-      the-ranking (a .s .now) (a .target .stop) (a .first) (a .slot) (passed (ranks-told search) (e .if1 .left)),
+      the-ranking (a .h) (a .s .now) p (a .first) (a .slot) (passed (ranks-told search) (e .if1 .left)),
       ← x .place-in .ensures,
     )
     (put .insert-place .ensures)

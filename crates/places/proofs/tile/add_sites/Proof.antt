@@ -8,11 +8,11 @@ use Rattle.places.proofs.tile.add_sites.Statement.{statement}
 use Rattle.places.proofs.tile.add_sites.Tie as tie
 
 abbrev Inv-loop : tie.InvT-loop
-Inv-loop s n first target used dist₀ site₀ cue₀ m₀ slot₀ dist site cue m slot =
-    Adding s n first target (lists dist₀ site₀ cue₀) used (lists dist site cue) m slot
+Inv-loop h s n first target used dist₀ site₀ cue₀ m₀ slot₀ dist site cue m slot =
+    Adding h s n first target (lists dist₀ site₀ cue₀) used (lists dist site cue) m slot
 
 abbrev μ-loop : tie.MeasureT-loop
-μ-loop s n first target used dist₀ site₀ cue₀ m₀ slot₀ dist site cue m slot = n - slot
+μ-loop h s n first target used dist₀ site₀ cue₀ m₀ slot₀ dist site cue m slot = n - slot
 
 next-slot-requires : tie.Need-next-slot-requires Inv-loop μ-loop
 next-slot-requires c κs = search needs
@@ -21,7 +21,7 @@ loop-holds : tie.Need-loop-holds Inv-loop μ-loop
 loop-holds c =
     let s : tie.Start Inv-loop μ-loop = search in
     let a = s .args in
-    adding-skip (adding-starts (a .s .now) (a .n) (a .first) (a .target) (s .pre .3)) (c .next-slot .ensures)
+    adding-skip (adding-starts (a .h) (a .s .now) (a .n) (a .first) (a .target) (s .pre .3)) (c .next-slot .ensures)
 
 add-site-requires : tie.Need-add-site-requires Inv-loop μ-loop
 add-site-requires c κs =

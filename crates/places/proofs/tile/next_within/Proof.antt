@@ -2,8 +2,8 @@ use Prim.Native.Nat.{ℕ, _-_, _<_, _≤_}
 use mathlib.Core.Path.{_≡_, ap}
 use native.Mathlib.Omega.{arith}
 use borrow.Author.Needs.{needs}
-use Rattle.plan.specs.FilePlan.{plane}
-use Rattle.plan.specs.Inner.Seam.{siteIn}
+use Rattle.plan.specs.FilePlan.{space}
+use Rattle.plan.specs.Inner.Seam.{stopOf, siteIn}
 use Rattle.search.specs.declared.Place.{Place}
 use Rattle.search.proofs.Lists.{up-to-next}
 use Rattle.places.specs.Inner.Adding.{Farther}
@@ -12,10 +12,10 @@ use Rattle.places.proofs.tile.next_within.Tie as tie
 
 -- the sites from the start to the present slot are farther than the bound
 abbrev Inv-loop : tie.InvT-loop
-Inv-loop s n from p bound i₀ i = (from ≤ i) × (i ≤ n) × Farther s p bound from i
+Inv-loop h s n from p bound i₀ i = (from ≤ i) × (i ≤ n) × Farther h s (stopOf h p) bound from i
 
 abbrev μ-loop : tie.MeasureT-loop
-μ-loop s n from p bound i₀ i = n - i
+μ-loop h s n from p bound i₀ i = n - i
 
 loop-holds : tie.Need-loop-holds Inv-loop μ-loop
 loop-holds c = let s : tie.Start Inv-loop μ-loop = search in (omega arith, s .pre .1, λ slot l u. absurd (omega arith))
@@ -39,7 +39,7 @@ loop-again c =
     let x : tie.After-place-in Inv-loop μ-loop = search in
     let a = s .args in
     let i = l .loop .i in
-    let D : ℕ → ℕ = λ slot. plane .D (a .p) (siteIn (a .s .now) slot) in
+    let D : ℕ → ℕ = λ slot. space .D (stopOf (a .h) (a .p)) (siteIn (a .h .axes) (a .s .now) slot) in
     let d : x .place-in .result .dist ≡ D i = ap (λ (z : Place). z .dist) (x .place-in .ensures) in (
       omega (arith, l .loop .inv .0),
       omega arith,

@@ -1,6 +1,8 @@
-use mathlib.Core.Path.{_∙_}
+use mathlib.Core.Path.{_≡_, ap, _∙_}
+use lib.ListN.{take}
 use borrow.Author.Needs.{needs}
-use Rattle.geometry.proofs.Theorems.{inside-axes, inside-valid, corner-inside}
+use Rattle.geometry.proofs.Theorems.{inside-axes, inside-valid, corner-inside, take-corner}
+use Rattle.plan.specs.Inner.Seam.{stopOf, regionOf, cornerOf}
 use Rattle.plan.proofs.region.corner_of.Statement.{statement}
 use Rattle.plan.proofs.region.corner_of.Tie as tie
 
@@ -10,14 +12,14 @@ corner-requires c κs = search needs
 returns : tie.Need-returns
 returns c =
     let s : tie.Start = search in
-    let e = c .corner .ensures in
-    let v = s .pre in
-    let i = corner-inside (s .args .o) (v .valid) (s .args .c) in (
+    let h = s .args .h in
+    let o = regionOf h (s .args .o) in
+    let v = s .pre .1 in
+    let e : stopOf h (c .corner .result) ≡ cornerOf o (s .args .c) =
+    ap (take (h .axes)) (c .corner .ensures) ∙ take-corner (h .axes) (s .args .o) (s .args .c) in
+    let i = corner-inside o (v .valid) (s .args .c) in (
       e,
-      record {
-        valid = rw e (inside-valid (s .args .o) _ (v .valid) i);
-        axes = rw e (inside-axes (s .args .o) _ i ∙ v .axes);
-      },
+      record { valid = rw e (inside-valid o _ (v .valid) i); axes = rw e (inside-axes o _ i ∙ v .axes) },
     )
 
 pub corner-of-spec : {M : Type 1} → statement M

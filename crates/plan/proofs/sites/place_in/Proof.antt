@@ -1,34 +1,34 @@
 use borrow.Author.Needs.{needs}
-use mathlib.Core.Path.{_≡_, ap}
+use mathlib.Core.Path.{ap, _∙_}
+use lib.ListN.{take}
+use native.Mathlib.Omega.{arith}
 use Rattle.geometry.specs.Distance.{D}
-use Rattle.tiles.specs.Tile.{sitePoint}
-use Rattle.codec.proofs.Number.{local-i32}
-use Rattle.plan.specs.Inner.Seam.{sitePlace}
+use Rattle.plan.specs.Inner.Seam.{stopOf}
 use Rattle.plan.proofs.sites.place_in.Statement.{statement}
 use Rattle.plan.proofs.sites.place_in.Tie as tie
 
-site-in-requires : tie.Need-site-in-requires
-site-in-requires c κs = search needs
+point-in-requires : tie.Need-point-in-requires
+point-in-requires c κs =
+    let s : tie.Start = search in
+    (s .pre .0 .axes, omega (arith, s .pre .0 .few, s .pre .1), s .pre .0 .whole)
+
+cue-in-requires : tie.Need-cue-in-requires
+cue-in-requires c κs =
+    let s : tie.Start = search in
+    (s .pre .0 .axes, omega (arith, s .pre .0 .few, s .pre .1), s .pre .0 .whole)
 
 squared-dist-requires : tie.Need-squared-dist-requires
 squared-dist-requires c κs =
     let s : tie.Start = search in
-    let r : tie.After-site-in = search in
-    let told = c .before .struct-told .given in
-    let x = local-i32 (r .site-in .result .x) (told .0 .1) in
-    let y = local-i32 (r .site-in .result .y) (told .1 .0 .1) in
-    (s .pre .2 .valid, simp (x, y) (simp (r .site-in .ensures) (s .pre .0 .valid (s .args .slot) (s .pre .1))))
+    let r : tie.After-point-in = search in
+    (s .pre .0 .axes, (s .pre .2 .valid, rw (r .point-in .ensures) (s .pre .0 .valid (s .args .slot) (s .pre .1))))
 
 returns : tie.Need-returns
 returns c =
     let s : tie.Start = search in
-    let r : tie.After-site-in = search in
-    let told = c .before .before .struct-told .given in
-    let x = local-i32 (r .site-in .result .x) (told .0 .1) in
-    let y = local-i32 (r .site-in .result .y) (told .1 .0 .1) in
-    let d : c .squared-dist .result ≡ D (s .args .p) (sitePoint (r .site-in .result)) = simp
-    (x, y) at (c .squared-dist .ensures) in
-    rw d (ap (sitePlace (s .args .p) (s .args .number)) (r .site-in .ensures))
+    let p : tie.After-point-in = search in
+    let q : tie.After-cue-in = search in
+    rw (c .squared-dist .ensures, p .point-in .ensures, q .cue-in .ensures)
 
 pub place-in-spec : {M : Type 1} → statement M
-place-in-spec = tie.close (tie.spec site-in-requires squared-dist-requires returns)
+place-in-spec = tie.close (tie.spec point-in-requires cue-in-requires squared-dist-requires returns)

@@ -1,7 +1,9 @@
 use native.Mathlib.Omega.{arith}
 use borrow.Author.Needs.{needs}
 use Rattle.search.specs.Plan.{ranked}
+use Rattle.blocks.proofs.DirectoryLaws.{directory-good}
 use Rattle.blocks.proofs.Theorems.{entry-of-accepted}
+use Rattle.plan.proofs.Lawful.{sites-few}
 use Rattle.plan.proofs.sites.ranked.Statement.{statement}
 use Rattle.plan.proofs.sites.ranked.Tie as tie
 
@@ -24,7 +26,8 @@ returns c =
     let e = entry-of-accepted (s .args .f .now) (s .args .h) (s .args .t) (s .pre .dir) (s .pre .below) in
     let m = c .muted-at .ensures in
     let n = c .before .count-at .ensures in
-    (rw (m, n), omega (arith, e .1, n))
+    let few = sites-few (s .args .h .axes) _ (directory-good _ (s .pre .dir) .axes) (e .1) in
+    (rw (m, n), omega (arith, few, n))
 
 pub ranked-spec : {M : Type 1} → statement M
 ranked-spec = tie.close (tie.spec count-at-requires muted-at-requires sub-result returns)

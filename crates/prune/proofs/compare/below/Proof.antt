@@ -1,74 +1,52 @@
-use Prim.Native.Nat.{suc, _+_, _-_, _*_, _≤_}
-use mathlib.Core.Bool.{Bool, true, _&&_, and-assoc, and-comm}
-use mathlib.Core.Path.{_≡_, refl, ap, _∙_}
+use Prim.Native.Nat.{ℕ, _+_, _*_}
+use mathlib.Core.Bool.{Bool}
+use mathlib.Core.Path.{_≡_, sym, _∙_}
+use native.Mathlib.Nat.{zero-add}
+use native.Mathlib.Omega.{arith}
 use lib.Dec.{ltb}
 use lib.ListN.{getD}
 use borrow.Author.Needs.{needs}
 use Rattle.base.specs.Every.{every}
 use Rattle.blocks.specs.Layout.{maxTiles}
-use Rattle.plan.specs.Inner.Seam.{cornerCount}
+use Rattle.base.proofs.Every.{every-same}
 use Rattle.prune.specs.Inner.Tables.{belowAll}
+use Rattle.prune.proofs.CornerTables.{every-parts}
 use Rattle.prune.proofs.compare.below.Statement.{statement}
 use Rattle.prune.proofs.compare.below.Tie as tie
 
--- a test taken out of those that are left
-one-more : (all test rest : Bool) → all && test && rest ≡ all && (rest && test)
-one-more all test rest = and-assoc all test rest ∙ ap (λ z. all && z) (and-comm test rest)
+-- the test of one corner
+abbrev test : tie.Start → ℕ → Bool
+test s i = ltb (getD (s .args .far .now) (i * maxTiles + s .args .e) 0) (getD (s .args .near) i 0)
 
-abbrev Inv-loop : tie.InvT-loop
-Inv-loop far e near all₀ c₀ all c =
-    (c ≤ cornerCount)
-    × (all && every (λ i. ltb (getD far (i * maxTiles + e) 0) (getD near i 0)) c ≡ belowAll far near e)
+-- the first four
+low : (c : tie.After-below-four) → let s : tie.Start = search in c .below-four .result ≡ every (test s) 4
+low c = let s : tie.Start = search in c .below-four .ensures ∙ every-same _ (test s) 4 (λ i l. rw (zero-add i))
 
-abbrev μ-loop : tie.MeasureT-loop
-μ-loop far e near all₀ c₀ all c = c
+below-four-requires : tie.Need-below-four-requires
+below-four-requires c κs = search needs
 
-loop-holds : tie.Need-loop-holds Inv-loop μ-loop
-unfolding belowAll
-loop-holds c = (search needs, refl)
+below-four-requires-2 : tie.Need-below-four-requires-2
+below-four-requires-2 c κs = search needs
 
-sub-c : tie.Need-sub-c Inv-loop μ-loop
-sub-c c = search needs
-
-mul-both : tie.Need-mul-both Inv-loop μ-loop
-mul-both c = search needs
-
-add-both : tie.Need-add-both Inv-loop μ-loop
-add-both c = search needs
-
-mul-both-2 : tie.Need-mul-both-2 Inv-loop μ-loop
-mul-both-2 c = search needs
-
-shared-slice-read-both : tie.Need-shared-slice-read-both Inv-loop μ-loop
-shared-slice-read-both c = search needs
-
-mul-both-3 : tie.Need-mul-both-3 Inv-loop μ-loop
-mul-both-3 c = search needs
-
-array-read-both : tie.Need-array-read-both Inv-loop μ-loop
-array-read-both c = search needs
-
-both-requires : tie.Need-both-requires Inv-loop μ-loop
+both-requires : tie.Need-both-requires
 both-requires c κs = search needs
 
-loop-less : tie.Need-loop-less Inv-loop μ-loop
-loop-less c = search needs
-
-loop-again : tie.Need-loop-again Inv-loop μ-loop
-unfolding every
-loop-again c =
-    let l : tie.At-loop Inv-loop μ-loop = search in
-    let i = l .loop .c - 1 in
-    let next : l .loop .c ≡ suc i = search needs in
-    (search needs, rw (c .both .ensures) (one-more (l .loop .all) _ _ ∙ rw next at (l .loop .inv .1)))
-
-returns : tie.Need-returns Inv-loop μ-loop
-unfolding every
+returns : tie.Need-returns
+unfolding belowAll
 returns c =
-    let l : tie.At-loop Inv-loop μ-loop = search in
-    let none : l .loop .c ≡ 0 = search needs in
-    and-comm true (l .loop .all) ∙ rw none at (l .loop .inv .1)
+    let s : tie.Start = search in
+    let a : tie.After-below-four = search in
+    let b : tie.After-below-four2 = search in
+    let e : s .args .h .axes ≡ 3 = omega arith in
+    rw e (c .both .ensures ∙ rw (low a, b .below-four2 .ensures) (sym (every-parts (test s) 4 4)))
+
+returns-2 : tie.Need-returns-2
+unfolding belowAll
+returns-2 c =
+    let s : tie.Start = search in
+    let a : tie.After-below-four = search in
+    let e : s .args .h .axes ≡ 2 = omega arith in
+    rw e (low a)
 
 pub below-spec : {M : Type 1} → statement M
-below-spec = tie.close (tie.spec Inv-loop μ-loop loop-holds sub-c mul-both add-both mul-both-2 shared-slice-read-both
-    mul-both-3 array-read-both both-requires loop-less loop-again returns)
+below-spec = tie.close (tie.spec below-four-requires below-four-requires-2 both-requires returns returns-2)

@@ -8,13 +8,14 @@ use borrow.Author.Needs.{needs}
 use Rattle.base.specs.Over.{over}
 use Rattle.blocks.specs.Layout.{maxTiles}
 use Rattle.plan.specs.FilePlan.{entries}
+use Rattle.plan.specs.Inner.Seam.{regionOf}
 use Rattle.search.specs.Lists.{bit, range}
 use Rattle.search.specs.Lists as lists
 use Rattle.search.specs.Pruning.{pruned, prunedCount}
 use Rattle.base.proofs.HowMany.{bit-small}
 use Rattle.plan.proofs.Tables.{table-turn, table-done}
 use Rattle.prune.specs.Prune.{pruneMarks}
-use Rattle.plan.proofs.Measures.{tiles-few}
+use Rattle.plan.proofs.Measures.{known-axes, tiles-few}
 use Rattle.prune.proofs.Summing.{count-turn, count-done}
 use Rattle.prune.proofs.marking.prune_all.Statement.{statement}
 use Rattle.prune.proofs.marking.prune_all.Tie as tie
@@ -22,9 +23,10 @@ use Rattle.prune.proofs.marking.prune_all.Tie as tie
 abbrev Inv-loop : tie.InvT-loop
 Inv-loop f h far o k marks₀ middle count₀ t₀ marks count t =
     (t ≤ h .tiles) × (count ≤ t) × (length marks ≡ length marks₀)
-    × (count + lists.count (pruned (entries f h) o k) (range t (h .tiles - t)) ≡ prunedCount (entries f h) o k)
-    × (over marks t (map (λ i. bit (pruned (entries f h) o k i)) (range t (h .tiles - t)))
-    ≡ over marks₀ 0 (pruneMarks f h o k))
+    × (count + lists.count (pruned (entries f h) (regionOf h o) k) (range t (h .tiles - t))
+    ≡ prunedCount (entries f h) (regionOf h o) k)
+    × (over marks t (map (λ i. bit (pruned (entries f h) (regionOf h o) k i)) (range t (h .tiles - t)))
+    ≡ over marks₀ 0 (pruneMarks f h (regionOf h o) k))
 
 abbrev μ-loop : tie.MeasureT-loop
 μ-loop f h far o k marks₀ middle count₀ t₀ marks count t = h .tiles - t
@@ -33,12 +35,12 @@ most : (s : tie.Start Inv-loop μ-loop) → s .args .h .tiles ≤ maxTiles
 most s = tiles-few (s .args .f .now) (s .args .h) (s .pre .0 .0)
 
 abbrev test : tie.Start Inv-loop μ-loop → ℕ → Bool
-test s = pruned (entries (s .args .f .now) (s .args .h)) (s .args .o) (s .args .k)
+test s = pruned (entries (s .args .f .now) (s .args .h)) (regionOf (s .args .h) (s .args .o)) (s .args .k)
 
 middle-tile-requires : tie.Need-middle-tile-requires Inv-loop μ-loop
 middle-tile-requires c κs =
     let s : tie.Start Inv-loop μ-loop = search in
-    (most s, s .pre .1 .long)
+    (known-axes (s .args .f .now) (s .args .h) (s .pre .0 .0), most s, s .pre .1 .long)
 
 loop-holds : tie.Need-loop-holds Inv-loop μ-loop
 unfolding prunedCount pruneMarks

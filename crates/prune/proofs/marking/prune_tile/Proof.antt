@@ -1,6 +1,7 @@
 use mathlib.Core.Path.{_≡_, sym, _∙_}
 use borrow.Author.Needs.{needs}
 use Rattle.plan.specs.FilePlan.{entries}
+use Rattle.plan.specs.Inner.Seam.{regionOf}
 use Rattle.search.specs.Pruning.{pruned}
 use Rattle.prune.proofs.CornerTables.{sum-prunes}
 use Rattle.prune.proofs.marking.prune_tile.Statement.{statement}
@@ -8,13 +9,15 @@ use Rattle.prune.proofs.marking.prune_tile.Tie as tie
 
 -- the sum decides
 sums : (c : tie.After-reaches) → let s : tie.Start = search in
-    c .reaches .result ≡ pruned (entries (s .args .f .now) (s .args .h)) (s .args .o) (s .args .k) (s .args .t)
+    c .reaches .result
+    ≡ pruned (entries (s .args .f .now) (s .args .h)) (regionOf (s .args .h) (s .args .o)) (s .args .k) (s .args .t)
 sums c =
     let s : tie.Start = search in
     let n : tie.After-near-from = search in
     let tile = s .pre .0 .0 in
-    c .reaches .ensures ∙ rw (n .near-from .ensures) (sum-prunes (s .args .f .now) (s .args .h) (tile .dir) (s .args .o)
-    (s .pre .0 .1) (s .pre .1) (s .args .t) (tile .below) (s .args .k))
+    c .reaches .ensures ∙ sum-prunes (s .args .f .now) (s .args .h) (tile .dir) (regionOf (s .args .h) (s .args .o))
+    (s .pre .0 .1) (s .pre .1) (s .args .t) (tile .below) (n .near-from .result) (n .near-from .ensures)
+    (s .args .k)
 
 near-from-requires : tie.Need-near-from-requires
 near-from-requires c κs = search needs

@@ -10,7 +10,7 @@ use Rattle.blocks.specs.Layout.{maxTiles}
 use Rattle.plan.specs.FilePlan.{entries}
 use Rattle.search.specs.Plan.{slots, ranked}
 use Rattle.prune.specs.Inner.Tables.{belowAll, sumBelow, FirstBelow}
-use Rattle.plan.proofs.Measures.{tiles-few}
+use Rattle.plan.proofs.Measures.{known-axes, tiles-few}
 use Rattle.prune.proofs.CornerTables.{not-below}
 use Rattle.prune.proofs.Summing.{sum-turn, sum-skip, sum-done}
 use Rattle.prune.proofs.marking.reaches_among.Statement.{statement}
@@ -30,7 +30,7 @@ rest s e = sumBelow (s .args .f .now) (s .args .h) (s .args .far .now) (s .args 
 
 -- which tiles add, and what
 abbrev adds : tie.Start Inv-loop μ-loop → ℕ → Bool
-adds s = belowAll (s .args .far .now) (s .args .t4)
+adds s = belowAll (s .args .h) (s .args .far .now) (s .args .t4)
 
 abbrev sites : tie.Start Inv-loop μ-loop → ℕ → ℕ
 sites s = ranked (entries (s .args .f .now) (s .args .h))
@@ -42,8 +42,10 @@ most s = tiles-few (s .args .f .now) (s .args .h) (s .pre .0 .0)
 passed : (s : tie.Start Inv-loop μ-loop) {a r : ℕ}
     → FirstBelow (s .args .far .now) (getD (s .args .t4) 0 0) a (s .args .to) r → rest s r ≡ rest s a
 passed s {a} {r} first =
+    let h = s .args .h in
+    let known = known-axes (s .args .f .now) h (s .pre .0 .0) in
     sum-skip (adds s) (sites s) a r (s .args .to) (first .after) (first .within)
-    (λ i l u. not-below (s .args .far .now) (s .args .t4) i (first .none i l u))
+    (λ i l u. not-below h known (s .args .far .now) (s .args .t4) i (first .none i l u))
 
 -- a tile's turn
 turn : (s : tie.Start Inv-loop μ-loop) (e w : ℕ) → e < s .args .to

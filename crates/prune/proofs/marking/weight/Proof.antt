@@ -1,7 +1,7 @@
 use mathlib.Core.Path.{sym, _∙_}
 use native.Mathlib.Omega.{arith}
 use borrow.Author.Needs.{needs}
-use Rattle.plan.proofs.Measures.{tiles-few}
+use Rattle.plan.proofs.Measures.{known-axes, tiles-few}
 use Rattle.prune.proofs.marking.weight.Statement.{statement}
 use Rattle.prune.proofs.marking.weight.Tie as tie
 
@@ -9,7 +9,7 @@ below-requires : tie.Need-below-requires
 below-requires c κs =
     let s : tie.Start = search in
     let most = tiles-few (s .args .f .now) (s .args .h) (s .pre .0 .dir) in
-    (omega (arith, s .pre .0 .below), s .pre .1)
+    (known-axes (s .args .f .now) (s .args .h) (s .pre .0 .dir), omega (arith, s .pre .0 .below), s .pre .1)
 
 ranked-requires : tie.Need-ranked-requires
 ranked-requires c κs = search needs

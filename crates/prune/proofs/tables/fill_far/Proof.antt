@@ -16,8 +16,9 @@ use Rattle.prune.proofs.tables.fill_far.Tie as tie
 
 abbrev Inv-loop : tie.InvT-loop
 Inv-loop f h p c far₀ first t₀ far t =
-    (t ≤ h .tiles) × (length far ≡ length far₀) × (over far (first + t) (map (seam.far f p) (range t (h .tiles - t)))
-    ≡ over far₀ first (fars f h p))
+    (t ≤ h .tiles) × (length far ≡ length far₀)
+    × (over far (first + t) (map (seam.far f h (seam.stopOf h p)) (range t (h .tiles - t)))
+    ≡ over far₀ first (fars f h (seam.stopOf h p)))
 
 abbrev μ-loop : tie.MeasureT-loop
 μ-loop f h p c far₀ first t₀ far t = h .tiles - t
@@ -59,7 +60,7 @@ loop-again : tie.Need-loop-again Inv-loop μ-loop
 loop-again c =
     let s : tie.Start Inv-loop μ-loop = search in
     let l : tie.At-loop Inv-loop μ-loop = search in
-    let g = seam.far (s .args .f .now) (s .args .p) in
+    let g = seam.far (s .args .f .now) (s .args .h) (seam.stopOf (s .args .h) (s .args .p)) in
     let first = s .args .c * maxTiles in
     let next : first + (l .loop .t + 1) ≡ first + l .loop .t + 1 = omega arith in (
       search needs,
@@ -75,7 +76,7 @@ returns : tie.Need-returns Inv-loop μ-loop
 returns c =
     let s : tie.Start Inv-loop μ-loop = search in
     let l : tie.At-loop Inv-loop μ-loop = search in
-    let g = seam.far (s .args .f .now) (s .args .p) in
+    let g = seam.far (s .args .f .now) (s .args .h) (seam.stopOf (s .args .h) (s .args .p)) in
     table-done g (l .loop .far) (s .args .c * maxTiles + l .loop .t) (l .loop .t) (s .args .h .tiles) (search needs)
     ∙ l .loop .inv .2
 

@@ -6,6 +6,7 @@ use lib.ListN.{length, length-set, drop}
 use borrow.Author.Needs.{needs}
 use Rattle.base.specs.Over.{over}
 use Rattle.plan.specs.FilePlan.{entries}
+use Rattle.plan.specs.Inner.Seam.{stopOf}
 use Rattle.search.specs.Plan.{near}
 use Rattle.search.proofs.Lists.{all-getD}
 use Rattle.queue.proofs.Filling.{keys-turn, keys-done}
@@ -14,7 +15,8 @@ use Rattle.queue.proofs.keys.fill_keys.Tie as tie
 
 abbrev Inv-loop : tie.InvT-loop
 Inv-loop f h order p keys₀ j₀ keys j = (j ≤ length order) × (length keys ≡ length keys₀)
-    × (over keys j (map (near (entries f h) p) (drop j order)) ≡ over keys₀ 0 (map (near (entries f h) p) order))
+    × (over keys j (map (near (entries f h) (stopOf h p)) (drop j order))
+    ≡ over keys₀ 0 (map (near (entries f h) (stopOf h p)) order))
 
 abbrev μ-loop : tie.MeasureT-loop
 μ-loop f h order p keys₀ j₀ keys j = length order - j
@@ -55,7 +57,7 @@ loop-again c =
     let l : tie.At-loop Inv-loop μ-loop = search in
     let s : tie.Start Inv-loop μ-loop = search in
     let a = s .args in
-    let g = near (entries (a .f .now) (a .h)) (a .p) in
+    let g = near (entries (a .f .now) (a .h)) (stopOf (a .h) (a .p)) in
     let turn = keys-turn g (a .order .now) (l .loop .keys) (l .loop .j) (i .loop-test .taken) in
     let n = length-set (l .loop .keys) (l .loop .j) (v .near .result) in
     (omega arith, n ∙ l .loop .inv .1, rw (v .near .ensures) (turn ∙ l .loop .inv .2))
@@ -68,7 +70,7 @@ returns c =
     let l : tie.At-loop Inv-loop μ-loop = search in
     let s : tie.Start Inv-loop μ-loop = search in
     let a = s .args in
-    let g = near (entries (a .f .now) (a .h)) (a .p) in
+    let g = near (entries (a .f .now) (a .h)) (stopOf (a .h) (a .p)) in
     keys-done g (a .order .now) (l .loop .keys) (l .loop .j) (omega arith) ∙ l .loop .inv .2
 
 pub fill-keys-spec : {M : Type 1} → statement M

@@ -1,16 +1,17 @@
-use Prim.Native.Nat.{_-_, _≤_}
-use mathlib.Core.List.{[]}
-use mathlib.Core.Path.{_≡_, refl, ap, _∙_}
+use Prim.Native.Nat.{ℕ, _-_, _*_, _<_, _≤_}
+use mathlib.Core.List.{List, [], map}
+use mathlib.Core.Path.{_≡_, refl, sym, ap, _∙_}
 use native.Mathlib.Omega.{arith}
-use lib.ListN.{length, take, length-take}
+use lib.IntN.{ℤ}
+use lib.ListN.{getD, length, take, length-take, length-map}
 use borrow.Author.Needs.{needs}
 use Rattle.blocks.specs.Layout.{maxTiles}
 use Rattle.list.specs.Slices.{lent}
 use Rattle.plan.specs.FilePlan.{entries}
-use Rattle.plan.specs.Inner.Seam.{ValidStop}
+use Rattle.plan.specs.Inner.Seam.{stopOf, ValidStop}
 use Rattle.plan.proofs.Measures.{tiles-few}
 use Rattle.queue.specs.Inner.Keys.{waits}
-use Rattle.search.proofs.Lists.{all-getD}
+use Rattle.search.proofs.Lists.{all-getD, getD-map-lt}
 use Rattle.queue.proofs.Gathering.{gathered, waiting-tiles, waiting-rise}
 use Rattle.serve.specs.Inner.Serving.{servingOutcome, waiting, walkOf, StopServed}
 use Rattle.serve.proofs.StopLoop.{StopTurn, stop, stop-starts, stop-ends, stop-refused, stop-next, stop-ready}
@@ -20,7 +21,7 @@ use Rattle.serve.proofs.serving.serve.Tie as tie
 abbrev Inv-loop : tie.InvT-loop
 Inv-loop f h stops k dist₀ site₀ cue₀ marks₀ order keys₀ m i₀ at₀ used₀ dist site cue marks keys i at used =
     (length keys ≡ length keys₀)
-    × StopTurn f h stops k (lent dist₀ site₀ cue₀ marks₀) (lent dist site cue marks) i at used
+    × StopTurn f h (map (stopOf h) stops) k (lent dist₀ site₀ cue₀ marks₀) (lent dist site cue marks) i at used
 
 abbrev μ-loop : tie.MeasureT-loop
 μ-loop f h stops k dist₀ site₀ cue₀ marks₀ order keys₀ m i₀ at₀ used₀ dist site cue marks keys i at used =
@@ -32,14 +33,15 @@ slice-aggregate-gather c = search needs
 gather-requires : tie.Need-gather-requires Inv-loop μ-loop
 gather-requires c κs =
     let s : tie.Start Inv-loop μ-loop = search in
-    (s .pre .dir, s .pre .marks, tiles-few (s .args .f .now) (s .args .h) (s .pre .dir))
+    (s .pre .1 .dir, s .pre .1 .marks, tiles-few (s .args .f .now) (s .args .h) (s .pre .1 .dir))
 
 loop-holds : tie.Need-loop-holds Inv-loop μ-loop
 loop-holds c =
     let s : tie.Start Inv-loop μ-loop = search in
     let a = s .args in
     let o = lent (a .dist .now) (a .site .now) (a .cue .now) (a .marks .now) in
-    (refl, stop-starts (a .f .now) (a .h) (a .stops .now) (a .k) o (s .pre .clear) (s .pre .opens))
+    let ps = map (stopOf (a .h)) (a .stops .now) in
+    (refl, stop-starts (a .f .now) (a .h) ps (a .k) o (s .pre .1 .clear) (s .pre .1 .opens))
 
 -- what was gathered: the waiting tiles, in their order
 abbrev start : tie.After-gather Inv-loop μ-loop → tie.Start Inv-loop μ-loop
@@ -51,7 +53,7 @@ waiting-gathered : (g : tie.After-gather Inv-loop μ-loop) →
     × (take (g .gather .result) (g .gather .last .1 .1 .1 .0) ≡ waiting (a .f .now) (a .h) (a .marks .now))
 waiting-gathered g =
     let s = start g in
-    gathered (g .gather .ensures) (tiles-few (s .args .f .now) (s .args .h) (s .pre .dir))
+    gathered (g .gather .ensures) (tiles-few (s .args .f .now) (s .args .h) (s .pre .1 .dir))
 
 abbrev gathering : tie.At-loop Inv-loop μ-loop → tie.After-gather Inv-loop μ-loop
 gathering l = search
@@ -59,7 +61,25 @@ gathering l = search
 few-gathered : (g : tie.After-gather Inv-loop μ-loop) → g .gather .result ≤ maxTiles
 few-gathered g =
     let s = start g in
-    omega (arith, waiting-gathered g .0, tiles-few (s .args .f .now) (s .args .h) (s .pre .dir))
+    omega (arith, waiting-gathered g .0, tiles-few (s .args .f .now) (s .args .h) (s .pre .1 .dir))
+
+-- the stops as points: as many, and each by its first coordinates
+module _ (s : tie.Start Inv-loop μ-loop) where
+  abbrev ps : List (List ℤ)
+  ps = map (stopOf (s .args .h)) (s .args .stops .now)
+
+  as-many : length ps ≡ length (s .args .stops .now)
+  as-many = length-map (s .args .stops .now) (stopOf (s .args .h))
+
+  all-places : length ps * s .args .k ≡ length (s .args .stops .now) * s .args .k
+  all-places = ap (λ n. n * s .args .k) as-many
+
+  a-stop : {i : ℕ} → i < length (s .args .stops .now) → i < length ps
+  a-stop l = rw as-many l
+
+  point : {i : ℕ} → i < length (s .args .stops .now)
+      → getD ps i [] ≡ stopOf (s .args .h) (getD (s .args .stops .now) i [])
+  point {i} l = getD-map-lt (stopOf (s .args .h)) (s .args .stops .now) i [] [] l
 
 stop-in-requires : tie.Need-stop-in-requires Inv-loop μ-loop
 stop-in-requires c κs =
@@ -67,7 +87,7 @@ stop-in-requires c κs =
     let l : tie.At-loop Inv-loop μ-loop = search in
     let s = start (gathering l) in
     let below = b .loop-test .taken in
-    (below, all-getD ValidStop (s .args .stops .now) (l .loop .i) [] below (s .pre .valid))
+    (below, all-getD (λ p. length p ≡ 3) (s .args .stops .now) (l .loop .i) [] below (s .pre .0))
 
 array-share-prefix-order : tie.Need-array-share-prefix-order Inv-loop μ-loop
 array-share-prefix-order c =
@@ -99,16 +119,17 @@ serve-stop-requires c κs =
     let waits′ = waits (entries (s .args .f .now) (s .args .h)) (s .args .marks .now) in
     let t = l .loop .inv .1 in
     let a = s .args in
+    let below = b .loop-test .taken in
     record {
-      dir = s .pre .dir;
+      dir = s .pre .1 .dir;
       tiles = rw (w .1) (waiting-tiles waits′ (s .args .h .tiles));
       rise = rw (w .1) (waiting-rise waits′ (s .args .h .tiles));
-      stop = rw (p .stop-in .ensures)
-          (all-getD ValidStop (a .stops .now) (l .loop .i) [] (b .loop-test .taken) (s .pre .valid));
-      list = stop-ready t (b .loop-test .taken) (s .pre .some) (s .pre .long);
+      stop = rw (p .stop-in .ensures, ← (point s below))
+          (all-getD (ValidStop (a .h)) (ps s) (l .loop .i) [] (a-stop s below) (s .pre .1 .valid));
+      list = stop-ready t (a-stop s below) (s .pre .1 .some) (s .pre .1 .long);
       room =
           omega (arith, few-gathered g, l .loop .inv .0, length-take (g .gather .result) (g .gather .last .1 .1 .1 .0));
-      marks = omega (arith, s .pre .marks, t .long);
+      marks = omega (arith, s .pre .1 .marks, t .long);
       opens = t .opens;
     }
 
@@ -129,17 +150,20 @@ served : (x : tie.After-serve-stop Inv-loop μ-loop) →
     let b = turned x in
     let l = head b in
     let a = start (gathering l) .args in
-    StopServed (a .f .now) (a .h) (stop (l .loop .inv .1) (b .loop-test .taken)) (a .k) (l .loop .at)
+    StopServed (a .f .now) (a .h) (stop (l .loop .inv .1) (a-stop (start (gathering l)) (b .loop-test .taken))) (a .k)
+    (l .loop .at)
     (lent (l .loop .dist) (l .loop .site) (l .loop .cue) (l .loop .marks)) (servingOutcome (x .serve-stop .result))
     (lent (x .serve-stop .last .1 .1 .1 .1 .1 .0) (x .serve-stop .last .1 .1 .1 .1 .1 .1 .0)
     (x .serve-stop .last .1 .1 .1 .1 .1 .1 .1 .0) (x .serve-stop .last .1 .1 .1 .1 .1 .1 .1 .1 .0))
 served x =
     let p : tie.After-stop-in Inv-loop μ-loop = search in
-    let g = gathering (head (turned x)) in
+    let b = turned x in
+    let g = gathering (head b) in
     let a = start g .args in
     let tiles = waiting (a .f .now) (a .h) (a .marks .now) in
-    let same = ap (λ order. walkOf (a .f .now) (a .h) order (p .stop-in .result) (a .k)) (waiting-gathered g .1)
-    ∙ ap (λ stop. walkOf (a .f .now) (a .h) tiles stop (a .k)) (p .stop-in .ensures) in
+    let here = ap (stopOf (a .h)) (p .stop-in .ensures) ∙ sym (point (start g) (b .loop-test .taken)) in
+    let same = ap (λ order. walkOf (a .f .now) (a .h) order (stopOf (a .h) (p .stop-in .result)) (a .k))
+    (waiting-gathered g .1) ∙ ap (λ stop. walkOf (a .f .now) (a .h) tiles stop (a .k)) here in
     rw same at (x .serve-stop .ensures)
 
 -- ---- it is refused: the slices are still as long, and are cleared
@@ -157,19 +181,22 @@ kept x =
 mul-clear-places : tie.Need-mul-clear-places Inv-loop μ-loop
 mul-clear-places c =
     let x : tie.After-serve-stop Inv-loop μ-loop = search in
-    omega (arith, start (gathering (head (turned x))) .pre .few)
+    let s = start (gathering (head (turned x))) in
+    omega (arith, s .pre .1 .few, all-places s)
 
 clear-places-requires : tie.Need-clear-places-requires Inv-loop μ-loop
 clear-places-requires c κs =
     let x : tie.After-serve-stop Inv-loop μ-loop = search in
-    let long = start (gathering (head (turned x))) .pre .long in
+    let s = start (gathering (head (turned x))) in
+    let n = all-places s in
+    let long = s .pre .1 .long in
     let k = kept x in
-    (omega (arith, k .0, long .0), (omega (arith, k .1, long .1 .0), omega (arith, k .2, long .1 .1)))
+    (omega (arith, n, k .0, long .0), (omega (arith, n, k .1, long .1 .0), omega (arith, n, k .2, long .1 .1)))
 
 clear8-requires : tie.Need-clear8-requires Inv-loop μ-loop
 clear8-requires c κs =
     let x : tie.After-serve-stop Inv-loop μ-loop = search in
-    omega (arith, kept x .3, start (gathering (head (turned x))) .pre .marks)
+    omega (arith, kept x .3, start (gathering (head (turned x))) .pre .1 .marks)
 
 same-length : tie.Need-same-length Inv-loop μ-loop
 same-length c =
@@ -202,8 +229,9 @@ returns c =
     let e : tie.After-enum-told Inv-loop μ-loop = search in
     let x : tie.After-serve-stop Inv-loop μ-loop = search in
     let b = turned x in
-    stop-refused (head b .loop .inv .1) (b .loop-test .taken) (served x) (ap servingOutcome (e .enum-told .given .1))
-    (p .clear-places .ensures) (m .clear8 .ensures)
+    let s = start (gathering (head b)) in
+    stop-refused (head b .loop .inv .1) (a-stop s (b .loop-test .taken)) (served x)
+    (ap servingOutcome (e .enum-told .given .1)) (rw (all-places s) (p .clear-places .ensures)) (m .clear8 .ensures)
 
 add-i : tie.Need-add-i Inv-loop μ-loop
 add-i c =
@@ -217,7 +245,8 @@ add-at c =
     let x : tie.After-serve-stop Inv-loop μ-loop = search in
     let b = turned x in
     let s = start (gathering (head b)) in
-    let ready = stop-ready (head b .loop .inv .1) (b .loop-test .taken) (s .pre .some) (s .pre .long) in
+    let ready = stop-ready (head b .loop .inv .1) (a-stop s (b .loop-test .taken)) (s .pre .1 .some) (s .pre .1 .long)
+    in
     omega (arith, ready .long .0, s .good .1 .1 .1 .1 .1 .0 .0)
 
 loop-less : tie.Need-loop-less Inv-loop μ-loop
@@ -230,7 +259,8 @@ loop-again c =
     let b = turned x in
     let t = head b .loop .inv in (
       x .serve-stop .kept .1 .1 .1 .1 .0 ∙ t .0,
-      stop-next (t .1) (b .loop-test .taken) (served x) _ (ap servingOutcome (n .answer .given .1)),
+      stop-next (t .1) (a-stop (start (gathering (head b))) (b .loop-test .taken)) (served x) _
+          (ap servingOutcome (n .answer .given .1)),
     )
 
 same-length-5 : tie.Need-same-length-5 Inv-loop μ-loop
@@ -248,7 +278,7 @@ same-length-8 c = search needs
 returns-2 : tie.Need-returns-2 Inv-loop μ-loop
 returns-2 c =
     let l : tie.At-loop Inv-loop μ-loop = search in
-    stop-ends (l .loop .inv .1) (omega (arith, c .loop-test .left))
+    stop-ends (l .loop .inv .1) (omega (arith, c .loop-test .left, as-many (start (gathering l))))
 
 pub serve-spec : {M : Type 1} → statement M
 serve-spec = tie.close (tie.spec Inv-loop μ-loop slice-aggregate-gather gather-requires loop-holds stop-in-requires

@@ -208,7 +208,7 @@ slices-taken : (x : tie.After-take-tile Inv-loop μ-loop) →
     let t = getD (a .order .now) (i .before .next-key .result .at) 0 in
     lent (x .take-tile .last .1 .1 .1 .1 .1 .0) (x .take-tile .last .1 .1 .1 .1 .1 .1 .0)
     (x .take-tile .last .1 .1 .1 .1 .1 .1 .1 .0) (x .take-tile .last .1 .1 .1 .1 .1 .1 .1 .1 .0)
-    ≡ afterTile t (a .target) (l .loop .used) (openingOf (a .f .now) (a .h) t)
+    ≡ afterTile (a .h) t (a .target) (l .loop .used) (openingOf (a .f .now) (a .h) t)
     (lent (l .loop .dist) (l .loop .site) (l .loop .cue) (l .loop .marks))
 slices-taken x = x .take-tile .ensures .1
 

@@ -1,6 +1,5 @@
 use borrow.Author.Needs.{needs}
-use Rattle.stops.specs.Arguments.{stopsDue}
-use Rattle.stops.proofs.ArgumentLaws.{second-column}
+use Rattle.stops.proofs.ArgumentLaws.{columns-told}
 use Rattle.stops.proofs.arguments.stops_due.Statement.{statement}
 use Rattle.stops.proofs.arguments.stops_due.Tie as tie
 
@@ -10,11 +9,17 @@ both-requires c κs = search needs
 both-requires-2 : tie.Need-both-requires-2
 both-requires-2 c κs = search needs
 
+both-requires-3 : tie.Need-both-requires-3
+both-requires-3 c κs = search needs
+
 returns : tie.Need-returns
-unfolding stopsDue
 returns c =
     let s : tie.Start = search in
-    rw (c .both2 .ensures, c .before .both .ensures, second-column (s .args .xs .now) (s .args .ys .now))
+    let a = s .args in
+    let x : tie.After-both = search in
+    let y : tie.After-both2 = search in
+    rw (c .both3 .ensures, x .both .ensures, y .both2 .ensures)
+    (columns-told (a .axes) (a .xs .now) (a .ys .now) (a .zs .now) (s .pre))
 
 pub stops-due-spec : {M : Type 1} → statement M
-stops-due-spec = tie.close (tie.spec both-requires both-requires-2 returns)
+stops-due-spec = tie.close (tie.spec both-requires both-requires-2 both-requires-3 returns)

@@ -12,39 +12,41 @@ use Rattle.stops.proofs.StopLaws.{points-start, points-turn, points-don
 use Rattle.stops.proofs.stop.gather_stops.Statement.{statement}
 use Rattle.stops.proofs.stop.gather_stops.Tie as tie
 
-abbrev cols : List ℤ → List ℤ → List (List ℤ)
-cols xs ys = xs ∷ ys ∷ []
+abbrev cols : List ℤ → List ℤ → List ℤ → List (List ℤ)
+cols xs ys zs = xs ∷ ys ∷ zs ∷ []
 
 abbrev Inv-loop : tie.InvT-loop
-Inv-loop xs ys stops₀ i₀ stops i =
+Inv-loop xs ys zs stops₀ i₀ stops i =
     (i ≤ length xs) × (length stops ≡ length stops₀)
-    × (over stops i (rows (cols xs ys) i (length xs - i)) ≡ over stops₀ 0 (stopsOf (cols xs ys)))
+    × (over stops i (rows (cols xs ys zs) i (length xs - i)) ≡ over stops₀ 0 (stopsOf (cols xs ys zs)))
 
 abbrev μ-loop : tie.MeasureT-loop
-μ-loop xs ys stops₀ i₀ stops i = length xs - i
+μ-loop xs ys zs stops₀ i₀ stops i = length xs - i
 
 loop-holds : tie.Need-loop-holds Inv-loop μ-loop
 loop-holds c =
     let s : tie.Start Inv-loop μ-loop = search in
-    (omega arith, refl, points-start (cols (s .args .xs .now) (s .args .ys .now)) (s .args .stops .now))
+    let a = s .args in
+    (omega arith, refl, points-start (cols (a .xs .now) (a .ys .now) (a .zs .now)) (a .stops .now))
 
 stop-at-requires : tie.Need-stop-at-requires Inv-loop μ-loop
 stop-at-requires c κs =
     let s : tie.Start Inv-loop μ-loop = search in
-    (omega (arith, c .loop-test .taken), omega (arith, s .pre .0, c .loop-test .taken))
+    let t = c .loop-test .taken in
+    (omega (arith, t), omega (arith, s .pre .0, t), omega (arith, s .pre .1, t))
 
-mul-t5 : tie.Need-mul-t5 Inv-loop μ-loop
-mul-t5 c =
+mul-t6 : tie.Need-mul-t6 Inv-loop μ-loop
+mul-t6 c =
     let b : tie.In-loop Inv-loop μ-loop = search in
     let s : tie.Start Inv-loop μ-loop = search in
-    omega (arith, b .loop-test .taken, s .pre .1, s .good .1 .1 .0)
+    omega (arith, b .loop-test .taken, s .pre .2, s .good .1 .1 .1 .0)
 
 slice-set-from-stops : tie.Need-slice-set-from-stops Inv-loop μ-loop
 slice-set-from-stops c =
     let b : tie.In-loop Inv-loop μ-loop = search in
     let l : tie.At-loop Inv-loop μ-loop = search in
     let s : tie.Start Inv-loop μ-loop = search in
-    omega (arith, b .loop-test .taken, l .loop .inv .1, s .pre .1)
+    omega (arith, b .loop-test .taken, l .loop .inv .1, s .pre .2)
 
 add-i : tie.Need-add-i Inv-loop μ-loop
 add-i c = search needs
@@ -59,7 +61,8 @@ loop-again c =
     let s : tie.Start Inv-loop μ-loop = search in
     let xs = s .args .xs .now in
     let i = l .loop .i in
-    let turn = points-turn (cols xs (s .args .ys .now)) (l .loop .stops) i (length xs) (b .loop-test .taken) in (
+    let all = cols xs (s .args .ys .now) (s .args .zs .now) in
+    let turn = points-turn all (l .loop .stops) i (length xs) (b .loop-test .taken) in (
       omega (arith, b .loop-test .taken),
       length-set (l .loop .stops) i (c .stop-at .result) ∙ l .loop .inv .1,
       rw (c .stop-at .ensures) (turn ∙ l .loop .inv .2),
@@ -73,9 +76,9 @@ returns c =
     let l : tie.At-loop Inv-loop μ-loop = search in
     let s : tie.Start Inv-loop μ-loop = search in
     let xs = s .args .xs .now in
-    points-done (cols xs (s .args .ys .now)) (l .loop .stops) (l .loop .i) (length xs)
+    points-done (cols xs (s .args .ys .now) (s .args .zs .now)) (l .loop .stops) (l .loop .i) (length xs)
     (omega (arith, c .loop-test .left)) ∙ l .loop .inv .2
 
 pub gather-stops-spec : {M : Type 1} → statement M
-gather-stops-spec = tie.close (tie.spec Inv-loop μ-loop loop-holds stop-at-requires mul-t5 slice-set-from-stops add-i
+gather-stops-spec = tie.close (tie.spec Inv-loop μ-loop loop-holds stop-at-requires mul-t6 slice-set-from-stops add-i
     loop-less loop-again same-length returns)

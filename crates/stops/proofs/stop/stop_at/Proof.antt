@@ -3,22 +3,28 @@ use Rattle.geometry.specs.Around.{row}
 use Rattle.stops.proofs.stop.stop_at.Statement.{statement}
 use Rattle.stops.proofs.stop.stop_at.Tie as tie
 
-mul-t4 : tie.Need-mul-t4
-mul-t4 c = search needs
+mul-t5 : tie.Need-mul-t5
+mul-t5 c = search needs
 
-shared-slice-copy-out-t6 : tie.Need-shared-slice-copy-out-t6
-shared-slice-copy-out-t6 c = search needs
+shared-slice-copy-out-t7 : tie.Need-shared-slice-copy-out-t7
+shared-slice-copy-out-t7 c = search needs
 
-mul-t7 : tie.Need-mul-t7
-mul-t7 c = search needs
+mul-t8 : tie.Need-mul-t8
+mul-t8 c = search needs
 
-shared-slice-copy-out-t9 : tie.Need-shared-slice-copy-out-t9
-shared-slice-copy-out-t9 c = search needs
+shared-slice-copy-out-t10 : tie.Need-shared-slice-copy-out-t10
+shared-slice-copy-out-t10 c = search needs
+
+mul-t11 : tie.Need-mul-t11
+mul-t11 c = search needs
+
+shared-slice-copy-out-t13 : tie.Need-shared-slice-copy-out-t13
+shared-slice-copy-out-t13 c = search needs
 
 returns : tie.Need-returns
 unfolding row
 returns c = search needs
 
 pub stop-at-spec : {M : Type 1} → statement M
-stop-at-spec =
-    tie.close (tie.spec mul-t4 shared-slice-copy-out-t6 mul-t7 shared-slice-copy-out-t9 returns)
+stop-at-spec = tie.close (tie.spec mul-t5 shared-slice-copy-out-t7 mul-t8 shared-slice-copy-out-t10 mul-t11
+    shared-slice-copy-out-t13 returns)
