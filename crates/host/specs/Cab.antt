@@ -1,7 +1,8 @@
--- Document 01, "Writer, full check, host, program": the two calls of the cab's sound host.
+-- Document 01, "Writer, full check, host, program": the two calls of the cab's sound host; 02.2: the margin over three
+-- axes beside that over two.
 --
 --   blockTests, numberOf, blockCheck   the check: its tests, an outcome's number, what it gives
---   boxFrom, badBox                    a box of four numbers, and what stands for a bad one
+--   boxFrom, boxFrom3, badBox          a box of four numbers and of six, and what stands for a bad one
 --   marginOrBad, marginNumber          the margin: by outcome, of three boxes
 use Prim.Native.Nat.{ℕ}
 use mathlib.Core.List.{List, [], _∷_}
@@ -32,6 +33,10 @@ blockCheck s = numberOf (blockTests s)
 -- "each low x, high x, low y, high y"
 abbrev pub boxFrom : ℤ → ℤ → ℤ → ℤ → List (List ℤ)
 boxFrom x0 x1 y0 y1 = (x0 ∷ x1 ∷ []) ∷ (y0 ∷ y1 ∷ []) ∷ []
+
+-- 02.2: z after y
+abbrev pub boxFrom3 : ℤ → ℤ → ℤ → ℤ → ℤ → ℤ → List (List ℤ)
+boxFrom3 x0 x1 y0 y1 z0 z1 = (x0 ∷ x1 ∷ []) ∷ (y0 ∷ y1 ∷ []) ∷ (z0 ∷ z1 ∷ []) ∷ []
 
 -- "gives a signed 64-bit number, 9,000,000,000,000,000,000 for a bad box"
 abbrev pub badBox : ℤ

@@ -19,10 +19,10 @@ abbrev pub pruneReport : Outcome Counts → PruneReport
 pruneReport (accepted c) = record { number = 0; block = 0; tiles = c .tiles; pruned = c .pruned }
 pruneReport (refused number block) = record { number = number; block = block; tiles = 0; pruned = 0 }
 
--- of a full check: T
+-- of a full check: T, and the number of axes
 abbrev pub validateReport : Outcome Header → ValidateReport
-validateReport (accepted h) = record { number = 0; block = 0; tiles = h .tiles }
-validateReport (refused number block) = record { number = number; block = block; tiles = 0 }
+validateReport (accepted h) = record { number = 0; block = 0; tiles = h .tiles; axes = h .axes }
+validateReport (refused number block) = record { number = number; block = block; tiles = 0; axes = 0 }
 
 -- of the writer: "the file's length in bytes"
 abbrev pub writeReport : Outcome ℕ → WriteReport

@@ -1,10 +1,13 @@
-// The two calls of the cab's sound host.
+// The calls of the cab's sound host: the block check, and the margin over two axes and over three.
 ghost use mathlib.Core.Path.{_≡_};
-ghost use Rattle.host.specs.Cab.{blockCheck, boxFrom, marginNumber};
+ghost use lib.ListN.{take};
+ghost use Rattle.geometry.specs.Axes.{KnownAxes};
+ghost use Rattle.host.specs.Cab.{blockCheck, boxFrom, boxFrom3, marginNumber};
 use blocks::checksum;
 use blocks::layout;
 use geometry::margin::margin_within;
 use geometry::margin::valid_boxes;
+use geometry::padding::pad_box;
 
 // What `nearby_margin` gives for a bad box: no margin is so large.
 pub const BAD_BOX: i64 = 9_000_000_000_000_000_000;
@@ -33,13 +36,20 @@ pub fn box_of(x0: i32, x1: i32, y0: i32, y1: i32) -> [[i32; 2]; 2]
     [[x0, x1], [y0, y1]]
 }
 
-fn margin_or_bad(o: [[i32; 2]; 2], e: [[i32; 2]; 2], b: [[i32; 2]; 2]) -> i64
-    ensures { λ r. ⌜ r ≡ marginNumber o e b ⌝ }
+pub fn box3_of(x0: i32, x1: i32, y0: i32, y1: i32, z0: i32, z1: i32) -> [[i32; 2]; 3]
+    ensures { λ r. ⌜ r ≡ boxFrom3 x0 x1 y0 y1 z0 z1 ⌝ }
 {
-    if !valid_boxes(o, e, b) {
+    [[x0, x1], [y0, y1], [z0, z1]]
+}
+
+fn margin_or_bad(axes: usize, o: [[i32; 2]; 3], e: [[i32; 2]; 3], b: [[i32; 2]; 3]) -> i64
+    requires { ⌜ KnownAxes axes ⌝ }
+    ensures { λ r. ⌜ r ≡ marginNumber (take axes o) (take axes e) (take axes b) ⌝ }
+{
+    if !valid_boxes(axes, o, e, b) {
         return BAD_BOX;
     }
-    margin_within(o, e, b)
+    margin_within(axes, o, e, b)
 }
 
 // The margin of three boxes, each low x, high x, low y, high y; `BAD_BOX` if a box is bad.
@@ -60,8 +70,39 @@ pub extern "C" fn nearby_margin(
 ) -> i64
     ensures { λ r. ⌜ r ≡ marginNumber (boxFrom ox0 ox1 oy0 oy1) (boxFrom ex0 ex1 ey0 ey1) (boxFrom bx0 bx1 by0 by1) ⌝ }
 {
-    let o = box_of(ox0, ox1, oy0, oy1);
-    let e = box_of(ex0, ex1, ey0, ey1);
-    let b = box_of(bx0, bx1, by0, by1);
-    margin_or_bad(o, e, b)
+    let o = pad_box(box_of(ox0, ox1, oy0, oy1));
+    let e = pad_box(box_of(ex0, ex1, ey0, ey1));
+    let b = pad_box(box_of(bx0, bx1, by0, by1));
+    margin_or_bad(layout::PLAN, o, e, b)
+}
+
+// The same with low z and high z after them.
+#[no_mangle]
+pub extern "C" fn nearby_margin3(
+    ox0: i32,
+    ox1: i32,
+    oy0: i32,
+    oy1: i32,
+    oz0: i32,
+    oz1: i32,
+    ex0: i32,
+    ex1: i32,
+    ey0: i32,
+    ey1: i32,
+    ez0: i32,
+    ez1: i32,
+    bx0: i32,
+    bx1: i32,
+    by0: i32,
+    by1: i32,
+    bz0: i32,
+    bz1: i32,
+) -> i64
+    ensures { λ r. ⌜ r ≡ marginNumber (boxFrom3 ox0 ox1 oy0 oy1 oz0 oz1) (boxFrom3 ex0 ex1 ey0 ey1 ez0 ez1)
+        (boxFrom3 bx0 bx1 by0 by1 bz0 bz1) ⌝ }
+{
+    let o = box3_of(ox0, ox1, oy0, oy1, oz0, oz1);
+    let e = box3_of(ex0, ex1, ey0, ey1, ez0, ez1);
+    let b = box3_of(bx0, bx1, by0, by1, bz0, bz1);
+    margin_or_bad(layout::HEIGHT, o, e, b)
 }

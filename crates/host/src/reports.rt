@@ -4,6 +4,7 @@ ghost use Prim.Native.Nat.{_≤_};
 ghost use Rattle.base.specs.Refusal.{accepted};
 ghost use Rattle.blocks.specs.Layout.{maxTiles};
 ghost use Rattle.blocks.specs.declared.header.Header.{Header};
+ghost use Rattle.geometry.specs.Axes.{KnownAxes};
 ghost use Rattle.join.specs.Join.{joinOutcome};
 ghost use Rattle.prune.specs.Prune.{pruneOutcome};
 ghost use Rattle.tiles.specs.Outcome.{validationOutcome};
@@ -37,6 +38,7 @@ pub struct ValidateReport {
     pub number: u32,
     pub block: u32,
     pub tiles: u32,
+    pub axes: u32,
 }
 
 #[repr(C)]
@@ -94,7 +96,7 @@ pub fn report_prune(answer: PruneAnswer) -> PruneReport
 }
 
 pub fn report_validate(answer: Validation) -> ValidateReport
-    requires { ⌜ ((h : Header) → validationOutcome answer ≡ accepted h → h .tiles ≤ maxTiles) ⌝ }
+    requires { ⌜ ((h : Header) → validationOutcome answer ≡ accepted h → (h .tiles ≤ maxTiles) × KnownAxes (h .axes)) ⌝ }
     ensures { λ r. ⌜ r ≡ validateReport (validationOutcome answer) ⌝ }
 {
     match answer {
@@ -102,11 +104,13 @@ pub fn report_validate(answer: Validation) -> ValidateReport
             number: 0,
             block: 0,
             tiles: h.tiles as u32,
+            axes: h.axes as u32,
         },
         Validation::Refused(r) => ValidateReport {
             number: r.number,
             block: r.block,
             tiles: 0,
+            axes: 0,
         },
     }
 }

@@ -1,5 +1,8 @@
-use mathlib.Core.Bool.{true, _&&_}
+use mathlib.Core.Bool.{Bool, true, _&&_}
+use mathlib.Core.List.{List}
 use mathlib.Core.Path.{_≡_}
+use lib.IntN.{ℤ}
+use lib.ListN.{take}
 use mir.Facts.{toZ-ofZ}
 use mir.Syntax.{w64}
 use mir.Val.{SFits}
@@ -20,16 +23,18 @@ unfolding marginNumber marginCall
 returns c = rw (failed (c .before .valid-boxes .ensures) (c .if1 .taken))
 
 -- past the test, the three boxes are valid
-valid : (c : tie.Else1) → (validBox (c .before .before .args .o) && validBox (c .before .before .args .e)) && validBox
-    (c .before .before .args .b) ≡ true
+valid : (c : tie.Else1) →
+    let s : tie.Start = search in
+    let box : List (List ℤ) → Bool = λ b. validBox (take (s .args .axes) b) in
+    (box (s .args .o) && box (s .args .e)) && box (s .args .b) ≡ true
 valid c = passed (c .before .valid-boxes .ensures) (c .if1 .left)
 
 margin-within-requires : tie.Need-margin-within-requires
 margin-within-requires c κs =
-    let s = c .before .before in
-    let p = and-both (validBox (s .args .o) && validBox (s .args .e)) (validBox (s .args .b)) (valid c) in
-    let q = and-both (validBox (s .args .o)) (validBox (s .args .e)) (p .0) in
-    (q .0, (q .1, p .1))
+    let s : tie.Start = search in
+    let p = and-both _ _ (valid c) in
+    let q = and-both _ _ (p .0) in
+    (s .pre, (q .0, (q .1, p .1)))
 
 returns-2 : tie.Need-returns-2
 unfolding marginNumber marginCall margin

@@ -12,7 +12,9 @@ report-validate-requires : tie.Need-report-validate-requires
 report-validate-requires c κs =
     let v : tie.After-validate = search in
     let s : tie.Start = search in
-    λ h e. validate-exactly (s .args .file .now) h .0 (sym (v .validate .ensures) ∙ e) .directory .tiles .most
+    λ h e.
+    let g = validate-exactly (s .args .file .now) h .0 (sym (v .validate .ensures) ∙ e) .directory in
+    (g .tiles .most, g .axes)
 
 returns : tie.Need-returns
 returns c = c .report-validate .ensures ∙ ap validateReport (c .before .validate .ensures)

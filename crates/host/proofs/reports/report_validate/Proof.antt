@@ -13,7 +13,13 @@ cast-t5 : tie.Need-cast-t5
 cast-t5 c =
     let a : tie.After-answer = search in
     let s : tie.Start = search in
-    omega (arith, s .pre _ (ap validationOutcome (a .answer .given .1)))
+    omega (arith, s .pre _ (ap validationOutcome (a .answer .given .1)) .0)
+
+cast-t6 : tie.Need-cast-t6
+cast-t6 c =
+    let a : tie.After-answer = search in
+    let s : tie.Start = search in
+    omega (arith, s .pre _ (ap validationOutcome (a .answer .given .1)) .1 .1)
 
 enum-known-answer-2 : tie.Need-enum-known-answer-2
 enum-known-answer-2 c = search needs
@@ -29,4 +35,4 @@ returns-2 c =
     ap (λ r. validateReport (validationOutcome r)) (sym (a .answer2 .given .1))
 
 pub report-validate-spec : {M : Type 1} → statement M
-report-validate-spec = tie.close (tie.spec enum-known-answer cast-t5 enum-known-answer-2 returns returns-2)
+report-validate-spec = tie.close (tie.spec enum-known-answer cast-t5 cast-t6 enum-known-answer-2 returns returns-2)
