@@ -3,6 +3,7 @@
 --   tiles-good, length-good, block-at-good, directory-good   what tests 6 and 1, a block and the directory show
 --   directory-enough                     that it is enough
 --   per-block, first-few, index-below    how many entries a block holds
+--   product-small, by-product, index-rest   which block and which of its entries, without a division
 --   entry-room, entries-end              where the entries of a block end
 --   some-block, few-blocks, entry-block, entry-due   which entry is a tile's
 --   first-block                          what the code goes by behind block 0
@@ -32,6 +33,7 @@ use Rattle.blocks.specs.Directory.{directoryBlockAt}
 use Rattle.blocks.specs.Directory.{directoryRest, directory, boxAt, countAt, mutedAt}
 use Rattle.blocks.specs.Layout.{blockSize, height, maxLength, payloadAt, checkAt, directoryKind, entrySize}
 use Rattle.blocks.specs.Layout.{entriesPerBlock, maxSites, maxTiles}
+use Rattle.blocks.specs.Inner.Reciprocal.{entryReciprocal}
 use Rattle.blocks.specs.declared.header.Header.{Header}
 use Rattle.blocks.proofs.BlockLaws.{start-good, start-enough, axes-known, axes-of-kind}
 
@@ -99,6 +101,24 @@ per-block a k =
 -- the first entry of block p
 pub first-few : (a p : ℕ) → KnownAxes a → entriesPerBlock a * p ≤ 24 * p
 first-few a p k = by-axes (λ a. entriesPerBlock a * p ≤ 24 * p) (omega arith) (omega arith) a k
+
+-- a division by it, as a product
+pub product-small : (a t : ℕ) → KnownAxes a → t < 131072 → t * entryReciprocal a < 131072 * 246724
+product-small a t k l =
+    by-axes (λ a. t * entryReciprocal a < 131072 * 246724) (omega (arith, l)) (omega (arith, l)) a k
+
+pub by-product : (a t : ℕ) → KnownAxes a → t < 131072 → t * entryReciprocal a / 4194304 ≡ t / entriesPerBlock a
+by-product a t k l =
+    by-axes (λ a. t * entryReciprocal a / 4194304 ≡ t / entriesPerBlock a) (omega (arith, l)) (omega (arith, l)) a k
+
+-- and its remainder
+pub index-rest : (a t : ℕ) → KnownAxes a →
+    (entriesPerBlock a * (t / entriesPerBlock a) ≤ t)
+    × (t - entriesPerBlock a * (t / entriesPerBlock a) ≡ t % entriesPerBlock a)
+index-rest a t k =
+    by-axes (λ a. (entriesPerBlock a * (t / entriesPerBlock a) ≤ t)
+    × (t - entriesPerBlock a * (t / entriesPerBlock a) ≡ t % entriesPerBlock a))
+    (omega arith, omega arith) (omega arith, omega arith) a k
 
 pub index-below : (a t : ℕ) → KnownAxes a → t % entriesPerBlock a < entriesPerBlock a
 index-below a t k = by-axes (λ a. t % entriesPerBlock a < entriesPerBlock a) (omega arith) (omega arith) a k

@@ -6,3 +6,4 @@ pub mod Directory
 pub mod Document01
 pub mod Accepted
 pub mod Same
+pub mod Inner

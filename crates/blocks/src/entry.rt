@@ -6,6 +6,7 @@ ghost use lib.ListN.{length, take};
 ghost use Rattle.base.specs.Every.{every};
 ghost use Rattle.geometry.specs.Axes.{KnownAxes};
 ghost use Rattle.blocks.specs.Layout.{blockSize, payloadAt, entrySize, entriesPerBlock};
+ghost use Rattle.blocks.specs.Inner.Reciprocal.{entryReciprocal};
 ghost use Rattle.blocks.specs.Directory.{entryOffset, entryNumber, entryBox, entryCount, entryMuted, entryValid};
 use crate::layout;
 use base::both;
@@ -13,28 +14,32 @@ use codec::reading::i32_at;
 use codec::reading::u16_at;
 use geometry::limits::valid_box;
 
-// Where the entry of tile t stands: the position of its directory block, and its index there. Each divides by a
-// constant.
-pub fn entry_block(axes: usize, t: usize) -> usize
+// 4,194,304 divided by the entries of a block, rounded up.
+fn reciprocal(axes: usize) -> usize
     requires { ⌜ KnownAxes axes ⌝ }
-    ensures { λ r. ⌜ r ≡ t / entriesPerBlock axes ⌝ }
+    ensures { λ r. ⌜ r ≡ entryReciprocal axes ⌝ }
 {
     if axes == layout::HEIGHT {
-        t / layout::entries_per_block(layout::HEIGHT)
+        246_724
     } else {
-        t / layout::entries_per_block(layout::PLAN)
+        174_763
     }
 }
 
+// Where the entry of tile t stands: the position of its directory block, and its index there. Compiled code would divide
+// by a number that it does not know; a product is ten times as fast.
+pub fn entry_block(axes: usize, t: usize) -> usize
+    requires { ⌜ KnownAxes axes × (t < 131072) ⌝ }
+    ensures { λ r. ⌜ r ≡ t / entriesPerBlock axes ⌝ }
+{
+    t * reciprocal(axes) / 4_194_304
+}
+
 pub fn entry_index(axes: usize, t: usize) -> usize
-    requires { ⌜ KnownAxes axes ⌝ }
+    requires { ⌜ KnownAxes axes × (t < 131072) ⌝ }
     ensures { λ r. ⌜ r ≡ t % entriesPerBlock axes ⌝ }
 {
-    if axes == layout::HEIGHT {
-        t % layout::entries_per_block(layout::HEIGHT)
-    } else {
-        t % layout::entries_per_block(layout::PLAN)
-    }
+    t - layout::entries_per_block(axes) * entry_block(axes, t)
 }
 
 pub fn entry_offset(axes: usize, i: usize) -> usize

@@ -35,9 +35,9 @@ use Rattle.prune.specs.Inner.Tables.{maxCorners, fars, FarTable, NearTab
 -- ---- the corners
 
 -- how many there are
-pub corners-few : (h : Header) → KnownAxes (h .axes) → (0 < cornerCount h) × (cornerCount h ≤ maxCorners)
+pub corners-few : (h : Header) → KnownAxes (h .axes) → (4 ≤ cornerCount h) × (cornerCount h ≤ maxCorners)
 corners-few h known =
-    by-axes (λ n. (0 < corners n) × (corners n ≤ maxCorners)) (omega arith, omega arith) (omega arith, omega arith)
+    by-axes (λ n. (4 ≤ corners n) × (corners n ≤ maxCorners)) (omega arith, omega arith) (omega arith, omega arith)
     (h .axes) known
 
 -- a test of the first m and of the n after them
@@ -52,7 +52,7 @@ every-parts f m (suc n) =
 
 module _ (f : List ℕ) (h : Header) (dir : directory f ≡ accepted h) (o : List (List ℤ)) where
   -- the part of one more corner
-  pub fill-corner : {c : ℕ} {d d′ : List ℕ} → c < maxCorners → FarTable f h o c d
+  pub fill-corner : {c : ℕ} {d d′ : List ℕ} → c < cornerCount h → FarTable f h o c d
       → d′ ≡ over d (c * maxTiles) (fars f h (cornerOf o c)) → FarTable f h o (c + 1) d′
   fill-corner {c} {d} {d′} l table e =
       let g = far f h (cornerOf o c) in
@@ -93,5 +93,6 @@ pub not-below : (h : Header) → KnownAxes (h .axes) → (d near : List ℕ) (e 
     → belowAll h d near e ≡ false
 unfolding belowAll
 not-below h known d near e l =
-    every-fails (λ c. ltb (getD d (c * maxTiles + e) 0) (getD near c 0)) (cornerCount h) 0 (corners-few h known .0)
+    every-fails (λ c. ltb (getD d (c * maxTiles + e) 0) (getD near c 0)) (cornerCount h) 0
+    (omega (arith, corners-few h known .0))
     (rw (zero-add e) (le-ltb (getD d e 0) (getD near 0 0) l))

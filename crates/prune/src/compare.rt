@@ -31,7 +31,7 @@ pub fn next_below(far: &[u64], from: usize, to: usize, near: u64) -> usize
 // Whether tile e is far below near, from each of four corners: those of the low z are the first four. The last of them,
 // opposite to the first, comes first: a tile that passed the test of one mostly fails that of the other.
 fn below_four(far: &[u64], e: usize, near: [u64; MAX_CORNERS], first: usize) -> bool
-    requires { ⌜ (e < maxTiles) × (length (now far) ≡ farSize) × (first ≤ 4) ⌝ }
+    requires { ⌜ (e < maxTiles) × ((first + 4) * maxTiles ≤ length (now far)) × (first ≤ 4) ⌝ }
     ensures { λ r. ⌜ r ≡ every (λ c. ltb (getD (now (far .entry)) ((first + c) * maxTiles + e) 0)
         (getD near (first + c) 0)) 4 ⌝ }
 {
@@ -46,7 +46,7 @@ fn below_four(far: &[u64], e: usize, near: [u64; MAX_CORNERS], first: usize) -> 
 
 // Whether tile e is far below near, from each corner.
 pub fn below(h: Header, far: &[u64], e: usize, near: [u64; MAX_CORNERS]) -> bool
-    requires { ⌜ KnownAxes (h .axes) × (e < maxTiles) × (length (now far) ≡ farSize) ⌝ }
+    requires { ⌜ KnownAxes (h .axes) × (e < maxTiles) × (length (now far) ≡ farSize h) ⌝ }
     ensures { λ r. ⌜ r ≡ belowAll h (now (far .entry)) near e ⌝ }
 {
     let low = below_four(far, e, near, 0);

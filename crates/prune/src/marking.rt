@@ -19,6 +19,7 @@ ghost use Rattle.prune.specs.Prune.{pruneMarks};
 use crate::compare;
 use crate::tables;
 use blocks::header::Header;
+use blocks::layout::HEIGHT;
 use blocks::layout::MAX_TILES;
 use plan::measure::NONE;
 use plan::region::MAX_CORNERS;
@@ -31,7 +32,7 @@ const FEW: usize = 32;
 
 // How many sites of tile e rank where it is far below near from each corner, else 0.
 fn weight(f: &[u8], h: Header, far: &[u64], e: usize, near: [u64; MAX_CORNERS]) -> usize
-    requires { ⌜ TileOf (now f) h e × (length (now far) ≡ farSize) ⌝ }
+    requires { ⌜ TileOf (now f) h e × (length (now far) ≡ farSize h) ⌝ }
     ensures { λ r. ⌜ (r ≡ cond (belowAll h (now (far .entry)) near e) (ranked (entries (now (f .entry)) h) e) 0)
         × (r ≤ slots) ⌝ }
 {
@@ -52,7 +53,7 @@ fn reaches_among(
     to: usize,
     k: usize,
 ) -> bool
-    requires { ⌜ (directory (now f) ≡ accepted h) × (length (now far) ≡ farSize) ⌝ }
+    requires { ⌜ (directory (now f) ≡ accepted h) × (length (now far) ≡ farSize h) ⌝ }
     requires { ⌜ (from ≤ to) × (to ≤ h .tiles) ⌝ }
     ensures { λ r. ⌜ r ≡ leb k (sumBelow (now (f .entry)) h (now (far .entry)) near from (to - from)) ⌝ }
 {
@@ -86,7 +87,7 @@ fn reaches(
     near: [u64; MAX_CORNERS],
     k: usize,
 ) -> bool
-    requires { ⌜ (directory (now f) ≡ accepted h) × (length (now far) ≡ farSize) × (middle ≤ h .tiles) ⌝ }
+    requires { ⌜ (directory (now f) ≡ accepted h) × (length (now far) ≡ farSize h) × (middle ≤ h .tiles) ⌝ }
     ensures { λ r. ⌜ r ≡ leb k (sumBelow (now (f .entry)) h (now (far .entry)) near 0 (h .tiles)) ⌝ }
 {
     let to = few_after(middle, h);
@@ -111,7 +112,7 @@ fn prune_tile(f: &[u8], h: Header, far: &[u64], middle: usize, o: Region, k: usi
 // A tile that lies about O: of all tiles the one with the least far from two opposite corners. It is only where
 // the sums start: nothing rests on it.
 fn middle_tile(far: &[u64], h: Header) -> usize
-    requires { ⌜ KnownAxes (h .axes) × (h .tiles ≤ maxTiles) × (length (now far) ≡ farSize) ⌝ }
+    requires { ⌜ KnownAxes (h .axes) × (h .tiles ≤ maxTiles) × (length (now far) ≡ farSize h) ⌝ }
     ensures { λ r. ⌜ r ≤ h .tiles ⌝ }
 {
     let tiles = h.tiles;
@@ -150,14 +151,30 @@ fn prune_all(f: &[u8], h: Header, far: &[u64], o: Region, k: usize, marks: &mut 
     count
 }
 
-// The same, with the table made first.
+// The same, with the table filled first.
+fn prune_with(f: &[u8], h: Header, far: &mut [u64], o: Region, k: usize, marks: &mut [u8]) -> usize
+    requires { ⌜ (directory (now f) ≡ accepted h) × (h .tiles ≤ length (now marks)) × ValidRegion h (regionOf h o)
+        × (length (now far) ≡ farSize h) ⌝ }
+    ensures { λ r. ⌜ (r ≡ prunedCount (entries (now (f .entry)) h) (regionOf h o) k) × (r ≤ h .tiles) ⌝ }
+    ensures { λ r. ⌜ now (marks .exit)
+        ≡ over (now (marks .entry)) 0 (pruneMarks (now (f .entry)) h (regionOf h o) k) ⌝ }
+{
+    tables::fill_corners(f, h, o, far);
+    prune_all(f, h, far, o, k, marks)
+}
+
+// The same, with a table that has room for the corners of the town's regions and no more: it is set to zero first.
 pub fn mark_pruned(f: &[u8], h: Header, o: Region, k: usize, marks: &mut [u8]) -> usize
     requires { ⌜ (directory (now f) ≡ accepted h) × (h .tiles ≤ length (now marks)) × ValidRegion h (regionOf h o) ⌝ }
     ensures { λ r. ⌜ (r ≡ prunedCount (entries (now (f .entry)) h) (regionOf h o) k) × (r ≤ h .tiles) ⌝ }
     ensures { λ r. ⌜ now (marks .exit)
         ≡ over (now (marks .entry)) 0 (pruneMarks (now (f .entry)) h (regionOf h o) k) ⌝ }
 {
-    let mut far = [0u64; MAX_CORNERS * MAX_TILES];
-    tables::fill_corners(f, h, o, &mut far);
-    prune_all(f, h, &far, o, k, marks)
+    if h.axes == HEIGHT {
+        let mut far = [0u64; 8 * MAX_TILES];
+        prune_with(f, h, &mut far, o, k, marks)
+    } else {
+        let mut far = [0u64; 4 * MAX_TILES];
+        prune_with(f, h, &mut far, o, k, marks)
+    }
 }

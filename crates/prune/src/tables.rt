@@ -9,7 +9,7 @@ ghost use Rattle.base.specs.Refusal.{accepted};
 ghost use Rattle.blocks.specs.Directory.{directory};
 ghost use Rattle.blocks.specs.Layout.{maxTiles};
 ghost use Rattle.plan.specs.Inner.Seam.{TileOf, stopOf, regionOf, ValidStop, ValidRegion, cornerCount};
-ghost use Rattle.prune.specs.Inner.Tables.{maxCorners, farSize, fars, FarTable, NearTable};
+ghost use Rattle.prune.specs.Inner.Tables.{farSize, fars, FarTable, NearTable};
 use blocks::header::Header;
 use blocks::layout::MAX_TILES;
 use plan::measure;
@@ -22,7 +22,7 @@ use plan::region::corners;
 // Far from p to each tile, in the part of corner c.
 fn fill_far(f: &[u8], h: Header, p: Stop, c: usize, far: &mut [u64])
     requires { ⌜ (directory (now f) ≡ accepted h) × ValidStop h (stopOf h p) ⌝ }
-    requires { ⌜ (c < maxCorners) × (length (now far) ≡ farSize) ⌝ }
+    requires { ⌜ (c < cornerCount h) × (length (now far) ≡ farSize h) ⌝ }
     ensures { λ _. ⌜ now (far .exit) ≡ over (now (far .entry)) (c * maxTiles) (fars (now (f .entry)) h (stopOf h p)) ⌝ }
 {
     let first = c * MAX_TILES;
@@ -36,7 +36,7 @@ fn fill_far(f: &[u8], h: Header, p: Stop, c: usize, far: &mut [u64])
 // Far from each corner to each tile.
 pub fn fill_corners(f: &[u8], h: Header, o: Region, far: &mut [u64])
     requires { ⌜
-        (directory (now f) ≡ accepted h) × ValidRegion h (regionOf h o) × (length (now far) ≡ farSize) ⌝ }
+        (directory (now f) ≡ accepted h) × ValidRegion h (regionOf h o) × (length (now far) ≡ farSize h) ⌝ }
     ensures { λ _. ⌜ FarTable (now (f .entry)) h (regionOf h o) (cornerCount h) (now (far .exit)) ⌝ }
 {
     let n = corners(h);

@@ -24,18 +24,18 @@ use Rattle.plan.specs.Inner.Seam.{cornerOf, cornerCount, far}
 use Rattle.search.specs.Lists.{range, total}
 use Rattle.search.specs.Plan.{near, ranked}
 
--- room for the corners of a region with height
 abbrev pub maxCorners : ℕ
 maxCorners = 8
 
-abbrev pub farSize : ℕ
-farSize = maxCorners * maxTiles
+-- room for the corners of a region
+abbrev pub farSize : Header → ℕ
+farSize h = cornerCount h * maxTiles
 
 abbrev pub fars : List ℕ → Header → List ℤ → List ℕ
 fars f h p = map (far f h p) (range 0 (h .tiles))
 
 pub record FarTable (f : List ℕ) (h : Header) (o : List (List ℤ)) (n : ℕ) (table : List ℕ) : Type 0 where
-  pub long : length table ≡ farSize
+  pub long : length table ≡ farSize h
   pub at : (c t : ℕ) → c < n → t < h .tiles → getD table (c * maxTiles + t) 0 ≡ far f h (cornerOf o c) t
 
 abbrev pub NearTable : List ℕ → Header → List (List ℤ) → ℕ → List ℕ → Type 0

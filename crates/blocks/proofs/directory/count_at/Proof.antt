@@ -7,10 +7,16 @@ use Rattle.blocks.proofs.directory.count_at.Statement.{statement}
 use Rattle.blocks.proofs.directory.count_at.Tie as tie
 
 entry-block-requires : tie.Need-entry-block-requires
-entry-block-requires c κs = let s : tie.Start = search in directory-good (s .args .f .now) (s .pre .0) .axes
+entry-block-requires c κs =
+    let s : tie.Start = search in
+    let g = directory-good (s .args .f .now) (s .pre .0) in
+    (g .axes, omega (arith, g .tiles .most, s .pre .1))
 
 entry-index-requires : tie.Need-entry-index-requires
-entry-index-requires c κs = let s : tie.Start = search in directory-good (s .args .f .now) (s .pre .0) .axes
+entry-index-requires c κs =
+    let s : tie.Start = search in
+    let g = directory-good (s .args .f .now) (s .pre .0) in
+    (g .axes, omega (arith, g .tiles .most, s .pre .1))
 
 block-at-requires : tie.Need-block-at-requires
 block-at-requires c κs =

@@ -21,7 +21,10 @@ add-entry-block c =
     omega (arith, per-block (s .args .h .axes) (s .pre .0), n .entries-per-block .ensures)
 
 entry-block-requires : tie.Need-entry-block-requires
-entry-block-requires c κs = search needs
+entry-block-requires c κs =
+    let s : tie.Start = search in
+    let n : tie.After-entries-per-block = search in
+    (s .pre .0, omega (arith, s .pre .1, per-block (s .args .h .axes) (s .pre .0), n .entries-per-block .ensures))
 
 returns : tie.Need-returns
 unfolding directoryBlocks

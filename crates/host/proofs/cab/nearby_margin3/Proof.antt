@@ -25,12 +25,30 @@ returns c =
     let z : tie.After-box3-of3 = search in
     let s : tie.Start = search in
     let a = s .fits in
-    let o = simp (toZ-ofZ (a .ox0), toZ-ofZ (a .ox1), toZ-ofZ (a .oy0), toZ-ofZ (a .oy1), toZ-ofZ (a .oz0),
-    toZ-ofZ (a .oz1)) at (x .box3-of .ensures) in
-    let e = simp (toZ-ofZ (a .ex0), toZ-ofZ (a .ex1), toZ-ofZ (a .ey0), toZ-ofZ (a .ey1), toZ-ofZ (a .ez0),
-    toZ-ofZ (a .ez1)) at (y .box3-of2 .ensures) in
-    let b = simp (toZ-ofZ (a .bx0), toZ-ofZ (a .bx1), toZ-ofZ (a .by0), toZ-ofZ (a .by1), toZ-ofZ (a .bz0),
-    toZ-ofZ (a .bz1)) at (z .box3-of3 .ensures) in
+    let o = simp (
+      toZ-ofZ (a .ox0),
+      toZ-ofZ (a .ox1),
+      toZ-ofZ (a .oy0),
+      toZ-ofZ (a .oy1),
+      toZ-ofZ (a .oz0),
+      toZ-ofZ (a .oz1),
+    ) at (x .box3-of .ensures) in
+    let e = simp (
+      toZ-ofZ (a .ex0),
+      toZ-ofZ (a .ex1),
+      toZ-ofZ (a .ey0),
+      toZ-ofZ (a .ey1),
+      toZ-ofZ (a .ez0),
+      toZ-ofZ (a .ez1),
+    ) at (y .box3-of2 .ensures) in
+    let b = simp (
+      toZ-ofZ (a .bx0),
+      toZ-ofZ (a .bx1),
+      toZ-ofZ (a .by0),
+      toZ-ofZ (a .by1),
+      toZ-ofZ (a .bz0),
+      toZ-ofZ (a .bz1),
+    ) at (z .box3-of3 .ensures) in
     let fits : SFits w64 (c .margin-or-bad .result) = sfits-of (c .margin-or-bad .ok) in
     toZ-ofZ fits ∙ c .margin-or-bad .ensures ∙ rw (o, e, b)
 

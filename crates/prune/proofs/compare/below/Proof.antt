@@ -8,9 +8,10 @@ use lib.ListN.{getD}
 use borrow.Author.Needs.{needs}
 use Rattle.base.specs.Every.{every}
 use Rattle.blocks.specs.Layout.{maxTiles}
+use Rattle.plan.specs.Inner.Seam.{cornerCount}
 use Rattle.base.proofs.Every.{every-same}
 use Rattle.prune.specs.Inner.Tables.{belowAll}
-use Rattle.prune.proofs.CornerTables.{every-parts}
+use Rattle.prune.proofs.CornerTables.{corners-few, every-parts}
 use Rattle.prune.proofs.compare.below.Statement.{statement}
 use Rattle.prune.proofs.compare.below.Tie as tie
 
@@ -23,10 +24,16 @@ low : (c : tie.After-below-four) → let s : tie.Start = search in c .below-four
 low c = let s : tie.Start = search in c .below-four .ensures ∙ every-same _ (test s) 4 (λ i l. rw (zero-add i))
 
 below-four-requires : tie.Need-below-four-requires
-below-four-requires c κs = search needs
+below-four-requires c κs =
+    let s : tie.Start = search in
+    (s .pre .1, omega (arith, s .pre .2, corners-few (s .args .h) (s .pre .0) .0), search needs)
 
 below-four-requires-2 : tie.Need-below-four-requires-2
-below-four-requires-2 c κs = search needs
+below-four-requires-2 c κs =
+    let s : tie.Start = search in
+    let e : s .args .h .axes ≡ 3 = omega arith in
+    let n : cornerCount (s .args .h) ≡ 8 = rw e in
+    (s .pre .1, omega (arith, s .pre .2, n), search needs)
 
 both-requires : tie.Need-both-requires
 both-requires c κs = search needs

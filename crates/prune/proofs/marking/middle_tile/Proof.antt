@@ -1,16 +1,16 @@
 use Prim.Native.Nat.{_+_, _-_, _*_, _≤_}
 use mathlib.Core.Logic.{⊎-elim}
 use native.Mathlib.Omega.{arith}
+use lib.ListN.{length}
 use borrow.Author.Needs.{needs}
 use Rattle.blocks.specs.Layout.{maxTiles}
-use Rattle.prune.specs.Inner.Tables.{farSize}
 use Rattle.prune.proofs.CornerTables.{corners-few}
 use Rattle.prune.proofs.marking.middle_tile.Statement.{statement}
 use Rattle.prune.proofs.marking.middle_tile.Tie as tie
 
 abbrev Inv-loop : tie.InvT-loop
 Inv-loop far tiles opposite middle₀ least₀ t₀ middle least t =
-    (middle ≤ t) × (t ≤ tiles) × (opposite + maxTiles ≤ farSize)
+    (middle ≤ t) × (t ≤ tiles) × (opposite + maxTiles ≤ length far)
 
 abbrev μ-loop : tie.MeasureT-loop
 μ-loop far tiles opposite middle₀ least₀ t₀ middle least t = tiles - t
@@ -34,7 +34,7 @@ loop-holds c =
     let s : tie.Start Inv-loop μ-loop = search in
     let n : tie.After-corners Inv-loop μ-loop = search in
     let few = corners-few (s .args .h) (s .pre .0) in
-    (search needs, search needs, omega (arith, n .corners .ensures, few .0, few .1))
+    (search needs, search needs, omega (arith, n .corners .ensures, few .0, s .pre .2))
 
 mul-sum : tie.Need-mul-sum Inv-loop μ-loop
 mul-sum c = search needs

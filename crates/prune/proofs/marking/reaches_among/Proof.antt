@@ -8,10 +8,11 @@ use borrow.Author.Needs.{needs}
 use borrow.Author.Tests.{le-leb}
 use Rattle.blocks.specs.Layout.{maxTiles}
 use Rattle.plan.specs.FilePlan.{entries}
+use Rattle.plan.specs.Inner.Seam.{cornerCount}
 use Rattle.search.specs.Plan.{slots, ranked}
 use Rattle.prune.specs.Inner.Tables.{belowAll, sumBelow, FirstBelow}
 use Rattle.plan.proofs.Measures.{known-axes, tiles-few}
-use Rattle.prune.proofs.CornerTables.{not-below}
+use Rattle.prune.proofs.CornerTables.{corners-few, not-below}
 use Rattle.prune.proofs.Summing.{sum-turn, sum-skip, sum-done}
 use Rattle.prune.proofs.marking.reaches_among.Statement.{statement}
 use Rattle.prune.proofs.marking.reaches_among.Tie as tie
@@ -38,6 +39,10 @@ sites s = ranked (entries (s .args .f .now) (s .args .h))
 most : (s : tie.Start Inv-loop μ-loop) → s .args .h .tiles ≤ maxTiles
 most s = tiles-few (s .args .f .now) (s .args .h) (s .pre .0 .0)
 
+-- a region has corners
+room : (s : tie.Start Inv-loop μ-loop) → 4 ≤ cornerCount (s .args .h)
+room s = corners-few (s .args .h) (known-axes (s .args .f .now) (s .args .h) (s .pre .0 .0)) .0
+
 -- the tiles passed over add nothing
 passed : (s : tie.Start Inv-loop μ-loop) {a r : ℕ}
     → FirstBelow (s .args .far .now) (getD (s .args .t4) 0 0) a (s .args .to) r → rest s r ≡ rest s a
@@ -58,7 +63,7 @@ array-read-next-below c = search needs
 next-below-requires : tie.Need-next-below-requires Inv-loop μ-loop
 next-below-requires c κs =
     let s : tie.Start Inv-loop μ-loop = search in
-    (s .pre .1 .0, omega (arith, most s, s .pre .0 .1, s .pre .1 .1))
+    (s .pre .1 .0, omega (arith, most s, s .pre .0 .1, s .pre .1 .1, room s))
 
 loop-holds : tie.Need-loop-holds Inv-loop μ-loop
 loop-holds c =
@@ -94,7 +99,7 @@ array-read-next-below-2 c = search needs
 next-below-requires-2 : tie.Need-next-below-requires-2 Inv-loop μ-loop
 next-below-requires-2 c κs =
     let s : tie.Start Inv-loop μ-loop = search in
-    (search needs, omega (arith, most s, s .pre .0 .1, s .pre .1 .1))
+    (search needs, omega (arith, most s, s .pre .0 .1, s .pre .1 .1, room s))
 
 loop-less : tie.Need-loop-less Inv-loop μ-loop
 loop-less c = let q = c .next-below2 .ensures .after in search needs

@@ -4,9 +4,9 @@ use native.Mathlib.Omega.{arith}
 use borrow.Author.Needs.{needs}
 use Rattle.geometry.specs.Axes.{KnownAxes}
 use Rattle.plan.specs.Inner.Seam.{regionOf, cornerCount}
-use Rattle.prune.specs.Inner.Tables.{maxCorners, FarTable}
+use Rattle.prune.specs.Inner.Tables.{FarTable}
 use Rattle.plan.proofs.Measures.{known-axes}
-use Rattle.prune.proofs.CornerTables.{corners-few, fill-corner}
+use Rattle.prune.proofs.CornerTables.{fill-corner}
 use Rattle.prune.proofs.tables.fill_corners.Statement.{statement}
 use Rattle.prune.proofs.tables.fill_corners.Tie as tie
 
@@ -31,12 +31,13 @@ corner-of-requires : tie.Need-corner-of-requires Inv-loop μ-loop
 corner-of-requires c κs = let s : tie.Start Inv-loop μ-loop = search in (known s, s .pre .1)
 
 -- the table has room for the corner
-room : (c : tie.After-corner-of Inv-loop μ-loop) → let l : tie.At-loop Inv-loop μ-loop = search in
-    l .loop .c < maxCorners
-room c =
+room : (c : tie.After-corner-of Inv-loop μ-loop) →
     let s : tie.Start Inv-loop μ-loop = search in
+    let l : tie.At-loop Inv-loop μ-loop = search in
+    l .loop .c < cornerCount (s .args .h)
+room c =
     let n : tie.After-corners Inv-loop μ-loop = search in
-    omega (arith, n .corners .ensures, corners-few (s .args .h) (known s) .1)
+    omega (arith, n .corners .ensures)
 
 fill-far-requires : tie.Need-fill-far-requires Inv-loop μ-loop
 fill-far-requires c κs =
