@@ -3,6 +3,9 @@
 //!
 //! `independent PATH_OF_NEARBY_PROGRAM [--seed S]` prints a line for each part and ends with status 0, or prints the
 //! part, the seed and the case of the first failure and ends with status 1.
+//!
+//! `independent recorded` runs the part `recorded` alone; `independent record` writes recorded/plan.txt anew and tests
+//! nothing: see parts/recorded.rs for when that is due.
 
 mod compare;
 mod damage;
@@ -34,20 +37,39 @@ fn report(part: &str, seed: u64, failure: &Failure) {
     }
 }
 
+/// Prints what a part gave.
+fn ended(part: &str, seed: u64, outcome: Result<String, Failure>) -> ExitCode {
+    match outcome {
+        Ok(line) => {
+            println!("{part}: {line}");
+            ExitCode::SUCCESS
+        }
+        Err(failure) => {
+            report(part, seed, &failure);
+            ExitCode::from(1)
+        }
+    }
+}
+
 fn main() -> ExitCode {
     let arguments: Vec<String> = std::env::args().skip(1).collect();
+    match arguments.as_slice() {
+        [word] if word == "record" => return ended("record", SEED, parts::recorded::record()),
+        [word] if word == "recorded" => return ended("recorded", SEED, parts::recorded::run()),
+        _ => {}
+    }
     let (program, seed) = match arguments.as_slice() {
         [program] => (program.clone(), Some(SEED)),
         [program, flag, seed] if flag == "--seed" => (program.clone(), seed.parse().ok()),
         _ => (String::new(), None),
     };
     let Some(seed) = seed else {
-        println!("use: independent PATH_OF_NEARBY_PROGRAM [--seed S]");
+        println!("use: independent PATH_OF_NEARBY_PROGRAM [--seed S], independent recorded, or independent record");
         return ExitCode::from(2);
     };
     let mut tally = Tally::default();
     type Part<'a> = (&'a str, Box<dyn Fn(&mut Rng, &mut Tally) -> Result<String, Failure> + 'a>);
-    let parts: [Part; 12] = [
+    let parts: [Part; 13] = [
         ("margins", Box::new(|rng, _| parts::margins::run(rng))),
         ("checks", Box::new(parts::checks::run)),
         ("writing", Box::new(parts::writing::run)),
@@ -60,16 +82,14 @@ fn main() -> ExitCode {
         ("muted", Box::new(parts::muted::run)),
         ("numbers", Box::new(|_, tally| tally.verdict().map_err(Failure::new))),
         ("program", Box::new(|rng, _| parts::programs::run(&program, rng))),
+        ("recorded", Box::new(|_, _| parts::recorded::run())),
     ];
     for (at, (name, part)) in parts.iter().enumerate() {
         // Each part has a generator of its own, so that a change in one leaves the cases of the others.
         let mut rng = Rng::new(seed.wrapping_add(at as u64 * 1_000_003));
-        match part(&mut rng, &mut tally) {
-            Ok(line) => println!("{name}: {line}"),
-            Err(failure) => {
-                report(name, seed, &failure);
-                return ExitCode::from(1);
-            }
+        let code = ended(name, seed, part(&mut rng, &mut tally));
+        if code != ExitCode::SUCCESS {
+            return code;
         }
     }
     ExitCode::SUCCESS

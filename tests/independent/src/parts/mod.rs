@@ -9,6 +9,7 @@ pub mod margins;
 pub mod mismatches;
 pub mod muted;
 pub mod programs;
+pub mod recorded;
 pub mod strikes;
 pub mod unread;
 pub mod writing;
