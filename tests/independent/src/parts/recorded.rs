@@ -21,7 +21,7 @@ fn path() -> PathBuf {
     PathBuf::from(env!("CARGO_MANIFEST_DIR")).join("recorded/plan.txt")
 }
 
-/// FNV-1a, 64 bits.
+/// FNV-1a in a u64.
 struct Hash(u64);
 
 impl Hash {
