@@ -1,10 +1,10 @@
 //! One call of the engine against the paper: answer, block, counts, slices, and guard elements around them.
 
 use crate::host::{self, Slices, Validated, Written};
-use crate::paper::directory::full_check;
+use crate::paper::directory::{axes_of, full_check};
 use crate::paper::search::{self, Joined, Lent, Pruned, Run};
 use crate::paper::writer::{self, Supply};
-use crate::paper::{Box2, Refusal};
+use crate::paper::{each_axis, Bounds, Point, Refusal};
 use crate::rng::Rng;
 use crate::tally::Tally;
 use std::fmt::Debug;
@@ -30,6 +30,11 @@ impl Failure {
         self.text = format!("{case}\n{}", self.text);
         self
     }
+}
+
+/// The name of a call for A axes.
+pub fn name_of<const A: usize>(call: &str) -> String {
+    format!("nearby_{call}{}", if A == 2 { "" } else { "3" })
 }
 
 /// Elements before and after each lent slice.
@@ -70,12 +75,35 @@ impl<T: Copy + PartialEq + Debug> Guarded<T> {
     }
 }
 
-/// The stops and k of a join.
+/// The stops and k of a join: a list of coordinates for each axis, which may differ in length.
 #[derive(Clone, Debug)]
-pub struct Query {
-    pub x: Vec<i32>,
-    pub y: Vec<i32>,
+pub struct Query<const A: usize> {
+    pub at: [Vec<i32>; A],
     pub k: u32,
+}
+
+impl<const A: usize> Query<A> {
+    pub fn of(stops: &[Point<A>], k: u32) -> Query<A> {
+        Query { at: each_axis(|axis| stops.iter().map(|s| s[axis]).collect()), k }
+    }
+
+    /// The number of stops.
+    pub fn n(&self) -> usize {
+        self.at[0].len()
+    }
+
+    /// Stop i, where the lists are as long as each other.
+    pub fn stop(&self, i: usize) -> Point<A> {
+        each_axis(|axis| self.at[axis][i])
+    }
+
+    pub fn stops(&self) -> Vec<Point<A>> {
+        (0..self.n()).map(|i| self.stop(i)).collect()
+    }
+
+    pub fn lists(&self) -> [&[i32]; A] {
+        each_axis(|axis| &self.at[axis][..])
+    }
 }
 
 /// The lengths of the join's four slices.
@@ -89,17 +117,17 @@ pub struct Lengths {
 
 impl Lengths {
     /// Exactly as long as needed, or a little longer.
-    pub fn enough(query: &Query, tiles: usize, rng: &mut Rng) -> Lengths {
-        let needed = query.x.len() * query.k.min(64) as usize;
+    pub fn enough<const A: usize>(query: &Query<A>, tiles: usize, rng: &mut Rng) -> Lengths {
+        let needed = query.n() * query.k.min(64) as usize;
         let mut more = || if rng.chance(2) { 0 } else { rng.below(6) };
         Lengths { dist: needed + more(), site: needed + more(), cue: needed + more(), marks: tiles + more() }
     }
 }
 
-/// nearby_join. Gives what both gave.
-pub fn join(
+/// nearby_join or nearby_join3. Gives what both gave.
+pub fn join<const A: usize>(
     file: &[u8],
-    query: &Query,
+    query: &Query<A>,
     lengths: Lengths,
     rng: &mut Rng,
     tally: &mut Tally,
@@ -111,9 +139,9 @@ pub fn join(
     let before = (dist.whole.clone(), site.whole.clone(), cue.whole.clone(), marks.whole.clone());
     let mut due = Lent { dist: dist.copy(), site: site.copy(), cue: cue.copy(), marks: marks.copy() };
 
-    let run = search::join(file, &query.x, &query.y, query.k, &mut due);
+    let run = search::join(file, query.lists(), query.k, &mut due);
     let slices = Slices { dist: dist.slice(), site: site.slice(), cue: cue.slice(), marks: marks.slice() };
-    let got: Joined = host::join(file, &query.x, &query.y, query.k, slices);
+    let got: Joined = host::join(file, query.lists(), query.k, slices);
 
     let difference = if got != run.joined {
         Some(format!("due {:?}, got {got:?}", run.joined))
@@ -125,10 +153,10 @@ pub fn join(
     };
     if let Some(difference) = difference {
         let text = format!(
-            "nearby_join(file of {} bytes, x {:?}, y {:?}, k {}, lengths {lengths:?}): {difference} (due answer {:?})",
+            "{}(file of {} bytes, x, y, .. {:?}, k {}, lengths {lengths:?}): {difference} (due answer {:?})",
+            name_of::<A>("join"),
             file.len(),
-            query.x,
-            query.y,
+            query.at,
             query.k,
             run.joined
         );
@@ -141,10 +169,10 @@ pub fn join(
     Ok((run, due))
 }
 
-/// nearby_prune. Gives what both gave.
-pub fn prune(
+/// nearby_prune or nearby_prune3. Gives what both gave.
+pub fn prune<const A: usize>(
     file: &[u8],
-    o: Box2,
+    o: Bounds<A>,
     k: u32,
     marks_len: usize,
     rng: &mut Rng,
@@ -162,7 +190,8 @@ pub fn prune(
     };
     if let Some(difference) = difference {
         let text = format!(
-            "nearby_prune(file of {} bytes, box {o:?}, k {k}, {marks_len} marks): {difference} (due answer {due:?})",
+            "{}(file of {} bytes, box {o:?}, k {k}, {marks_len} marks): {difference} (due answer {due:?})",
+            name_of::<A>("prune"),
             file.len()
         );
         return Err(Failure::with_file(text, file));
@@ -177,8 +206,8 @@ pub fn prune(
 pub fn validate(file: &[u8], tally: &mut Tally) -> Result<Result<usize, Refusal>, Failure> {
     let result = full_check(file);
     let due = match result {
-        Ok(tiles) => Validated { number: 0, block: 0, tiles: tiles as u32 },
-        Err(r) => Validated { number: r.number, block: r.block, tiles: 0 },
+        Ok(tiles) => Validated { number: 0, block: 0, tiles: tiles as u32, axes: axes_of(file).unwrap() as u32 },
+        Err(r) => Validated { number: r.number, block: r.block, tiles: 0, axes: 0 },
     };
     let got = host::validate(file);
     if got != due {
@@ -193,9 +222,9 @@ pub fn validate(file: &[u8], tally: &mut Tally) -> Result<Result<usize, Refusal>
     Ok(result)
 }
 
-/// nearby_write into `out_len` bytes of random content. Gives the file or the refusal.
-pub fn write(
-    supply: &Supply,
+/// nearby_write or nearby_write3 into `out_len` bytes of random content. Gives the file or the refusal.
+pub fn write<const A: usize>(
+    supply: &Supply<A>,
     out_len: usize,
     rng: &mut Rng,
     tally: &mut Tally,
@@ -208,11 +237,12 @@ pub fn write(
         Ok(length) => Written { number: 0, block: 0, length },
         Err(r) => Written { number: r.number, block: r.block, length: 0 },
     };
-    let got = host::write(&supply.boxes, &supply.counts, &supply.x, &supply.y, &supply.cues, out.slice());
+    let got = host::write(supply, out.slice());
     let difference =
         if got != due { Some(format!("due {due:?}, got {got:?}")) } else { out.differs("out", &before, &due_out) };
     if let Some(difference) = difference {
-        let text = format!("nearby_write({supply:?}, {out_len} bytes of out): {difference} (due answer {due:?})");
+        let name = name_of::<A>("write");
+        let text = format!("{name}({supply:?}, {out_len} bytes of out): {difference} (due answer {due:?})");
         return Err(Failure::new(text));
     }
     match result {

@@ -1,7 +1,9 @@
 //! Ways to damage a file: fields of a block set to wrong values, lengths, whole blocks.
 
 use crate::fillings::sounding_cue;
-use crate::paper::blocks::{i32_at, u16_at, u32_at, SIZE};
+use crate::paper::blocks::{
+    count_in_entry, cue_in_site, entry_at, i32_at, most_sites, per_block, site_at, u16_at, u32_at, SIZE,
+};
 use crate::paper::directory::directory_blocks;
 use crate::paper::writer::repair;
 use crate::paper::{Town, LIMIT};
@@ -44,6 +46,11 @@ fn wrong_u16(block: &mut [u8], at: usize, candidates: &[usize], rng: &mut Rng) -
     }
 }
 
+/// The kinds of both families and some that are none, without this one.
+pub fn other_kinds(kind: u8) -> Vec<u8> {
+    [0, 1, 2, 3, 4, 5, 255].into_iter().filter(|other| *other != kind).collect()
+}
+
 /// Changes the header fields that every block has. Says what it did.
 fn common_field(block: &mut [u8], which: usize, rng: &mut Rng) -> String {
     match which {
@@ -52,10 +59,7 @@ fn common_field(block: &mut [u8], which: usize, rng: &mut Rng) -> String {
             format!("sync {}", block[0])
         }
         1 => {
-            block[1] = match block[1] {
-                1 => rng.pick(&[0, 2, 3, 255]),
-                _ => rng.pick(&[0, 1, 3, 255]),
-            };
+            block[1] = rng.pick(&other_kinds(block[1]));
             format!("kind {}", block[1])
         }
         2 => format!("position {}", wrong_u16(block, 2, &[1, 2, 999], rng)),
@@ -69,68 +73,73 @@ fn common_field(block: &mut [u8], which: usize, rng: &mut Rng) -> String {
 }
 
 /// A wrong value in a directory block.
-fn directory_field(block: &mut [u8], rng: &mut Rng) -> String {
-    let entries = u16_at(block, 4).clamp(1, 24);
+fn directory_field<const A: usize>(block: &mut [u8], rng: &mut Rng) -> String {
+    let entries = u16_at(block, 4).clamp(1, per_block(A));
     let any = rng.below(entries);
     let entry = rng.pick(&[0, entries - 1, any]);
-    let at = 16 + 20 * entry;
+    let at = entry_at(A, entry);
+    let (low_at, high_at) = (|axis: usize| at + 4 * axis, |axis: usize| at + 4 * (A + axis));
+    let (count_at, most) = (at + count_in_entry(A), most_sites(A));
     match rng.below(15) {
         which @ 0..=4 => common_field(block, which, rng),
-        5 | 6 => format!("T {}", wrong_u16(block, 6, &[1, 24, 25, 960, 961], rng)),
+        5 | 6 => format!("T {}", wrong_u16(block, 6, &[1, per_block(A), per_block(A) + 1, 960, 961], rng)),
         7 => {
-            let field = at + 4 * rng.below(4);
+            let field = at + 4 * rng.below(2 * A);
             set_i32(block, field, beyond(rng));
             format!("entry {entry} has a coordinate {}", i32_at(block, field))
         }
         8 => {
             // Both ends beyond on the same side: low is not above high.
-            let (axis, value) = (rng.below(2), beyond(rng));
-            set_i32(block, at + 4 * axis, value);
-            set_i32(block, at + 4 * axis + 8, value);
+            let (axis, value) = (rng.below(A), beyond(rng));
+            set_i32(block, low_at(axis), value);
+            set_i32(block, high_at(axis), value);
             format!("entry {entry} has both ends {value}")
         }
         9 => {
-            let axis = rng.below(2);
-            let high = i32_at(block, at + 4 * axis + 8).clamp(-LIMIT, LIMIT - 1);
-            set_i32(block, at + 4 * axis + 8, high);
-            set_i32(block, at + 4 * axis, high + 1);
+            let axis = rng.below(A);
+            let high = i32_at(block, high_at(axis)).clamp(-LIMIT, LIMIT - 1);
+            set_i32(block, high_at(axis), high);
+            set_i32(block, low_at(axis), high + 1);
             format!("entry {entry} has low above high on axis {axis}")
         }
-        10 => format!("entry {entry} has count {}", wrong_u16(block, at + 16, &[41, 65_535, 296], rng)),
+        10 => {
+            let count = wrong_u16(block, count_at, &[most + 1, 40, 41, 65_535, 256 + most], rng);
+            format!("entry {entry} has count {count}")
+        }
         11 | 14 => {
-            let count = u16_at(block, at + 16);
-            let muted = wrong_u16(block, at + 18, &[count, count + 1, count / 2, 40, 41, 255, 256], rng);
+            let count = u16_at(block, count_at);
+            let muted = wrong_u16(block, count_at + 2, &[count, count + 1, count / 2, most, most + 1, 255, 256], rng);
             format!("entry {entry} has muted number {muted}")
         }
         12 => {
-            let unused = rng.range(16 + 20 * entries as i32, 509) as usize;
+            let unused = rng.range(entry_at(A, entries) as i32, 509) as usize;
             block[unused] = not_zero(rng);
             format!("byte {unused} is {}", block[unused])
         }
         _ => {
             // A box that the sites may not fit any more.
-            let axis = rng.below(2);
-            let high = i32_at(block, at + 4 * axis + 8);
-            set_i32(block, at + 4 * axis, high);
+            let axis = rng.below(A);
+            let high = i32_at(block, high_at(axis));
+            set_i32(block, low_at(axis), high);
             format!("entry {entry} has its low end at its high end on axis {axis}")
         }
     }
 }
 
 /// Mutes the site in this slot, or lets it sound. Gives the cue.
-pub fn flip_cue(block: &mut [u8], slot: usize, rng: &mut Rng) -> u32 {
-    let at = 16 + 12 * slot + 8;
+pub fn flip_cue<const A: usize>(block: &mut [u8], slot: usize, rng: &mut Rng) -> u32 {
+    let at = site_at(A, slot) + cue_in_site(A);
     let cue = if u32_at(block, at) == 0 { sounding_cue(rng) } else { 0 };
     block[at..at + 4].copy_from_slice(&cue.to_le_bytes());
     cue
 }
 
 /// A wrong value in the block of a tile.
-fn tile_field(block: &mut [u8], town: &Town, tile: usize, rng: &mut Rng) -> String {
+fn tile_field<const A: usize>(block: &mut [u8], town: &Town<A>, tile: usize, rng: &mut Rng) -> String {
     let entry = town.entries[tile];
     let any = rng.below(entry.count.max(1));
     let slot = rng.pick(&[0, entry.count.saturating_sub(1), any]);
-    let at = 16 + 12 * slot;
+    let at = site_at(A, slot);
     match rng.below(16) {
         which @ 0..=4 => common_field(block, which, rng),
         5 => {
@@ -139,38 +148,38 @@ fn tile_field(block: &mut [u8], town: &Town, tile: usize, rng: &mut Rng) -> Stri
             format!("byte {} is {}", 6 + high, block[6 + high])
         }
         6 => {
-            let unused = rng.range(16 + 12 * entry.count as i32, 509) as usize;
+            let unused = rng.range(site_at(A, entry.count) as i32, 509) as usize;
             block[unused] = not_zero(rng);
             format!("byte {unused} is {}", block[unused])
         }
         7 => {
-            let unused = 16 + 12 * entry.count;
+            let unused = site_at(A, entry.count);
             block[unused] = not_zero(rng);
             format!("the first byte past the sites, {unused}, is {}", block[unused])
         }
         8..=10 if entry.count > 0 => {
-            let (axis, end) = (rng.below(2), rng.below(2));
+            let (axis, end) = (rng.below(A), rng.below(2));
             let outside = entry.bounds[axis][end] + if end == 0 { -1 } else { 1 };
             set_i32(block, at + 4 * axis, outside);
             format!("slot {slot} is at {outside} on axis {axis}, one outside")
         }
         11 if entry.count > 0 => {
-            let (axis, value) = (rng.below(2), beyond(rng));
+            let (axis, value) = (rng.below(A), beyond(rng));
             set_i32(block, at + 4 * axis, value);
             format!("slot {slot} is at {value} on axis {axis}")
         }
         12 if entry.count > 0 => {
             // Another good filling.
-            let (axis, end) = (rng.below(2), rng.below(2));
+            let (axis, end) = (rng.below(A), rng.below(2));
             set_i32(block, at + 4 * axis, entry.bounds[axis][end]);
             format!("slot {slot} is at an end of axis {axis}")
         }
         13 if entry.count > 0 => {
-            let cue = at + 8 + rng.below(4);
+            let cue = at + cue_in_site(A) + rng.below(4);
             block[cue] = rng.byte();
             format!("byte {cue} of a cue is {}", block[cue])
         }
-        14 | 15 if entry.count > 0 => format!("slot {slot} has cue {}", flip_cue(block, slot, rng)),
+        14 | 15 if entry.count > 0 => format!("slot {slot} has cue {}", flip_cue::<A>(block, slot, rng)),
         _ => {
             let value = rng.pick(&[0u8, 255]);
             block[16..496].fill(value);
@@ -180,19 +189,19 @@ fn tile_field(block: &mut [u8], town: &Town, tile: usize, rng: &mut Rng) -> Stri
 }
 
 /// A wrong value in the block at this position; the check is left as it is. Says what it did.
-pub fn wrong_field(file: &mut [u8], town: &Town, position: usize, rng: &mut Rng) -> String {
-    let d = directory_blocks(town.entries.len());
+pub fn wrong_field<const A: usize>(file: &mut [u8], town: &Town<A>, position: usize, rng: &mut Rng) -> String {
+    let d = directory_blocks(A, town.entries.len());
     let block = block_mut(file, position);
     let what = match position.checked_sub(d) {
-        None => directory_field(block, rng),
+        None => directory_field::<A>(block, rng),
         Some(tile) => tile_field(block, town, tile, rng),
     };
     format!("block {position}: {what}")
 }
 
 /// A wrong value in some directory block, with the check repaired mostly.
-pub fn some_directory_field(file: &mut [u8], town: &Town, rng: &mut Rng) -> String {
-    let position = rng.below(directory_blocks(town.entries.len()));
+pub fn some_directory_field<const A: usize>(file: &mut [u8], town: &Town<A>, rng: &mut Rng) -> String {
+    let position = rng.below(directory_blocks(A, town.entries.len()));
     let what = wrong_field(file, town, position, rng);
     if !rng.chance(5) {
         repair_block(file, position);
@@ -201,8 +210,8 @@ pub fn some_directory_field(file: &mut [u8], town: &Town, rng: &mut Rng) -> Stri
 }
 
 /// A wrong value in every tile that is not empty, with the check repaired mostly.
-pub fn every_tile(file: &mut [u8], town: &Town, rng: &mut Rng) {
-    let d = directory_blocks(town.entries.len());
+pub fn every_tile<const A: usize>(file: &mut [u8], town: &Town<A>, rng: &mut Rng) {
+    let d = directory_blocks(A, town.entries.len());
     for tile in 0..town.entries.len() {
         wrong_field(file, town, d + tile, rng);
         if !rng.chance(5) {
@@ -211,13 +220,13 @@ pub fn every_tile(file: &mut [u8], town: &Town, rng: &mut Rng) {
     }
 }
 
-/// A length that is 0, over 512,000 or no multiple of 512.
+/// A length that is 0, over 512,000, over 520,704 or no multiple of 512.
 pub fn wrong_length(file: &mut Vec<u8>, rng: &mut Rng) -> String {
     let was = file.len();
     let length = match rng.below(8) {
         0 => 0,
-        1 => 512_000 + 512,
-        2 => 512_001,
+        1 => 512_000 + rng.pick(&[512, 1_024, 8_704, 8_704 + 512]),
+        2 => rng.pick(&[512_001, 520_705]),
         3 => 1 + rng.below(511),
         4 => was + 1,
         5 => was + 1 + rng.below(511),

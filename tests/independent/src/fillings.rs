@@ -1,6 +1,6 @@
 //! Fillings of a tile: how many of its sites are muted, and where all of them are.
 
-use crate::paper::{Box2, Entry, Point, Site};
+use crate::paper::{each_axis, Bounds, Entry, Point, Site};
 use crate::rng::Rng;
 
 /// How many sites of a tile are muted, in one town.
@@ -64,12 +64,12 @@ pub fn other_cue(cue: u32) -> u32 {
     }
 }
 
-pub fn point_in(b: Box2, rng: &mut Rng) -> Point {
-    [rng.range(b[0][0], b[0][1]), rng.range(b[1][0], b[1][1])]
+pub fn point_in<const A: usize>(b: Bounds<A>, rng: &mut Rng) -> Point<A> {
+    b.map(|[low, high]| rng.range(low, high))
 }
 
 /// Mutes so many of the sites: the first slots, the last, or any. Some muted sites stand where another site stands.
-fn mute(sites: &mut [Site], muted: usize, rng: &mut Rng) {
+fn mute<const A: usize>(sites: &mut [Site<A>], muted: usize, rng: &mut Rng) {
     let mut slots: Vec<usize> = (0..sites.len()).collect();
     match rng.below(5) {
         0 => {}
@@ -85,8 +85,8 @@ fn mute(sites: &mut [Site], muted: usize, rng: &mut Rng) {
 }
 
 /// Sites anywhere in the box, some on its corners; as many as the entry says, and as many of them muted.
-pub fn filling(entry: &Entry, rng: &mut Rng) -> Vec<Site> {
-    let mut sites: Vec<Site> = (0..entry.count)
+pub fn filling<const A: usize>(entry: &Entry<A>, rng: &mut Rng) -> Vec<Site<A>> {
+    let mut sites: Vec<Site<A>> = (0..entry.count)
         .map(|_| {
             let mut at = point_in(entry.bounds, rng);
             for (axis, ends) in entry.bounds.iter().enumerate() {
@@ -102,9 +102,9 @@ pub fn filling(entry: &Entry, rng: &mut Rng) -> Vec<Site> {
 }
 
 /// Sites close together somewhere in the box.
-pub fn cluster(entry: &Entry, rng: &mut Rng) -> Vec<Site> {
+pub fn cluster<const A: usize>(entry: &Entry<A>, rng: &mut Rng) -> Vec<Site<A>> {
     let middle = point_in(entry.bounds, rng);
-    let small = [0, 1].map(|axis| {
+    let small = each_axis(|axis| {
         let [low, high] = entry.bounds[axis];
         [(middle[axis] - 20).max(low), (middle[axis] + 20).min(high)]
     });

@@ -1,7 +1,10 @@
-//! The interface of include/nearby.h: the functions of the static library behind safe calls on slices.
+//! The interface of include/nearby.h: the functions of the static library behind safe calls on slices, each over the
+//! number of axes. The functions for three axes are there from request 2 on: until then the feature `height` is off,
+//! and no part calls them.
 
 use crate::paper::search::{Joined, Pruned};
-use crate::paper::Box2;
+use crate::paper::writer::Supply;
+use crate::paper::Bounds;
 
 #[repr(C)]
 struct CJoined {
@@ -21,13 +24,23 @@ struct CPruned {
     pruned: u32,
 }
 
-/// What nearby_validate gives.
 #[repr(C)]
+struct CValidated {
+    number: u32,
+    block: u32,
+    tiles: u32,
+    #[cfg(feature = "height")]
+    axes: u32,
+}
+
+/// What nearby_validate gives.
 #[derive(Clone, Copy, Debug, PartialEq, Eq)]
 pub struct Validated {
     pub number: u32,
     pub block: u32,
     pub tiles: u32,
+    /// 2 or 3; 0 when refused.
+    pub axes: u32,
 }
 
 /// What nearby_write gives.
@@ -58,10 +71,36 @@ extern "C" {
         x0: i32, x1: i32, y0: i32, y1: i32, k: u32,
         marks: *mut u8, marks_len: usize,
     ) -> CPruned;
-    fn nearby_validate(file: *const u8, file_len: usize) -> Validated;
+    fn nearby_validate(file: *const u8, file_len: usize) -> CValidated;
     fn nearby_write(
         boxes: *const i32, boxes_len: usize, counts: *const u32, counts_len: usize,
         x: *const i32, x_len: usize, y: *const i32, y_len: usize,
+        cues: *const u32, cues_len: usize, out: *mut u8, out_len: usize,
+    ) -> Written;
+}
+
+#[cfg(feature = "height")]
+#[rustfmt::skip]
+extern "C" {
+    fn nearby_margin3(
+        ox0: i32, ox1: i32, oy0: i32, oy1: i32, oz0: i32, oz1: i32,
+        ex0: i32, ex1: i32, ey0: i32, ey1: i32, ez0: i32, ez1: i32,
+        bx0: i32, bx1: i32, by0: i32, by1: i32, bz0: i32, bz1: i32,
+    ) -> i64;
+    fn nearby_join3(
+        file: *const u8, file_len: usize,
+        x: *const i32, x_len: usize, y: *const i32, y_len: usize, z: *const i32, z_len: usize, k: u32,
+        dist: *mut u64, dist_len: usize, site: *mut u32, site_len: usize,
+        cue: *mut u32, cue_len: usize, marks: *mut u8, marks_len: usize,
+    ) -> CJoined;
+    fn nearby_prune3(
+        file: *const u8, file_len: usize,
+        x0: i32, x1: i32, y0: i32, y1: i32, z0: i32, z1: i32, k: u32,
+        marks: *mut u8, marks_len: usize,
+    ) -> CPruned;
+    fn nearby_write3(
+        boxes: *const i32, boxes_len: usize, counts: *const u32, counts_len: usize,
+        x: *const i32, x_len: usize, y: *const i32, y_len: usize, z: *const i32, z_len: usize,
         cues: *const u32, cues_len: usize, out: *mut u8, out_len: usize,
     ) -> Written;
 }
@@ -71,13 +110,22 @@ pub fn block_check(block: &[u8]) -> u32 {
 }
 
 #[rustfmt::skip]
-pub fn margin(o: Box2, e: Box2, b: Box2) -> i64 {
+pub fn margin<const A: usize>(o: Bounds<A>, e: Bounds<A>, b: Bounds<A>) -> i64 {
     unsafe {
-        nearby_margin(
-            o[0][0], o[0][1], o[1][0], o[1][1],
-            e[0][0], e[0][1], e[1][0], e[1][1],
-            b[0][0], b[0][1], b[1][0], b[1][1],
-        )
+        match A {
+            2 => nearby_margin(
+                o[0][0], o[0][1], o[1][0], o[1][1],
+                e[0][0], e[0][1], e[1][0], e[1][1],
+                b[0][0], b[0][1], b[1][0], b[1][1],
+            ),
+            #[cfg(feature = "height")]
+            3 => nearby_margin3(
+                o[0][0], o[0][1], o[1][0], o[1][1], o[2][0], o[2][1],
+                e[0][0], e[0][1], e[1][0], e[1][1], e[2][0], e[2][1],
+                b[0][0], b[0][1], b[1][0], b[1][1], b[2][0], b[2][1],
+            ),
+            _ => unreachable!("no margin for {A} axes"),
+        }
     }
 }
 
@@ -89,42 +137,77 @@ pub struct Slices<'a> {
     pub marks: &'a mut [u8],
 }
 
+/// The stops are a list of coordinates for each axis.
 #[rustfmt::skip]
-pub fn join(file: &[u8], x: &[i32], y: &[i32], k: u32, lent: Slices) -> Joined {
+pub fn join<const A: usize>(file: &[u8], at: [&[i32]; A], k: u32, lent: Slices) -> Joined {
     let c = unsafe {
-        nearby_join(
-            file.as_ptr(), file.len(),
-            x.as_ptr(), x.len(), y.as_ptr(), y.len(), k,
-            lent.dist.as_mut_ptr(), lent.dist.len(), lent.site.as_mut_ptr(), lent.site.len(),
-            lent.cue.as_mut_ptr(), lent.cue.len(), lent.marks.as_mut_ptr(), lent.marks.len(),
-        )
+        match A {
+            2 => nearby_join(
+                file.as_ptr(), file.len(),
+                at[0].as_ptr(), at[0].len(), at[1].as_ptr(), at[1].len(), k,
+                lent.dist.as_mut_ptr(), lent.dist.len(), lent.site.as_mut_ptr(), lent.site.len(),
+                lent.cue.as_mut_ptr(), lent.cue.len(), lent.marks.as_mut_ptr(), lent.marks.len(),
+            ),
+            #[cfg(feature = "height")]
+            3 => nearby_join3(
+                file.as_ptr(), file.len(),
+                at[0].as_ptr(), at[0].len(), at[1].as_ptr(), at[1].len(), at[2].as_ptr(), at[2].len(), k,
+                lent.dist.as_mut_ptr(), lent.dist.len(), lent.site.as_mut_ptr(), lent.site.len(),
+                lent.cue.as_mut_ptr(), lent.cue.len(), lent.marks.as_mut_ptr(), lent.marks.len(),
+            ),
+            _ => unreachable!("no join for {A} axes"),
+        }
     };
     Joined { number: c.number, block: c.block, used: c.used, tiles: c.tiles, opened: c.opened, struck: c.pruned }
 }
 
 #[rustfmt::skip]
-pub fn prune(file: &[u8], o: Box2, k: u32, marks: &mut [u8]) -> Pruned {
+pub fn prune<const A: usize>(file: &[u8], o: Bounds<A>, k: u32, marks: &mut [u8]) -> Pruned {
     let c = unsafe {
-        nearby_prune(
-            file.as_ptr(), file.len(),
-            o[0][0], o[0][1], o[1][0], o[1][1], k,
-            marks.as_mut_ptr(), marks.len(),
-        )
+        match A {
+            2 => nearby_prune(
+                file.as_ptr(), file.len(),
+                o[0][0], o[0][1], o[1][0], o[1][1], k,
+                marks.as_mut_ptr(), marks.len(),
+            ),
+            #[cfg(feature = "height")]
+            3 => nearby_prune3(
+                file.as_ptr(), file.len(),
+                o[0][0], o[0][1], o[1][0], o[1][1], o[2][0], o[2][1], k,
+                marks.as_mut_ptr(), marks.len(),
+            ),
+            _ => unreachable!("no strike for {A} axes"),
+        }
     };
     Pruned { number: c.number, block: c.block, tiles: c.tiles, struck: c.pruned }
 }
 
 pub fn validate(file: &[u8]) -> Validated {
-    unsafe { nearby_validate(file.as_ptr(), file.len()) }
+    let c = unsafe { nearby_validate(file.as_ptr(), file.len()) };
+    #[cfg(feature = "height")]
+    let axes = c.axes;
+    #[cfg(not(feature = "height"))]
+    let axes = if c.number == 0 { 2 } else { 0 };
+    Validated { number: c.number, block: c.block, tiles: c.tiles, axes }
 }
 
 #[rustfmt::skip]
-pub fn write(boxes: &[i32], counts: &[u32], x: &[i32], y: &[i32], cues: &[u32], out: &mut [u8]) -> Written {
+pub fn write<const A: usize>(supply: &Supply<A>, out: &mut [u8]) -> Written {
+    let Supply { boxes, counts, at, cues } = supply;
     unsafe {
-        nearby_write(
-            boxes.as_ptr(), boxes.len(), counts.as_ptr(), counts.len(),
-            x.as_ptr(), x.len(), y.as_ptr(), y.len(),
-            cues.as_ptr(), cues.len(), out.as_mut_ptr(), out.len(),
-        )
+        match A {
+            2 => nearby_write(
+                boxes.as_ptr(), boxes.len(), counts.as_ptr(), counts.len(),
+                at[0].as_ptr(), at[0].len(), at[1].as_ptr(), at[1].len(),
+                cues.as_ptr(), cues.len(), out.as_mut_ptr(), out.len(),
+            ),
+            #[cfg(feature = "height")]
+            3 => nearby_write3(
+                boxes.as_ptr(), boxes.len(), counts.as_ptr(), counts.len(),
+                at[0].as_ptr(), at[0].len(), at[1].as_ptr(), at[1].len(), at[2].as_ptr(), at[2].len(),
+                cues.as_ptr(), cues.len(), out.as_mut_ptr(), out.len(),
+            ),
+            _ => unreachable!("no writer for {A} axes"),
+        }
     }
 }

@@ -4,6 +4,9 @@
 //! `independent PATH_OF_NEARBY_PROGRAM [--seed S]` prints a line for each part and ends with status 0, or prints the
 //! part, the seed and the case of the first failure and ends with status 1.
 //!
+//! The parts whose names end in -3 are the same over towns with height; `heights` has what is new with them. They run
+//! with the feature `height` of Cargo.toml.
+//!
 //! `independent recorded` runs the part `recorded` alone; `independent record` writes recorded/plan.txt anew and tests
 //! nothing: see parts/recorded.rs for when that is due.
 
@@ -18,6 +21,7 @@ mod tally;
 mod towns;
 
 use compare::Failure;
+use paper::HEIGHT;
 use rng::Rng;
 use std::process::ExitCode;
 use tally::Tally;
@@ -51,6 +55,22 @@ fn ended(part: &str, seed: u64, outcome: Result<String, Failure>) -> ExitCode {
     }
 }
 
+type Part<'a> = (&'a str, Box<dyn Fn(&mut Rng, &mut Tally) -> Result<String, Failure> + 'a>);
+
+/// Runs the parts up to the first that fails. They have one tally. Part i has the generator numbered first + i: each has
+/// one of its own, so that a change in one leaves the cases of the others.
+fn run_all(parts: &[Part], first: u64, seed: u64) -> ExitCode {
+    let mut tally = Tally::default();
+    for (at, (name, part)) in (first..).zip(parts) {
+        let mut rng = Rng::new(seed.wrapping_add(at * 1_000_003));
+        let code = ended(name, seed, part(&mut rng, &mut tally));
+        if code != ExitCode::SUCCESS {
+            return code;
+        }
+    }
+    ExitCode::SUCCESS
+}
+
 fn main() -> ExitCode {
     let arguments: Vec<String> = std::env::args().skip(1).collect();
     match arguments.as_slice() {
@@ -67,30 +87,41 @@ fn main() -> ExitCode {
         println!("use: independent PATH_OF_NEARBY_PROGRAM [--seed S], independent recorded, or independent record");
         return ExitCode::from(2);
     };
-    let mut tally = Tally::default();
-    type Part<'a> = (&'a str, Box<dyn Fn(&mut Rng, &mut Tally) -> Result<String, Failure> + 'a>);
-    let parts: [Part; 13] = [
-        ("margins", Box::new(|rng, _| parts::margins::run(rng))),
+    let plan: Vec<Part> = vec![
+        ("margins", Box::new(|rng, _| parts::margins::run::<2>(rng))),
         ("checks", Box::new(parts::checks::run)),
-        ("writing", Box::new(parts::writing::run)),
-        ("damaged", Box::new(parts::damaged::run)),
-        ("mismatches", Box::new(parts::mismatches::run)),
-        ("faults", Box::new(parts::faults::run)),
-        ("joins", Box::new(parts::joins::run)),
-        ("strikes", Box::new(parts::strikes::run)),
-        ("unread", Box::new(parts::unread::run)),
-        ("muted", Box::new(parts::muted::run)),
+        ("writing", Box::new(parts::writing::run::<2>)),
+        ("damaged", Box::new(parts::damaged::run::<2>)),
+        ("mismatches", Box::new(parts::mismatches::run::<2>)),
+        ("faults", Box::new(parts::faults::run::<2>)),
+        ("joins", Box::new(parts::joins::run::<2, 3>)),
+        ("strikes", Box::new(parts::strikes::run::<2, 3>)),
+        ("unread", Box::new(parts::unread::run::<2>)),
+        ("muted", Box::new(parts::muted::run::<2>)),
         ("numbers", Box::new(|_, tally| tally.verdict().map_err(Failure::new))),
         ("program", Box::new(|rng, _| parts::programs::run(&program, rng))),
         ("recorded", Box::new(|_, _| parts::recorded::run())),
     ];
-    for (at, (name, part)) in parts.iter().enumerate() {
-        // Each part has a generator of its own, so that a change in one leaves the cases of the others.
-        let mut rng = Rng::new(seed.wrapping_add(at as u64 * 1_000_003));
-        let code = ended(name, seed, part(&mut rng, &mut tally));
-        if code != ExitCode::SUCCESS {
-            return code;
-        }
+    let height: Vec<Part> = vec![
+        ("heights", Box::new(parts::heights::run)),
+        ("margins-3", Box::new(|rng, _| parts::margins::run::<3>(rng))),
+        ("writing-3", Box::new(parts::writing::run::<3>)),
+        ("damaged-3", Box::new(parts::damaged::run::<3>)),
+        ("mismatches-3", Box::new(parts::mismatches::run::<3>)),
+        ("faults-3", Box::new(parts::faults::run::<3>)),
+        ("joins-3", Box::new(parts::joins::run::<3, 2>)),
+        ("strikes-3", Box::new(parts::strikes::run::<3, 2>)),
+        ("unread-3", Box::new(parts::unread::run::<3>)),
+        ("muted-3", Box::new(parts::muted::run::<3>)),
+        ("numbers-3", Box::new(|_, tally| tally.verdict().map_err(Failure::new))),
+    ];
+    let code = run_all(&plan, 0, seed);
+    if code != ExitCode::SUCCESS {
+        return code;
     }
-    ExitCode::SUCCESS
+    if !HEIGHT {
+        println!("towns with height: not tried, since the feature `height` of Cargo.toml is off");
+        return code;
+    }
+    run_all(&height, 100, seed)
 }

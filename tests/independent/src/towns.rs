@@ -1,7 +1,8 @@
 //! Towns and stops of many sorts.
 
 use crate::fillings::{cluster, filling, point_in, Mutes};
-use crate::paper::{Box2, Entry, Point, Site, Town, LIMIT};
+use crate::paper::blocks::most_sites;
+use crate::paper::{each_axis, Bounds, Entry, Point, Site, Town, LIMIT};
 use crate::rng::Rng;
 
 #[derive(Clone, Copy, Debug, PartialEq, Eq)]
@@ -65,7 +66,7 @@ fn range_among(ends: &[i32], rng: &mut Rng) -> [i32; 2] {
 }
 
 /// Sites on the lattice, in a box whose ends are.
-fn on_lattice(entry: &Entry, rng: &mut Rng) -> Vec<Site> {
+fn on_lattice<const A: usize>(entry: &Entry<A>, rng: &mut Rng) -> Vec<Site<A>> {
     let mut sites = filling(entry, rng);
     sites.iter_mut().for_each(|site| site.at = site.at.map(lattice));
     sites
@@ -76,81 +77,94 @@ fn lattice(coordinate: i32) -> i32 {
     coordinate.div_euclid(LATTICE) * LATTICE
 }
 
-fn cell(tile: usize, columns: usize, side: i32, corner: Point) -> Box2 {
-    let low = [corner[0] + (tile % columns) as i32 * side, corner[1] + (tile / columns) as i32 * side];
-    [[low[0], low[0] + side], [low[1], low[1] + side]]
+/// A cell of a grid, along all axes.
+fn cell<const A: usize>(tile: usize, columns: usize, side: i32, corner: Point<A>) -> Bounds<A> {
+    let step = |axis: usize| {
+        let along = tile / columns.pow(axis as u32);
+        if axis + 1 < A {
+            along % columns
+        } else {
+            along
+        }
+    };
+    let low: Point<A> = each_axis(|axis| corner[axis] + step(axis) as i32 * side);
+    low.map(|low| [low, low + side])
+}
+
+/// A box around a point within the middle, with a reach of its own on each axis.
+fn somewhere<const A: usize>(middle: i32, reach: i32, rng: &mut Rng) -> Bounds<A> {
+    let at: Point<A> = each_axis(|_| rng.range(-middle, middle));
+    at.map(|at| around(at, rng.range(0, reach)))
 }
 
 /// A town of this sort, with some sites muted or none.
-pub fn town(sort: Sort, tiles: usize, rng: &mut Rng) -> Town {
+pub fn town<const A: usize>(sort: Sort, tiles: usize, rng: &mut Rng) -> Town<A> {
     town_with(sort, Mutes::some(rng), tiles, rng)
 }
 
-pub fn town_with(sort: Sort, mutes: Mutes, tiles: usize, rng: &mut Rng) -> Town {
-    let columns = (1..).find(|c| c * c >= tiles).unwrap();
+pub fn town_with<const A: usize>(sort: Sort, mutes: Mutes, tiles: usize, rng: &mut Rng) -> Town<A> {
+    let most = most_sites(A);
+    let columns = (1..).find(|c: &usize| c.pow(A as u32) >= tiles).unwrap();
     let side = rng.pick(&[3, 50, 1_000, 20_000]);
-    let corner = [rng.range(-300_000, 100_000), rng.range(-300_000, 100_000)];
-    let same: Box2 = [around(rng.range(-500, 500), rng.range(0, 300)), around(rng.range(-500, 500), rng.range(0, 300))];
+    let corner = each_axis(|_| rng.range(-300_000, 100_000));
+    let same: Bounds<A> = each_axis(|_| around(rng.range(-500, 500), rng.range(0, 300)));
     let spread = rng.pick(&[10, 200]);
     let in_grid = rng.chance(2);
+    // Some towns with height are as low as real ones. Those on the lattice keep their ends on it.
+    let low = A == 3 && sort != Sort::Lattice && rng.chance(3);
     let mut row: Vec<usize> = (0..tiles).collect();
     rng.shuffle(&mut row);
-    let entries: Vec<Entry> = (0..tiles)
+    let entries: Vec<Entry<A>> = (0..tiles)
         .map(|tile| {
-            let (bounds, count) = match sort {
-                Sort::Dense => (cell(tile, columns, side, corner), 25 + rng.below(16)),
-                Sort::Sparse => {
-                    let at = [rng.range(-100_000, 100_000), rng.range(-100_000, 100_000)];
-                    ([around(at[0], rng.range(0, 900)), around(at[1], rng.range(0, 900))], rng.below(4))
-                }
-                Sort::FarApart => {
-                    let at = [rng.range(-LIMIT, LIMIT), rng.range(-LIMIT, LIMIT)];
-                    ([around(at[0], rng.range(0, 25_000)), around(at[1], rng.range(0, 25_000))], rng.below(4))
-                }
+            let (mut bounds, count): (Bounds<A>, usize) = match sort {
+                Sort::Dense => (cell(tile, columns, side, corner), most - 15 + rng.below(16)),
+                Sort::Sparse => (somewhere(100_000, 900, rng), rng.below(4)),
+                Sort::FarApart => (somewhere(LIMIT, 25_000, rng), rng.below(4)),
                 Sort::Ties => {
                     let ends = [-4, -3, -2, -1, 0, 1, 2, 3, 4];
-                    ([range_among(&ends, rng), range_among(&ends, rng)], rng.below(9))
+                    (each_axis(|_| range_among(&ends, rng)), rng.below(9))
                 }
                 Sort::Lattice => {
-                    let low = [rng.range(-10, 4), rng.range(-10, 4)];
+                    let low: Point<A> = each_axis(|_| rng.range(-10, 4));
                     let bounds = low.map(|low| [low * LATTICE, (low + rng.range(0, 2)) * LATTICE]);
-                    (bounds, rng.below(41))
+                    (bounds, rng.below(most + 1))
                 }
                 Sort::Points => {
-                    let at = [rng.range(0, spread), rng.range(0, spread)];
-                    ([[at[0], at[0]], [at[1], at[1]]], rng.pick(&[0, 1, 1, 2, 3, 40]))
+                    let at: Point<A> = each_axis(|_| rng.range(0, spread));
+                    (at.map(|at| [at, at]), rng.pick(&[0, 1, 1, 2, 3, most]))
                 }
                 Sort::MostlyEmpty => {
-                    let at = [rng.range(-100_000, 100_000), rng.range(-100_000, 100_000)];
-                    let anywhere = [around(at[0], rng.range(0, 10_000)), around(at[1], rng.range(0, 10_000))];
+                    let anywhere = somewhere(100_000, 10_000, rng);
                     let bounds = if in_grid { cell(tile, columns, side, corner) } else { anywhere };
-                    (bounds, if rng.chance(5) { 1 + rng.below(40) } else { 0 })
+                    (bounds, if rng.chance(5) { 1 + rng.below(most) } else { 0 })
                 }
                 Sort::AllEmpty => (cell(tile, columns, side, corner), 0),
                 Sort::FewSites => {
-                    let at = [rng.range(-500_000, 500_000), rng.range(-500_000, 500_000)];
-                    let bounds = [around(at[0], rng.range(0, 5_000)), around(at[1], rng.range(0, 5_000))];
+                    let bounds = somewhere(500_000, 5_000, rng);
                     (bounds, if row[tile] < 9 { rng.below(5) } else { 0 })
                 }
-                Sort::Overlapping => {
-                    let at = [rng.range(-50_000, 50_000), rng.range(-50_000, 50_000)];
-                    ([around(at[0], rng.range(0, 20_000)), around(at[1], rng.range(0, 20_000))], rng.below(41))
-                }
+                Sort::Overlapping => (somewhere(50_000, 20_000, rng), rng.below(most + 1)),
                 Sort::Wide => {
-                    let at = [rng.range(-LIMIT, LIMIT), rng.range(-LIMIT, LIMIT)];
+                    let at: Point<A> = each_axis(|_| rng.range(-LIMIT, LIMIT));
                     let reach = rng.range(100_000, LIMIT);
-                    ([around(at[0], reach), around(at[1], reach)], rng.below(41))
+                    (at.map(|at| around(at, reach)), rng.below(most + 1))
                 }
-                Sort::Alike => (same, rng.below(41)),
+                Sort::Alike => (same, rng.below(most + 1)),
                 Sort::Extreme => {
                     let ends = [-LIMIT, -LIMIT, -LIMIT + 1, 0, LIMIT - 1, LIMIT, LIMIT];
-                    ([range_among(&ends, rng), range_among(&ends, rng)], rng.pick(&[0, 1, 5, 39, 40]))
+                    (each_axis(|_| range_among(&ends, rng)), rng.pick(&[0, 1, 5, most - 1, most]))
                 }
                 Sort::Row => {
                     let low = row[tile] as i32 * 100 - 5_000;
-                    ([[low, low + 80], [-20, 20]], rng.below(16))
+                    // With height, every second tile is on a viaduct.
+                    let level = row[tile] as i32 % 2 * 600;
+                    let bounds = each_axis(|axis| [[low, low + 80], [-20, 20], [level - 20, level + 20]][axis]);
+                    (bounds, rng.below(16))
                 }
             };
+            if low {
+                bounds[A - 1] = bounds[A - 1].map(|end| end / 40);
+            }
             Entry { bounds, count, muted: mutes.of(count, rng) }
         })
         .collect();
@@ -171,29 +185,29 @@ fn limited(coordinate: i64) -> i32 {
 
 /// n stops: close together, along a line, anywhere, all the same, at the limits, in boxes, on the lattice, on sites, on
 /// muted sites.
-pub fn stops(town: &Town, n: usize, rng: &mut Rng) -> Vec<Point> {
+pub fn stops<const A: usize>(town: &Town<A>, n: usize, rng: &mut Rng) -> Vec<Point<A>> {
     let in_some_box = |rng: &mut Rng| point_in(town.entries[rng.below(town.entries.len())].bounds, rng);
     let (from, to) = (in_some_box(rng), in_some_box(rng));
     let reach = rng.pick(&[1, 5, 100, 5_000]);
     let sort = rng.below(10);
     (0..n)
         .map(|i| match sort {
-            0 | 1 => [0, 1].map(|axis| limited(from[axis] as i64 + rng.range(-reach, reach) as i64)),
-            2 => [0, 1].map(|axis| {
+            0 | 1 => each_axis(|axis| limited(from[axis] as i64 + rng.range(-reach, reach) as i64)),
+            2 => each_axis(|axis| {
                 let along = (to[axis] as i64 - from[axis] as i64) * i as i64 / n as i64;
                 limited(from[axis] as i64 + along)
             }),
-            3 => [0, 1].map(|axis| {
+            3 => each_axis(|axis| {
                 let (p, q) = (from[axis].min(to[axis]), from[axis].max(to[axis]));
                 rng.range(p, q)
             }),
             4 => from,
-            5 => [rng.pick(&[-LIMIT, 0, LIMIT]), rng.pick(&[-LIMIT, 0, LIMIT])],
+            5 => each_axis(|_| rng.pick(&[-LIMIT, 0, LIMIT])),
             6 => in_some_box(rng),
             7 => in_some_box(rng).map(lattice),
             _ => {
-                let fits = |site: &&Site| sort == 8 || site.is_muted();
-                let sites: Vec<&Site> = town.sites[rng.below(town.sites.len())].iter().filter(fits).collect();
+                let fits = |site: &&Site<A>| sort == 8 || site.is_muted();
+                let sites: Vec<&Site<A>> = town.sites[rng.below(town.sites.len())].iter().filter(fits).collect();
                 match sites.is_empty() {
                     true => in_some_box(rng),
                     false => sites[rng.below(sites.len())].at,

@@ -1,50 +1,58 @@
 //! "Three boxes": near, far and margin, by their definition over all points and by the ends.
 
-use super::{Box2, Point, LIMIT};
+use super::{each_axis, Bounds, Point, LIMIT};
 
 pub fn within_limits(coordinate: i32) -> bool {
     (-LIMIT..=LIMIT).contains(&coordinate)
 }
 
 /// Row 9: "coordinate beyond limits, low above high".
-pub fn good_box(b: Box2) -> bool {
+pub fn good_box<const A: usize>(b: Bounds<A>) -> bool {
     b.iter().all(|[low, high]| within_limits(*low) && within_limits(*high) && low <= high)
 }
 
-pub fn inside(p: Point, b: Box2) -> bool {
-    (0..2).all(|axis| b[axis][0] <= p[axis] && p[axis] <= b[axis][1])
+pub fn inside<const A: usize>(p: Point<A>, b: Bounds<A>) -> bool {
+    (0..A).all(|axis| b[axis][0] <= p[axis] && p[axis] <= b[axis][1])
+}
+
+fn square(p: i32, q: i32) -> i64 {
+    (p as i64 - q as i64) * (p as i64 - q as i64)
 }
 
 /// "D(p,q) is the squared Euclidean distance."
-pub fn distance(p: Point, q: Point) -> i64 {
-    let dx = p[0] as i64 - q[0] as i64;
-    let dy = p[1] as i64 - q[1] as i64;
-    dx * dx + dy * dy
+pub fn distance<const A: usize>(p: Point<A>, q: Point<A>) -> i64 {
+    (0..A).map(|axis| square(p[axis], q[axis])).sum()
 }
 
 /// The point of the box closest to p, on each axis the number of the range closest to p's.
-pub fn closest(p: Point, b: Box2) -> Point {
-    [p[0].clamp(b[0][0], b[0][1]), p[1].clamp(b[1][0], b[1][1])]
+pub fn closest<const A: usize>(p: Point<A>, b: Bounds<A>) -> Point<A> {
+    each_axis(|axis| p[axis].clamp(b[axis][0], b[axis][1]))
 }
 
 /// "the least ... D(p,q) over the whole-number points q of the box"
-pub fn near(p: Point, b: Box2) -> i64 {
+pub fn near<const A: usize>(p: Point<A>, b: Bounds<A>) -> i64 {
     distance(p, closest(p, b))
 }
 
 /// "and the largest": some corner reaches it.
-pub fn far(p: Point, b: Box2) -> i64 {
-    let corners = [[b[0][0], b[1][0]], [b[0][0], b[1][1]], [b[0][1], b[1][0]], [b[0][1], b[1][1]]];
-    corners.iter().map(|c| distance(p, *c)).max().unwrap()
+pub fn far<const A: usize>(p: Point<A>, b: Bounds<A>) -> i64 {
+    let corner = |ends: usize| -> Point<A> { each_axis(|axis| b[axis][ends >> axis & 1]) };
+    (0..1 << A).map(|ends| distance(p, corner(ends))).max().unwrap()
 }
 
 /// The whole-number points of a box.
-pub fn points(b: Box2) -> Vec<Point> {
-    (b[0][0]..=b[0][1]).flat_map(|x| (b[1][0]..=b[1][1]).map(move |y| [x, y])).collect()
+pub fn points<const A: usize>(b: Bounds<A>) -> Vec<Point<A>> {
+    let mut points = vec![b.map(|[low, _]| low)];
+    for axis in 0..A {
+        let along =
+            |p: Point<A>| (b[axis][0]..=b[axis][1]).map(move |c| each_axis(|a| if a == axis { c } else { p[a] }));
+        points = points.into_iter().flat_map(along).collect();
+    }
+    points
 }
 
 /// "the largest D(o,e) - D(o,b) over whole-number points o of O, e of E, b of B": all of them.
-pub fn margin_of_all_points(o: Box2, e: Box2, b: Box2) -> i64 {
+pub fn margin_of_all_points<const A: usize>(o: Bounds<A>, e: Bounds<A>, b: Bounds<A>) -> i64 {
     let (e_points, b_points) = (points(e), points(b));
     let mut largest = i64::MIN;
     for o in points(o) {
@@ -60,7 +68,6 @@ pub fn margin_of_all_points(o: Box2, e: Box2, b: Box2) -> i64 {
 /// The three points on one axis: "o is the end of O that gives the larger difference, the low end if equal; e is the
 /// end of E farther from o, the low end if equal; b is the point of B closest to o." Gives o, e, b.
 fn reaching_on_axis(o: [i32; 2], e: [i32; 2], b: [i32; 2]) -> [i32; 3] {
-    let square = |p: i32, q: i32| (p as i64 - q as i64) * (p as i64 - q as i64);
     let from = |o: i32| {
         let farther = if square(o, e[1]) > square(o, e[0]) { e[1] } else { e[0] };
         let closest = o.clamp(b[0], b[1]);
@@ -75,26 +82,25 @@ fn reaching_on_axis(o: [i32; 2], e: [i32; 2], b: [i32; 2]) -> [i32; 3] {
 }
 
 /// The three points "that reach" the margin.
-pub fn reaching(o: Box2, e: Box2, b: Box2) -> [Point; 3] {
-    let x = reaching_on_axis(o[0], e[0], b[0]);
-    let y = reaching_on_axis(o[1], e[1], b[1]);
-    [[x[0], y[0]], [x[1], y[1]], [x[2], y[2]]]
+pub fn reaching<const A: usize>(o: Bounds<A>, e: Bounds<A>, b: Bounds<A>) -> [Point<A>; 3] {
+    let on_axes: [[i32; 3]; A] = each_axis(|axis| reaching_on_axis(o[axis], e[axis], b[axis]));
+    [0, 1, 2].map(|point| on_axes.map(|three| three[point]))
 }
 
 /// The margin by the three points that reach it.
-pub fn margin(o: Box2, e: Box2, b: Box2) -> i64 {
+pub fn margin<const A: usize>(o: Bounds<A>, e: Bounds<A>, b: Bounds<A>) -> i64 {
     let [o, e, b] = reaching(o, e, b);
     distance(o, e) - distance(o, b)
 }
 
 /// "E is nearer than B from O exactly when the margin is below 0".
-pub fn nearer(o: Box2, e: Box2, b: Box2) -> bool {
+pub fn nearer<const A: usize>(o: Bounds<A>, e: Bounds<A>, b: Bounds<A>) -> bool {
     margin(o, e, b) < 0
 }
 
 /// "Exported margin takes twelve signed 32-bit numbers (O, E, B; each low x, high x, low y, high y) and gives a
-/// signed 64-bit number, 9,000,000,000,000,000,000 for a bad box."
-pub fn exported_margin(o: Box2, e: Box2, b: Box2) -> i64 {
+/// signed 64-bit number, 9,000,000,000,000,000,000 for a bad box." Eighteen numbers for three axes.
+pub fn exported_margin<const A: usize>(o: Bounds<A>, e: Bounds<A>, b: Bounds<A>) -> i64 {
     if good_box(o) && good_box(e) && good_box(b) {
         margin(o, e, b)
     } else {
@@ -103,7 +109,6 @@ pub fn exported_margin(o: Box2, e: Box2, b: Box2) -> i64 {
 }
 
 /// "O is the smallest box around the stops."
-pub fn smallest_around(stops: &[Point]) -> Box2 {
-    let axis = |a: usize| [stops.iter().map(|s| s[a]).min().unwrap(), stops.iter().map(|s| s[a]).max().unwrap()];
-    [axis(0), axis(1)]
+pub fn smallest_around<const A: usize>(stops: &[Point<A>]) -> Bounds<A> {
+    each_axis(|a| [stops.iter().map(|s| s[a]).min().unwrap(), stops.iter().map(|s| s[a]).max().unwrap()])
 }

@@ -21,7 +21,8 @@ pub fn printed(input: &[u8]) -> Vec<u8> {
     let file = &input[8 + 8 * n..];
     let mut lent =
         Lent { dist: vec![0; n * 64], site: vec![0; n * 64], cue: vec![0; n * 64], marks: vec![0; file.len() / 512] };
-    let joined = join(file, &x, &y, k, &mut lent).joined;
+    // A town with height is 17: the input has stops of two axes.
+    let joined = join(file, [&x, &y], k, &mut lent).joined;
     if joined.number != 0 {
         return format!("refused {} block {}\n", joined.number, joined.block).into();
     }

@@ -2,7 +2,7 @@
 
 use super::boxes::{distance, good_box, near, nearer, smallest_around, within_limits};
 use super::directory::{open, read_directory};
-use super::{refuse, Box2, Entry, Point, Refusal, Site, Town};
+use super::{each_axis, refuse, Bounds, Entry, Point, Refusal, Site, Town};
 
 /// A place of a list: "D, tile × 40 + slot, and cue".
 #[derive(Clone, Copy, Debug, PartialEq, Eq)]
@@ -14,14 +14,18 @@ pub struct Place {
 
 /// "tile B is struck exactly when the counts of all tiles nearer than B from O add up to at least k." 02.1: "Striking
 /// adds up sounding sites only".
-pub fn struck(entries: &[Entry], o: Box2, k: usize) -> Vec<bool> {
+pub fn struck<const A: usize>(entries: &[Entry<A>], o: Bounds<A>, k: usize) -> Vec<bool> {
     struck_by(entries, k, |e, b| nearer(o, e, b))
 }
 
 /// The same with another way to tell which box is nearer.
-pub fn struck_by(entries: &[Entry], k: usize, is_nearer: impl Fn(Box2, Box2) -> bool) -> Vec<bool> {
+pub fn struck_by<const A: usize>(
+    entries: &[Entry<A>],
+    k: usize,
+    is_nearer: impl Fn(Bounds<A>, Bounds<A>) -> bool,
+) -> Vec<bool> {
     let sites_nearer =
-        |b: &Entry| -> usize { entries.iter().filter(|e| is_nearer(e.bounds, b.bounds)).map(Entry::sounding).sum() };
+        |b: &Entry<A>| -> usize { entries.iter().filter(|e| is_nearer(e.bounds, b.bounds)).map(Entry::sounding).sum() };
     entries.iter().map(|b| sites_nearer(b) >= k).collect()
 }
 
@@ -44,13 +48,17 @@ impl From<Refusal> for Pruned {
     }
 }
 
-/// The strike call. "Strike: 1, directory, 11, 9 for O, 14."
-pub fn prune(file: &[u8], o: Box2, k: u32, marks: &mut [u8]) -> Pruned {
-    let tested = || -> Result<Vec<Entry>, Refusal> {
-        let entries = read_directory(file)?;
+/// The strike call for A axes. "Strike: 1, directory, 11, 9 for O, 14." 02.2: 17 "in strike after 11".
+pub fn prune<const A: usize>(file: &[u8], o: Bounds<A>, k: u32, marks: &mut [u8]) -> Pruned {
+    let tested = || -> Result<Vec<Entry<A>>, Refusal> {
+        let directory = read_directory(file)?;
         if !good_k(k) {
             return refuse(11, 0);
         }
+        // 02.2: "17 when the call has another number of axes than the town"; "it gives block 0"
+        let Some(entries) = directory else {
+            return refuse(17, 0);
+        };
         if !good_box(o) {
             return refuse(9, 0);
         }
@@ -103,10 +111,10 @@ pub struct Run {
 }
 
 /// The sites of an opened tile, none when it is not opened.
-type Opened = Vec<Option<Vec<Site>>>;
+type Opened<const A: usize> = Vec<Option<Vec<Site<A>>>>;
 
 /// All sites of opened tiles as tile, slot, site.
-fn sites_of(opened: &Opened) -> impl Iterator<Item = (usize, usize, Site)> + '_ {
+fn sites_of<const A: usize>(opened: &Opened<A>) -> impl Iterator<Item = (usize, usize, Site<A>)> + '_ {
     opened
         .iter()
         .enumerate()
@@ -114,12 +122,16 @@ fn sites_of(opened: &Opened) -> impl Iterator<Item = (usize, usize, Site)> + '_ 
 }
 
 /// 02.1: "From now on only sites with another cue rank" than 0. A muted site keeps its slot.
-fn ranks(site: Site) -> bool {
+fn ranks<const A: usize>(site: Site<A>) -> bool {
     !site.is_muted()
 }
 
-/// "Sites rank by D from the stop, then tile, then slot", cut after k.
-fn first_in_ranking(sites: impl Iterator<Item = (usize, usize, Site)>, stop: Point, k: usize) -> Vec<Place> {
+/// "Sites rank by D from the stop, then tile, then slot", cut after k. 02.2: "The site number still uses 40."
+fn first_in_ranking<const A: usize>(
+    sites: impl Iterator<Item = (usize, usize, Site<A>)>,
+    stop: Point<A>,
+    k: usize,
+) -> Vec<Place> {
     let mut ranked: Vec<(i64, usize, usize, u32)> = sites
         .filter(|(_, _, site)| ranks(*site))
         .map(|(tile, slot, site)| (distance(stop, site.at), tile, slot, site.cue))
@@ -134,13 +146,13 @@ fn first_in_ranking(sites: impl Iterator<Item = (usize, usize, Site)>, stop: Poi
 
 /// "Stops are taken in turn. For each, the tiles that are not struck and not empty are taken by key: near distance
 /// from the stop, then tile number." 02.1: "a tile with none", no sounding site, "is treated as empty".
-fn serve(
+fn serve<const A: usize>(
     file: &[u8],
-    entries: &[Entry],
+    entries: &[Entry<A>],
     struck: &[bool],
-    stop: Point,
+    stop: Point<A>,
     k: usize,
-    opened: &mut Opened,
+    opened: &mut Opened<A>,
 ) -> Result<(), Refusal> {
     let mut keys: Vec<(i64, usize)> = (0..entries.len())
         .filter(|t| !struck[*t] && entries[*t].sounding() > 0)
@@ -150,7 +162,7 @@ fn serve(
     for key in keys {
         // "It ends when k sites of opened tiles are ahead of the next key (smaller D, or equal D and a lower tile
         // number)"
-        let is_ahead = |tile: usize, site: Site| ranks(site) && (distance(stop, site.at), tile) < key;
+        let is_ahead = |tile: usize, site: Site<A>| ranks(site) && (distance(stop, site.at), tile) < key;
         let ahead = sites_of(opened).filter(|(tile, _, site)| is_ahead(*tile, *site)).take(k).count();
         if ahead >= k {
             break;
@@ -164,22 +176,33 @@ fn serve(
     Ok(())
 }
 
-/// What is tested before the openings. "Join: 1; each directory block 2 to 9 in table order; 11 to 14".
-fn tests_before_openings(file: &[u8], x: &[i32], y: &[i32], k: u32, lent: &Lent) -> Result<Vec<Entry>, Refusal> {
-    let entries = read_directory(file)?;
+/// What is tested before the openings. "Join: 1; each directory block 2 to 9 in table order; 11 to 14"; 02.2: 17
+/// "tested after 12". The coordinates of the stops are a list for each axis.
+fn tests_before_openings<const A: usize>(
+    file: &[u8],
+    at: [&[i32]; A],
+    k: u32,
+    lent: &Lent,
+) -> Result<Vec<Entry<A>>, Refusal> {
+    let directory = read_directory(file)?;
     if !good_k(k) {
         return refuse(11, 0);
     }
-    // 12: "none, over 256, or unequal x and y slices"
-    if x.is_empty() || x.len() > 256 || x.len() != y.len() {
+    // 12: "none, over 256, or unequal x and y slices"; 02.2: "and 12 takes in a z slice of another length"
+    let n = at[0].len();
+    if n == 0 || n > 256 || at.iter().any(|list| list.len() != n) {
         return refuse(12, 0);
     }
+    // 02.2: "17 when the call has another number of axes than the town"; "it gives block 0"
+    let Some(entries) = directory else {
+        return refuse(17, 0);
+    };
     // 13: "stop beyond the limits"
-    if x.iter().chain(y).any(|c| !within_limits(*c)) {
+    if at.iter().any(|list| list.iter().any(|c| !within_limits(*c))) {
         return refuse(13, 0);
     }
     // 14: "n × k for each of the join's three, T for marks"
-    let needed = x.len() * k as usize;
+    let needed = n * k as usize;
     if lent.dist.len() < needed
         || lent.site.len() < needed
         || lent.cue.len() < needed
@@ -190,17 +213,17 @@ fn tests_before_openings(file: &[u8], x: &[i32], y: &[i32], k: u32, lent: &Lent)
     Ok(entries)
 }
 
-/// The join.
-pub fn join(file: &[u8], x: &[i32], y: &[i32], k: u32, lent: &mut Lent) -> Run {
-    let entries = match tests_before_openings(file, x, y, k, lent) {
+/// The join for A axes.
+pub fn join<const A: usize>(file: &[u8], at: [&[i32]; A], k: u32, lent: &mut Lent) -> Run {
+    let entries = match tests_before_openings(file, at, k, lent) {
         Ok(entries) => entries,
         // "any earlier one leaves the lent slices unchanged"
         Err(refusal) => return Run { joined: refusal.into(), opened_well: 0 },
     };
-    let (n, k, tiles) = (x.len(), k as usize, entries.len());
-    let stops: Vec<Point> = (0..n).map(|i| [x[i], y[i]]).collect();
+    let (n, k, tiles) = (at[0].len(), k as usize, entries.len());
+    let stops: Vec<Point<A>> = (0..n).map(|i| each_axis(|axis| at[axis][i])).collect();
     let struck = struck(&entries, smallest_around(&stops), k);
-    let mut opened: Opened = vec![None; tiles];
+    let mut opened: Opened<A> = vec![None; tiles];
     let mut refusal = None;
     for stop in &stops {
         if let Err(r) = serve(file, &entries, &struck, *stop, k, &mut opened) {
@@ -251,7 +274,7 @@ pub fn join(file: &[u8], x: &[i32], y: &[i32], k: u32, lent: &mut Lent) -> Run {
 
 /// "What a full search of a town gives for a stop: the town's sites in their ranking, cut after k of them, each place
 /// with D, tile × 40 + slot, and cue; places left over up to k are 0."
-pub fn full_search(town: &Town, stop: Point, k: usize) -> Vec<Place> {
+pub fn full_search<const A: usize>(town: &Town<A>, stop: Point<A>, k: usize) -> Vec<Place> {
     let all = town
         .sites
         .iter()

@@ -4,42 +4,43 @@ use super::count;
 use crate::compare::{self, Failure, Lengths, Query};
 use crate::damage::{repair_block, wrong_field, wrong_length};
 use crate::fillings::{filling, point_in, Mutes};
-use crate::paper::blocks::{SIZE, SYNC};
+use crate::paper::blocks::{directory_kind, most_sites, per_block, SIZE, SYNC};
 use crate::paper::boxes::smallest_around;
-use crate::paper::directory::{directory_blocks, open, read_directory};
+use crate::paper::directory::{axes_of, directory_blocks, open, read_directory};
 use crate::paper::writer::{file_of, Supply};
-use crate::paper::{Entry, Town};
+use crate::paper::{each_axis, Entry, Town};
 use crate::rng::Rng;
 use crate::tally::Tally;
 
 /// A town in a grid with empty, full, muted and other tiles, and its file.
-pub struct Base {
-    pub town: Town,
+pub struct Base<const A: usize> {
+    pub town: Town<A>,
     pub file: Vec<u8>,
     pub d: usize,
 }
 
-pub fn base(tiles: usize, rng: &mut Rng) -> Base {
-    let mutes = Mutes::some(rng);
-    let entries: Vec<Entry> = (0..tiles)
+pub fn base<const A: usize>(tiles: usize, rng: &mut Rng) -> Base<A> {
+    let (mutes, most) = (Mutes::some(rng), most_sites(A));
+    let entries: Vec<Entry<A>> = (0..tiles)
         .map(|tile| {
-            let low = [(tile % 7) as i32 * 900 - 2_000, (tile / 7) as i32 * 900 - 1_000];
+            let low = [tile % 7 * 900, tile / 7 * 900, tile % 3 * 300].map(|low| low as i32);
+            let ends = [[low[0] - 2_000, low[0] - 1_000], [low[1] - 1_000, low[1] - 50], [low[2] - 400, low[2]]];
             let (count, muted) = match tile % 6 {
                 0 => (3, 1),
-                1 => (40, rng.pick(&[0, 1, 39, 40])),
+                1 => (most, rng.pick(&[0, 1, most - 1, most])),
                 2 => (0, 0),
-                3 => rng.pick(&[(1, 1), (5, 5), (40, 40)]),
+                3 => rng.pick(&[(1, 1), (5, 5), (most, most)]),
                 _ => {
-                    let count = rng.below(41);
+                    let count = rng.below(most + 1);
                     (count, mutes.of(count, rng))
                 }
             };
-            Entry { bounds: [[low[0], low[0] + 1_000], [low[1], low[1] + 950]], count, muted }
+            Entry { bounds: each_axis(|axis| ends[axis]), count, muted }
         })
         .collect();
     let sites = entries.iter().map(|e| filling(e, rng)).collect();
     let town = Town { entries, sites };
-    Base { file: file_of(&town), d: directory_blocks(tiles), town }
+    Base { file: file_of(&town), d: directory_blocks(A, tiles), town }
 }
 
 struct Trial<'a> {
@@ -52,11 +53,11 @@ struct Trial<'a> {
 impl Trial<'_> {
     /// All three calls on a file. The stops are somewhere else first and then in the box of the tile that matters, so
     /// that the tile is opened after others.
-    fn calls(&mut self, base: &Base, file: &[u8], tile: usize, case: &str) -> Result<(), Failure> {
+    fn calls<const A: usize>(&mut self, base: &Base<A>, file: &[u8], tile: usize, case: &str) -> Result<(), Failure> {
         self.calls_on(base, file, tile).map_err(|f| f.case(case))
     }
 
-    fn calls_on(&mut self, base: &Base, file: &[u8], tile: usize) -> Result<(), Failure> {
+    fn calls_on<const A: usize>(&mut self, base: &Base<A>, file: &[u8], tile: usize) -> Result<(), Failure> {
         let (rng, tiles) = (&mut *self.rng, base.town.entries.len());
         let elsewhere = base.town.entries[rng.below(tiles)].bounds;
         let mut stops = vec![point_in(base.town.entries[tile].bounds, rng)];
@@ -65,11 +66,7 @@ impl Trial<'_> {
         } else {
             stops.insert(0, point_in(elsewhere, rng));
         }
-        let query = Query {
-            x: stops.iter().map(|s| s[0]).collect(),
-            y: stops.iter().map(|s| s[1]).collect(),
-            k: rng.pick(&[1, 2, 5, 30, 64]),
-        };
+        let query = Query::of(&stops, rng.pick(&[1, 2, 5, 30, 64]));
         let lengths = Lengths::enough(&query, tiles, rng);
         compare::join(file, &query, lengths, rng, self.tally)?;
         let marks_len = tiles + rng.below(3);
@@ -79,31 +76,39 @@ impl Trial<'_> {
         // "A file passes the full check exactly when our writer makes it from some town."
         if checked.is_ok() && file != base.file {
             self.accepted += 1;
-            let entries = read_directory(file).unwrap();
-            let sites = (0..entries.len()).map(|t| open(file, &entries, t).unwrap()).collect();
-            let supply = Supply::of(&Town { entries, sites });
-            let written = compare::write(&supply, file.len(), self.rng, self.tally)?;
-            if written.as_deref() != Ok(file) {
-                let text = "nearby_validate accepts the file, and nearby_write makes another from its town".into();
-                return Err(Failure::with_file(text, file));
+            match axes_of(file).unwrap() {
+                2 => self.written_again::<2>(file)?,
+                _ => self.written_again::<3>(file)?,
             }
         }
         Ok(())
     }
 
+    fn written_again<const A: usize>(&mut self, file: &[u8]) -> Result<(), Failure> {
+        let entries = read_directory::<A>(file).unwrap().unwrap();
+        let sites = (0..entries.len()).map(|t| open(file, &entries, t).unwrap()).collect();
+        let supply = Supply::of(&Town { entries, sites });
+        let written = compare::write(&supply, file.len(), self.rng, self.tally)?;
+        if written.as_deref() != Ok(file) {
+            let text = "nearby_validate accepts the file, and the writer makes another from its town".into();
+            return Err(Failure::with_file(text, file));
+        }
+        Ok(())
+    }
+
     /// The tile that matters for a block: its own, or any of a directory block's.
-    fn tile_of(&mut self, base: &Base, position: usize) -> usize {
+    fn tile_of<const A: usize>(&mut self, base: &Base<A>, position: usize) -> usize {
         match position.checked_sub(base.d) {
             Some(tile) => tile,
             None => {
-                let first = 24 * position;
-                first + self.rng.below((base.town.entries.len() - first).min(24))
+                let first = per_block(A) * position;
+                first + self.rng.below((base.town.entries.len() - first).min(per_block(A)))
             }
         }
     }
 
     /// Every byte position of a block, changed to several values, with the check repaired and not.
-    fn every_byte(&mut self, base: &Base, position: usize) -> Result<(), Failure> {
+    fn every_byte<const A: usize>(&mut self, base: &Base<A>, position: usize) -> Result<(), Failure> {
         let tile = self.tile_of(base, position);
         for at in 0..SIZE {
             let was = base.file[SIZE * position + at];
@@ -127,7 +132,7 @@ impl Trial<'_> {
     }
 
     /// One to three wrong fields in one block or several.
-    fn wrong_fields(&mut self, base: &Base) -> Result<(), Failure> {
+    fn wrong_fields<const A: usize>(&mut self, base: &Base<A>) -> Result<(), Failure> {
         let mut file = base.file.clone();
         let blocks = base.d + base.town.entries.len();
         let mut position = match self.rng.below(3) {
@@ -150,7 +155,7 @@ impl Trial<'_> {
     }
 
     /// Blocks that changed places, were copied, or hold nothing of a block.
-    fn whole_blocks(&mut self, base: &Base) -> Result<(), Failure> {
+    fn whole_blocks<const A: usize>(&mut self, base: &Base<A>) -> Result<(), Failure> {
         let mut file = base.file.clone();
         let blocks = base.d + base.town.entries.len();
         let (p, q) = (self.rng.below(blocks), self.rng.below(blocks));
@@ -188,7 +193,7 @@ impl Trial<'_> {
     }
 
     /// Files cut and lengthened, by bytes and by blocks.
-    fn lengths(&mut self, base: &Base) -> Result<(), Failure> {
+    fn lengths<const A: usize>(&mut self, base: &Base<A>) -> Result<(), Failure> {
         let whole = base.file.len();
         for length in [0, 1, 511, 512, 513, whole - 512, whole - 1, whole + 1, whole + 511, whole + 512, whole + 1024] {
             for content in [0, 1] {
@@ -209,7 +214,7 @@ impl Trial<'_> {
     }
 
     /// Random bytes of any length, some with a first block that is good so far.
-    fn garbage(&mut self, base: &Base) -> Result<(), Failure> {
+    fn garbage<const A: usize>(&mut self, base: &Base<A>) -> Result<(), Failure> {
         let blocks = self.rng.below(6);
         let length = SIZE * blocks + if self.rng.chance(5) { self.rng.below(512) } else { 0 };
         let mut file = self.rng.bytes(length);
@@ -219,7 +224,8 @@ impl Trial<'_> {
             }
             file[SIZE * position] = SYNC;
             let depth = self.rng.below(4);
-            let header = [1 + (position > 0) as u8, position as u8, 0, blocks as u8 - 1, 0, blocks as u8 - 1, 0];
+            let kind = directory_kind(A) + (position > 0) as u8;
+            let header = [kind, position as u8, 0, blocks as u8 - 1, 0, blocks as u8 - 1, 0];
             file[SIZE * position + 1..SIZE * position + 1 + [1, 3, 5, 7][depth]]
                 .copy_from_slice(&header[..[1, 3, 5, 7][depth]]);
             repair_block(&mut file, position);
@@ -228,12 +234,13 @@ impl Trial<'_> {
     }
 }
 
-pub fn run(rng: &mut Rng, tally: &mut Tally) -> Result<String, Failure> {
+pub fn run<const A: usize>(rng: &mut Rng, tally: &mut Tally) -> Result<String, Failure> {
     let mut trial = Trial { rng, tally, files: 0, accepted: 0 };
-    let sizes = [1, 24, 25, 50];
+    let full = per_block(A);
+    let sizes = [1, full, full + 1, 2 * full + 2];
     let mut blocks = 0;
     for tiles in sizes {
-        let base = base(tiles, trial.rng);
+        let base: Base<A> = base(tiles, trial.rng);
         trial.calls(&base, &base.file, 0, "an undamaged file")?;
         // All directory blocks; the first tile, a full one, an empty one, a muted one and the last.
         let mut positions: Vec<usize> = (0..base.d).collect();
@@ -246,8 +253,10 @@ pub fn run(rng: &mut Rng, tally: &mut Tally) -> Result<String, Failure> {
     }
     let every_byte = trial.files;
     for round in 0..160 {
-        let tiles = trial.rng.pick(&[1, 2, 6, 13, 24, 25, 26, 48, 49, 50, 73]);
-        let base = base(tiles, trial.rng);
+        let twice = 2 * full;
+        let tiles =
+            trial.rng.pick(&[1, 2, 6, 13, full, full + 1, full + 2, twice, twice + 1, twice + 2, twice + full + 1]);
+        let base: Base<A> = base(tiles, trial.rng);
         for _ in 0..120 {
             trial.wrong_fields(&base)?;
         }
@@ -260,9 +269,10 @@ pub fn run(rng: &mut Rng, tally: &mut Tally) -> Result<String, Failure> {
         }
     }
     // The largest file: positions over 255 and the last of everything.
-    let largest = base(960, trial.rng);
+    let largest: Base<A> = base(960, trial.rng);
     trial.calls(&largest, &largest.file, 959, "the largest file")?;
-    for position in [0, 1, 38, 39, 40, 295, 296, 297, 552, 998, 999] {
+    let (d, all) = (largest.d, largest.file.len() / SIZE);
+    for position in [0, 1, d - 2, d - 1, d, d + 255, d + 256, d + 257, d + 512, all - 2, all - 1] {
         for _ in 0..4 {
             let mut file = largest.file.clone();
             let what = wrong_field(&mut file, &largest.town, position, trial.rng);

@@ -1,8 +1,8 @@
 //! Calls on damaged files whose outcome is said by hand, besides what the paper's part gives.
 
 use super::damaged::Base;
-use super::joins::{any_k, query_of};
-use crate::compare::{self, Failure, Lengths, Query};
+use super::joins::any_k;
+use crate::compare::{self, name_of, Failure, Lengths, Query};
 use crate::fillings::point_in;
 use crate::paper::boxes::smallest_around;
 use crate::paper::search::{Joined, Lent};
@@ -36,37 +36,55 @@ impl Trial<'_> {
         Err(Failure::with_file(format!("nearby_validate: due by hand {due:?}, got {got:?}"), file))
     }
 
-    pub fn joined(&mut self, file: &[u8], query: &Query, tiles: usize) -> Result<(Joined, Lent), Failure> {
-        let needed = query.x.len() * query.k as usize;
+    pub fn joined<const A: usize>(
+        &mut self,
+        file: &[u8],
+        query: &Query<A>,
+        tiles: usize,
+    ) -> Result<(Joined, Lent), Failure> {
+        let needed = query.n() * query.k as usize;
         let lengths = Lengths { dist: needed, site: needed, cue: needed, marks: tiles };
         let (run, lent) = compare::join(file, query, lengths, self.rng, self.tally)?;
         Ok((run.joined, lent))
     }
 
     /// The join is refused with this number and block.
-    pub fn join_refused(&mut self, file: &[u8], query: &Query, tiles: usize, due: Refusal) -> Result<(), Failure> {
+    pub fn join_refused<const A: usize>(
+        &mut self,
+        file: &[u8],
+        query: &Query<A>,
+        tiles: usize,
+        due: Refusal,
+    ) -> Result<(), Failure> {
         let (joined, _) = self.joined(file, query, tiles)?;
         if joined == due.into() {
             return Ok(());
         }
-        Err(Failure::with_file(format!("nearby_join({query:?}): due by hand {due:?}, got {joined:?}"), file))
+        let name = name_of::<A>("join");
+        Err(Failure::with_file(format!("{name}({query:?}): due by hand {due:?}, got {joined:?}"), file))
     }
 
     /// Stops, one of them in the tile's box mostly.
-    pub fn query(&mut self, town: &Town, tile: usize) -> Query {
+    pub fn query<const A: usize>(&mut self, town: &Town<A>, tile: usize) -> Query<A> {
         let rng = &mut *self.rng;
         let tiles = town.entries.len();
-        let mut stops: Vec<Point> =
+        let mut stops: Vec<Point<A>> =
             (0..1 + rng.below(3)).map(|_| point_in(town.entries[rng.below(tiles)].bounds, rng)).collect();
         if !rng.chance(4) {
             stops.push(point_in(town.entries[tile].bounds, rng));
         }
-        query_of(&stops, any_k(rng))
+        Query::of(&stops, any_k(rng))
     }
 
     /// A file that differs from the base in the block of one tile only, for which the full check gives `number`, or
     /// nothing: the join gives it too if it opens the tile, and otherwise answers as for the base.
-    pub fn tile_changed(&mut self, base: &Base, file: &[u8], tile: usize, number: Option<u32>) -> Result<(), Failure> {
+    pub fn tile_changed<const A: usize>(
+        &mut self,
+        base: &Base<A>,
+        file: &[u8],
+        tile: usize,
+        number: Option<u32>,
+    ) -> Result<(), Failure> {
         let (tiles, position) = (base.town.entries.len(), base.d + tile);
         self.checked(file, number.map_or(Ok(tiles), |number| refused(number, position)))?;
         let query = self.query(&base.town, tile);
@@ -82,15 +100,15 @@ impl Trial<'_> {
             _ => {
                 let after = self.joined(file, &query, tiles)?;
                 if after != before {
-                    let text = format!("nearby_join({query:?}): tile {tile} is not opened, and the answer is another");
+                    let name = name_of::<A>("join");
+                    let text = format!("{name}({query:?}): tile {tile} is not opened, and the answer is another");
                     return Err(Failure::with_file(text, file));
                 }
                 self.unread += 1;
             }
         }
         // Strike reads no tile.
-        let stops: Vec<Point> = (0..query.x.len()).map(|i| [query.x[i], query.y[i]]).collect();
-        let o = smallest_around(&stops);
+        let o = smallest_around(&query.stops());
         let before = compare::prune(&base.file, o, query.k, tiles, self.rng, self.tally)?;
         let after = compare::prune(file, o, query.k, tiles, self.rng, self.tally)?;
         assert_eq!(before, after);

@@ -1,19 +1,16 @@
 //! nearby_join against the literal run and the full search; its refusals before the openings, alone and together.
 
-use super::{count, drawn};
 use super::muted::never;
-use crate::compare::{self, Failure, Lengths, Query};
+use super::{count, drawn};
+use crate::compare::{self, name_of, Failure, Lengths, Query};
 use crate::damage;
+use crate::paper::blocks::per_block;
 use crate::paper::search::{full_search, Lent, Place};
 use crate::paper::writer::file_of;
-use crate::paper::{Entry, Point, Town, LIMIT};
+use crate::paper::{each_axis, Entry, Town, HEIGHT, LIMIT};
 use crate::rng::Rng;
 use crate::tally::Tally;
 use crate::towns::{self, Sort, SORTS};
-
-pub fn query_of(stops: &[Point], k: u32) -> Query {
-    Query { x: stops.iter().map(|s| s[0]).collect(), y: stops.iter().map(|s| s[1]).collect(), k }
-}
 
 pub fn any_k(rng: &mut Rng) -> u32 {
     match rng.below(4) {
@@ -37,13 +34,19 @@ pub fn list(lent: &Lent, i: usize, k: usize) -> Vec<Place> {
 }
 
 /// "each list is the first k sites of the whole town by Euclidean distance, ties by tile and slot"
-pub fn lists_are_full_search(town: &Town, file: &[u8], query: &Query, lent: &Lent) -> Result<(), Failure> {
-    for i in 0..query.x.len() {
+pub fn lists_are_full_search<const A: usize>(
+    town: &Town<A>,
+    file: &[u8],
+    query: &Query<A>,
+    lent: &Lent,
+) -> Result<(), Failure> {
+    for i in 0..query.n() {
         let k = query.k as usize;
-        let due = full_search(town, [query.x[i], query.y[i]], k);
+        let due = full_search(town, query.stop(i), k);
         let got = list(lent, i, k);
         if got != due {
-            let text = format!("nearby_join({query:?}), stop {i}: full search {due:?}, got {got:?}");
+            let name = name_of::<A>("join");
+            let text = format!("{name}({query:?}), stop {i}: full search {due:?}, got {got:?}");
             return Err(Failure::with_file(text, file));
         }
     }
@@ -66,7 +69,7 @@ struct Seen {
     mixed: usize,
 }
 
-fn answered(
+fn answered<const A: usize>(
     sort: Sort,
     tiles: usize,
     n: usize,
@@ -76,16 +79,16 @@ fn answered(
     seen: &mut Seen,
 ) -> Result<(), Failure> {
     let case = format!("a town of sort {sort:?} with {tiles} tiles");
-    let town = towns::town(sort, tiles, rng);
+    let town: Town<A> = towns::town(sort, tiles, rng);
     let file = file_of(&town);
     let stops = towns::stops(&town, n, rng);
-    let query = query_of(&stops, k);
+    let query = Query::of(&stops, k);
     let lengths = Lengths::enough(&query, tiles, rng);
     let (run, lent) = compare::join(&file, &query, lengths, rng, tally).map_err(|f| f.case(&case))?;
     assert_eq!(run.joined.number, 0);
     lists_are_full_search(&town, &file, &query, &lent).map_err(|f| f.case(&case))?;
     never(&town, &query, &run.joined, &lent).map_err(|text| Failure::with_file(text, &file).case(&case))?;
-    let sum = |of: fn(&Entry) -> usize| -> usize { town.entries.iter().map(of).sum() };
+    let sum = |of: fn(&Entry<A>) -> usize| -> usize { town.entries.iter().map(of).sum() };
     match (sum(|entry| entry.muted), sum(Entry::sounding)) {
         (0, _) => seen.plain += 1,
         (_, 0) => seen.silent += 1,
@@ -104,7 +107,7 @@ fn answered(
 }
 
 /// Towns of every sort, n from 1 to 256, k from 1 to 64.
-fn many(rng: &mut Rng, tally: &mut Tally) -> Result<Seen, Failure> {
+fn many<const A: usize>(rng: &mut Rng, tally: &mut Tally) -> Result<Seen, Failure> {
     let mut seen = Seen::default();
     for _ in 0..450 {
         for sort in SORTS {
@@ -119,40 +122,40 @@ fn many(rng: &mut Rng, tally: &mut Tally) -> Result<Seen, Failure> {
                 _ => 1 + rng.below(12),
             };
             let k = k_for(sort, rng);
-            answered(sort, tiles, n, k, rng, tally, &mut seen)?;
+            answered::<A>(sort, tiles, n, k, rng, tally, &mut seen)?;
         }
     }
     // Every n on small towns, every k on middling ones.
     for n in 1..=256 {
         let (sort, tiles, k) = (rng.pick(&SORTS), 1 + rng.below(12), any_k(rng));
-        answered(sort, tiles, n, k, rng, tally, &mut seen)?;
+        answered::<A>(sort, tiles, n, k, rng, tally, &mut seen)?;
     }
     for k in 1..=64 {
         for sort in SORTS {
             let (tiles, n) = (1 + rng.below(30), 1 + rng.below(4));
-            answered(sort, tiles, n, k, rng, tally, &mut seen)?;
+            answered::<A>(sort, tiles, n, k, rng, tally, &mut seen)?;
         }
     }
     // The largest towns, and the largest of everything at once.
     for sort in SORTS {
         let (tiles, k) = (rng.pick(&[959, 960]), any_k(rng));
-        answered(sort, tiles, 3, k, rng, tally, &mut seen)?;
+        answered::<A>(sort, tiles, 3, k, rng, tally, &mut seen)?;
     }
-    answered(Sort::Sparse, 960, 256, 64, rng, tally, &mut seen)?;
-    answered(Sort::Row, 960, 256, 64, rng, tally, &mut seen)?;
+    answered::<A>(Sort::Sparse, 960, 256, 64, rng, tally, &mut seen)?;
+    answered::<A>(Sort::Row, 960, 256, 64, rng, tally, &mut seen)?;
     Ok(seen)
 }
 
-/// Each slice too short by one, alone; k, n, and lengths of x and y at and beyond their ends.
-fn ends(rng: &mut Rng, tally: &mut Tally) -> Result<usize, Failure> {
+/// Each slice too short by one, alone; k, n, and lengths of x, y and z at and beyond their ends.
+fn ends<const A: usize>(rng: &mut Rng, tally: &mut Tally) -> Result<usize, Failure> {
     let mut tried = 0;
     for _ in 0..40 {
         let tiles = 1 + rng.below(30);
-        let town = towns::town(rng.pick(&SORTS), tiles, rng);
+        let town: Town<A> = towns::town(rng.pick(&SORTS), tiles, rng);
         let file = file_of(&town);
         let n = 1 + rng.below(20);
         let stops = towns::stops(&town, n, rng);
-        let mut query = query_of(&stops, any_k(rng));
+        let mut query = Query::of(&stops, any_k(rng));
         let needed = n * query.k as usize;
         let exact = Lengths { dist: needed, site: needed, cue: needed, marks: tiles };
         let longer = Lengths { dist: needed + 50, site: needed + 1, cue: needed + 7, marks: tiles + 30 };
@@ -182,61 +185,75 @@ fn ends(rng: &mut Rng, tally: &mut Tally) -> Result<usize, Failure> {
         for (x, y) in
             [(0, 0), (257, 257), (300, 300), (n, n + 1), (n + 1, n), (n, 0), (0, n), (256, 257), (257, 256), (257, 1)]
         {
-            let other = Query { x: vec![0; x], y: vec![0; y], k: query.k };
-            let lengths = if rng.chance(2) { longer } else { Lengths::enough(&other, tiles, rng) };
-            assert_eq!(compare::join(&file, &other, lengths, rng, tally)?.0.joined.number, 12);
-            tried += 1;
+            // The second length is that of one list, and with three axes also that of two.
+            for (from, to) in [(1, 2), (1, 3), (2, 3)].into_iter().filter(|(_, to)| *to <= A) {
+                let long = |axis: usize| if (from..to).contains(&axis) { y } else { x };
+                let other: Query<A> = Query { at: each_axis(|axis| vec![0; long(axis)]), k: query.k };
+                let lengths = if rng.chance(2) { longer } else { Lengths::enough(&other, tiles, rng) };
+                assert_eq!(compare::join(&file, &other, lengths, rng, tally)?.0.joined.number, 12);
+                tried += 1;
+            }
         }
         for far in [LIMIT + 1, -LIMIT - 1, i32::MIN, i32::MAX] {
             let stop = rng.below(n);
-            let list = if rng.chance(2) { &mut query.x } else { &mut query.y };
-            let was = list[stop];
-            list[stop] = far;
+            let list = rng.below(A);
+            let was = query.at[list][stop];
+            query.at[list][stop] = far;
             assert_eq!(compare::join(&file, &query, exact, rng, tally)?.0.joined.number, 13);
-            query.x.iter_mut().chain(&mut query.y).filter(|c| **c == far).for_each(|c| *c = was);
+            query.at[list][stop] = was;
         }
         tried += 2 + 9 + 6 + 4;
     }
     Ok(tried)
 }
 
-/// "Join: 1; each directory block 2 to 9 in table order; 11 to 14; then openings": every set of these seven faults.
-fn together(rng: &mut Rng, tally: &mut Tally) -> Result<usize, Failure> {
+/// The file of a town, with faults as `together` has them: damage in all tiles (bit 6) and in the directory (bit 1),
+/// and another length (bit 0).
+fn spoiled<const A: usize>(town: &Town<A>, faults: usize, rng: &mut Rng) -> Vec<u8> {
+    let mut file = file_of(town);
+    if faults >> 6 & 1 == 1 {
+        damage::every_tile(&mut file, town, rng);
+    }
+    if faults >> 1 & 1 == 1 {
+        damage::some_directory_field(&mut file, town, rng);
+    }
+    if faults & 1 == 1 {
+        damage::wrong_length(&mut file, rng);
+    }
+    file
+}
+
+/// "Join: 1; each directory block 2 to 9 in table order; 11 to 14; then openings", and 17 after 12: every set of these
+/// eight faults. The last is a town of B axes.
+fn together<const A: usize, const B: usize>(rng: &mut Rng, tally: &mut Tally) -> Result<usize, Failure> {
     let mut refused = 0;
-    for faults in 0..128usize {
+    for faults in 0..if HEIGHT { 256usize } else { 128 } {
         for _ in 0..30 {
-            let tiles = rng.pick(&[1, 5, 24, 25, 30, 50]);
-            let town = towns::town(rng.pick(&[Sort::Row, Sort::Overlapping, Sort::Dense, Sort::Ties]), tiles, rng);
-            let mut file = file_of(&town);
+            let has = |fault: usize| faults >> fault & 1 == 1;
+            let full = per_block(if has(7) { B } else { A });
+            let tiles = rng.pick(&[1, 5, full, full + 1, 30, 2 * full + 2]);
+            let sort = rng.pick(&[Sort::Row, Sort::Overlapping, Sort::Dense, Sort::Ties]);
+            let town: Town<A> = towns::town(sort, tiles, rng);
+            let file = match has(7) {
+                true => spoiled::<B>(&towns::town(sort, tiles, rng), faults, rng),
+                false => spoiled(&town, faults, rng),
+            };
             let n = 1 + rng.below(6);
             let stops = towns::stops(&town, n, rng);
-            let mut query = query_of(&stops, any_k(rng));
-            let has = |fault: usize| faults >> fault & 1 == 1;
-            if has(6) {
-                damage::every_tile(&mut file, &town, rng);
-            }
-            if has(1) {
-                damage::some_directory_field(&mut file, &town, rng);
-            }
-            if has(0) {
-                damage::wrong_length(&mut file, rng);
-            }
+            let mut query = Query::of(&stops, any_k(rng));
             if has(2) {
                 query.k = rng.pick(&[0, 65, 1 << 31, u32::MAX]);
             }
             if has(4) {
                 let at = rng.below(n);
-                query.x[at] = rng.pick(&[LIMIT + 1, -LIMIT - 1, i32::MIN, i32::MAX]);
+                query.at[rng.below(A)][at] = rng.pick(&[LIMIT + 1, -LIMIT - 1, i32::MIN, i32::MAX]);
             }
             if has(3) {
                 match rng.below(4) {
-                    0 => query.x.clear(),
-                    1 => query.y.push(0),
-                    2 => query.x.push(0),
-                    _ => {
-                        query.x.resize(257, 0);
-                        query.y.resize(257, 0);
-                    }
+                    0 => query.at[rng.below(A)].clear(),
+                    1 => query.at[rng.below(A)].push(0),
+                    2 => drop(query.at[rng.below(A)].pop()),
+                    _ => query.at.iter_mut().for_each(|list| list.resize(257, 0)),
                 }
             }
             let mut lengths = Lengths::enough(&query, tiles, rng);
@@ -248,18 +265,26 @@ fn together(rng: &mut Rng, tally: &mut Tally) -> Result<usize, Failure> {
                     _ => lengths.marks = tiles - 1,
                 }
             }
-            let case = format!("faults {faults:07b} (the last digit is the first fault)");
+            let case = format!("faults {faults:08b} (0 to 7 from the right: 1, directory, 11, 12, 13, 14, tiles, 17)");
             let (run, _) = compare::join(&file, &query, lengths, rng, tally).map_err(|f| f.case(&case))?;
+            // Damage may be none; the others are sure, and the first of them is the number.
+            if !has(0) && !has(1) {
+                let sure = [(2, 11), (3, 12), (7, 17), (4, 13), (5, 14)].into_iter().find(|(fault, _)| has(*fault));
+                if let Some((_, number)) = sure {
+                    assert_eq!((run.joined.number, run.joined.block), (number, 0), "{case}");
+                }
+            }
             refused += (run.joined.number != 0) as usize;
         }
     }
     Ok(refused)
 }
 
-pub fn run(rng: &mut Rng, tally: &mut Tally) -> Result<String, Failure> {
-    let seen = many(rng, tally)?;
-    let ends = ends(rng, tally)?;
-    let refused = together(rng, tally)?;
+/// B is the other number of axes.
+pub fn run<const A: usize, const B: usize>(rng: &mut Rng, tally: &mut Tally) -> Result<String, Failure> {
+    let seen = many::<A>(rng, tally)?;
+    let ends = ends::<A>(rng, tally)?;
+    let refused = together::<A, B>(rng, tally)?;
     Ok(format!(
         "{} runs with {} stops against the literal run and the full search ({} tiles opened, {} struck, \
          {} neither; {} places unused, {} tied with the one before; no site muted in {} runs, all in {}, some in {}); \

@@ -7,38 +7,53 @@ use super::joins::any_k;
 use crate::compare::{Failure, Query};
 use crate::damage::{block_mut, flip_cue, repair_block, set_u16};
 use crate::fillings::{filling, other_cue, sounding_cue};
-use crate::paper::blocks::u32_at;
+use crate::paper::blocks::{count_in_entry, cue_in_site, entry_at, most_sites, per_block, site_at, u32_at};
 use crate::paper::search::Joined;
 use crate::paper::writer::file_of;
-use crate::paper::{muted, Entry, Refusal, Town};
+use crate::paper::{each_axis, muted, Bounds, Entry, Refusal, Town};
 use crate::rng::Rng;
 use crate::tally::Tally;
 
+/// A box for a town of one tile.
+fn small_box<const A: usize>() -> Bounds<A> {
+    each_axis(|axis| [[-50, 60], [-5, 5], [-20, 30]][axis])
+}
+
+/// Where the muted number of a tile is in its directory block; the count is before it.
+fn muted_at(axes: usize, tile: usize) -> usize {
+    entry_at(axes, tile % per_block(axes)) + count_in_entry(axes) + 2
+}
+
 impl Trial<'_> {
     /// One tile with every count, every muted number of the directory up to one over the count, and every number of
-    /// muted sites in the tile: 40 of 40 is accepted, 41 of 40 is 9.
-    fn every_triple(&mut self) -> Result<(), Failure> {
-        for sites in 0..=40 {
+    /// muted sites in the tile: 40 of 40 is accepted, 41 of 40 is 9; the same with 30 where a tile has at most 30.
+    fn every_triple<const A: usize>(&mut self) -> Result<(), Failure> {
+        for sites in 0..=most_sites(A) {
             for in_tile in 0..=sites {
-                let bounds = [[-50, 60], [-5, 5]];
-                let entry = Entry { bounds, count: sites, muted: in_tile };
+                let entry: Entry<A> = Entry { bounds: small_box(), count: sites, muted: in_tile };
                 let town = Town { entries: vec![entry], sites: vec![filling(&entry, self.rng)] };
                 let good = file_of(&town);
                 for by_directory in 0..=sites + 1 {
                     let mut file = good.clone();
-                    set_u16(block_mut(&mut file, 0), 16 + 18, by_directory);
+                    set_u16(block_mut(&mut file, 0), muted_at(A, 0), by_directory);
                     repair_block(&mut file, 0);
                     let case = format!("{sites} sites, {in_tile} muted, {by_directory} by the directory");
-                    self.one_triple(&file, sites, by_directory, in_tile).map_err(|f| f.case(&case))?;
+                    self.one_triple::<A>(&file, sites, by_directory, in_tile).map_err(|f| f.case(&case))?;
                 }
             }
         }
         Ok(())
     }
 
-    fn one_triple(&mut self, file: &[u8], sites: usize, by_directory: usize, in_tile: usize) -> Result<(), Failure> {
+    fn one_triple<const A: usize>(
+        &mut self,
+        file: &[u8],
+        sites: usize,
+        by_directory: usize,
+        in_tile: usize,
+    ) -> Result<(), Failure> {
         let k = any_k(self.rng);
-        let query = Query { x: vec![self.rng.range(-90, 90)], y: vec![self.rng.range(-90, 90)], k };
+        let query: Query<A> = Query::of(&[each_axis(|_| self.rng.range(-90, 90))], k);
         if by_directory > sites {
             self.checked(file, refused(9, 0))?;
             return self.join_refused(file, &query, 1, Refusal { number: 9, block: 0 });
@@ -59,12 +74,12 @@ impl Trial<'_> {
     }
 
     /// Each slot of a tile alone muted, and alone sounding: the file passes, and 16 when that site is changed.
-    fn every_slot(&mut self) -> Result<(), Failure> {
-        let bounds = [[-50, 60], [-5, 5]];
-        for sites in [1, 2, 39, 40] {
+    fn every_slot<const A: usize>(&mut self) -> Result<(), Failure> {
+        let bounds = small_box();
+        for sites in [1, 2, most_sites(A) - 1, most_sites(A)] {
             for slot in 0..sites {
                 for alone_muted in [true, false] {
-                    let entry = Entry { bounds, count: sites, muted: 0 };
+                    let entry: Entry<A> = Entry { bounds, count: sites, muted: 0 };
                     let mut held = filling(&entry, self.rng);
                     for (other, site) in held.iter_mut().enumerate() {
                         if (other == slot) == alone_muted {
@@ -74,7 +89,7 @@ impl Trial<'_> {
                     let mut file = file_of(&Town::of(vec![(bounds, held)]));
                     let case = format!("slot {slot} of {sites} alone muted: {alone_muted}");
                     self.checked(&file, Ok(1)).map_err(|f| f.case(&case))?;
-                    flip_cue(block_mut(&mut file, 1), slot, self.rng);
+                    flip_cue::<A>(block_mut(&mut file, 1), slot, self.rng);
                     repair_block(&mut file, 1);
                     self.checked(&file, refused(16, 1)).map_err(|f| f.case(&case))?;
                 }
@@ -83,18 +98,18 @@ impl Trial<'_> {
         Ok(())
     }
 
-    /// The muted number of one entry: next to the true one, next to the count, and bytes in the wrong order; and a count
-    /// below it, which is 9 before the tile is looked at.
-    fn numbers(&mut self, base: &Base, tile: usize) -> Result<(), Failure> {
-        let (Entry { count, muted, .. }, position) = (base.town.entries[tile], tile / 24);
+    /// The muted number of one entry: next to the true one, next to the count, and bytes in the wrong order; and a
+    /// count below it, which is 9 before the tile is looked at.
+    fn numbers<const A: usize>(&mut self, base: &Base<A>, tile: usize) -> Result<(), Failure> {
+        let (Entry { count, muted, .. }, position) = (base.town.entries[tile], tile / per_block(A));
         let values = [
             muted + 1,
             muted.wrapping_sub(1) & 0xffff,
             count,
             count + 1,
             0,
-            40,
-            41,
+            most_sites(A),
+            most_sites(A) + 1,
             255,
             256,
             256 * muted,
@@ -105,7 +120,7 @@ impl Trial<'_> {
         ];
         for value in values {
             let mut file = base.file.clone();
-            set_u16(block_mut(&mut file, position), 16 + 20 * (tile % 24) + 18, value);
+            set_u16(block_mut(&mut file, position), muted_at(A, tile), value);
             repair_block(&mut file, position);
             let tiles = base.town.entries.len();
             let case = format!("tile {tile} of {tiles}: {muted} of {count} sites muted, {value} by the directory");
@@ -129,7 +144,7 @@ impl Trial<'_> {
         }
         if muted > 0 {
             let mut file = base.file.clone();
-            set_u16(block_mut(&mut file, position), 16 + 20 * (tile % 24) + 16, muted - 1);
+            set_u16(block_mut(&mut file, position), muted_at(A, tile) - 2, muted - 1);
             repair_block(&mut file, position);
             let case = format!("tile {tile}: {muted} muted by the directory, and a count of {}", muted - 1);
             self.checked(&file, refused(9, position)).map_err(|f| f.case(&case))?;
@@ -138,9 +153,9 @@ impl Trial<'_> {
     }
 
     /// The cues of one tile: some muted or made to sound, with the check made right.
-    fn cues(&mut self, base: &Base, tile: usize) -> Result<(), Failure> {
+    fn cues<const A: usize>(&mut self, base: &Base<A>, tile: usize) -> Result<(), Failure> {
         let sites = &base.town.sites[tile];
-        let cue_at = |slot: usize| 16 + 12 * slot + 8;
+        let cue_at = |slot: usize| site_at(A, slot) + cue_in_site(A);
         for round in 0..8 {
             let mut file = base.file.clone();
             let block = block_mut(&mut file, base.d + tile);
@@ -177,11 +192,11 @@ impl Trial<'_> {
     }
 
     /// 02.1: "Old files with a cue 0 must be written again": zero in bytes 18-19 of every entry.
-    fn old_file(&mut self, base: &Base) -> Result<(), Failure> {
+    fn old_file<const A: usize>(&mut self, base: &Base<A>) -> Result<(), Failure> {
         let mut file = base.file.clone();
         let tiles = base.town.entries.len();
         for tile in 0..tiles {
-            set_u16(block_mut(&mut file, tile / 24), 16 + 20 * (tile % 24) + 18, 0);
+            set_u16(block_mut(&mut file, tile / per_block(A)), muted_at(A, tile), 0);
         }
         (0..base.d).for_each(|position| repair_block(&mut file, position));
         let first = (0..tiles).find(|tile| muted(&base.town.sites[*tile]) > 0);
@@ -197,15 +212,16 @@ impl Trial<'_> {
     }
 }
 
-pub fn run(rng: &mut Rng, tally: &mut Tally) -> Result<String, Failure> {
+pub fn run<const A: usize>(rng: &mut Rng, tally: &mut Tally) -> Result<String, Failure> {
     let before = tally.sixteens();
     let mut trial = Trial { rng, tally, files: 0, unread: 0 };
-    trial.every_triple()?;
+    trial.every_triple::<A>()?;
     let triples = trial.files;
-    trial.every_slot()?;
+    trial.every_slot::<A>()?;
+    let full = per_block(A);
     for _ in 0..60 {
-        let tiles = trial.rng.pick(&[1, 2, 4, 6, 24, 25, 30, 49, 73]);
-        let base = base(tiles, trial.rng);
+        let tiles = trial.rng.pick(&[1, 2, 4, 6, full, full + 1, 30, 2 * full + 1, 3 * full + 1]);
+        let base: Base<A> = base(tiles, trial.rng);
         for _ in 0..6 {
             let tile = trial.rng.below(tiles);
             trial.numbers(&base, tile)?;
@@ -214,7 +230,7 @@ pub fn run(rng: &mut Rng, tally: &mut Tally) -> Result<String, Failure> {
         trial.old_file(&base)?;
     }
     // The largest file: the first and the last tile, and a block whose position takes two bytes.
-    let largest = base(960, trial.rng);
+    let largest: Base<A> = base(960, trial.rng);
     for tile in [0, 256 - largest.d, 959] {
         trial.numbers(&largest, tile)?;
         trial.cues(&largest, tile)?;

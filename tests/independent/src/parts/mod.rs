@@ -4,6 +4,7 @@ pub mod checks;
 pub mod damaged;
 mod expected;
 pub mod faults;
+pub mod heights;
 pub mod joins;
 pub mod margins;
 pub mod mismatches;

@@ -8,14 +8,14 @@ use crate::paper::blocks::SIZE;
 use crate::paper::directory::directory_blocks;
 use crate::paper::program::printed;
 use crate::paper::writer::file_of;
-use crate::paper::{Point, Site, Town, LIMIT};
+use crate::paper::{Point, Site, Town, HEIGHT, LIMIT};
 use crate::rng::Rng;
 use crate::towns::{self, Sort, SORTS};
 use std::io::{Read, Write};
 use std::process::{Command, Stdio};
 
 /// "k, n (unsigned, 4 bytes), n stops (x, y, signed, 4 bytes each), all little-endian, then a file"
-fn input_of(k: u32, n: u32, stops: &[Point], file: &[u8]) -> Vec<u8> {
+fn input_of(k: u32, n: u32, stops: &[Point<2>], file: &[u8]) -> Vec<u8> {
     let mut input = Vec::new();
     input.extend(k.to_le_bytes());
     input.extend(n.to_le_bytes());
@@ -77,12 +77,12 @@ impl Program<'_> {
 
 /// "stop (0,0), k = 2, and tiles with y 0..0: tile 0 x 0..10, site (10,0) cue 7; tile 1 x -10..-4, site (-10,0) cue
 /// 8; tile 2 x 10..12, site (11,0) cue 9". Case 12.
-fn town_of_the_paper() -> Town {
+fn town_of_the_paper() -> Town<2> {
     town_in_a_row(&[([0, 10], &[(10, 7)]), ([-10, -4], &[(-10, 8)]), ([10, 12], &[(11, 9)])])
 }
 
 /// Tiles with y 0..0: the range of x, and each site's x and cue.
-fn town_in_a_row(tiles: &[([i32; 2], &[(i32, u32)])]) -> Town {
+fn town_in_a_row(tiles: &[([i32; 2], &[(i32, u32)])]) -> Town<2> {
     let site = |(x, cue): &(i32, u32)| Site { at: [*x, 0], cue: *cue };
     Town::of(tiles.iter().map(|(x, sites)| ([*x, [0, 0]], sites.iter().map(site).collect())).collect())
 }
@@ -164,9 +164,9 @@ fn answered(program: &mut Program, rng: &mut Rng) -> Result<(), Failure> {
                 _ => 1 + rng.below(20),
             };
             let room = (65_536 - 8 - 8 * n) / SIZE;
-            let most = (1..room).rev().find(|t| t + directory_blocks(*t) <= room).unwrap();
+            let most = (1..room).rev().find(|t| t + directory_blocks(2, *t) <= room).unwrap();
             let tiles = if round < 3 { most } else { 1 + rng.below(40) };
-            let town = towns::town(sort, tiles, rng);
+            let town: Town<2> = towns::town(sort, tiles, rng);
             let stops = towns::stops(&town, n, rng);
             let k = if round == 0 { 64 } else { any_k(rng) };
             let input = input_of(k, n as u32, &stops, &file_of(&town));
@@ -174,7 +174,7 @@ fn answered(program: &mut Program, rng: &mut Rng) -> Result<(), Failure> {
         }
     }
     // "a stop without places prints `stop 0:` (its own number) alone"
-    let empty = towns::town(Sort::AllEmpty, 3, rng);
+    let empty: Town<2> = towns::town(Sort::AllEmpty, 3, rng);
     let input = input_of(4, 3, &[[0, 0], [1, 1], [2, 2]], &file_of(&empty));
     assert_eq!(printed(&input), b"tiles 3 opened 0 struck 0\nstop 0:\nstop 1:\nstop 2:\n");
     program.agrees("all tiles empty", &input)
@@ -195,7 +195,7 @@ fn cut(program: &mut Program, rng: &mut Rng) -> Result<(), Failure> {
         program.agrees(&case, &input_of(0, n, &[[0, 0]; 300], &file))?;
     }
     // Exactly 65,536 bytes, one more, and many more: n = 63 leaves 127 blocks, that is 121 tiles.
-    let town = towns::town(Sort::Dense, 121, rng);
+    let town: Town<2> = towns::town(Sort::Dense, 121, rng);
     let long_file = file_of(&town);
     let stops = towns::stops(&town, 63, rng);
     let exact = input_of(9, 63, &stops, &long_file);
@@ -219,7 +219,8 @@ fn cut(program: &mut Program, rng: &mut Rng) -> Result<(), Failure> {
 fn refused(program: &mut Program, rng: &mut Rng) -> Result<(), Failure> {
     for _ in 0..220 {
         let tiles = rng.pick(&[1, 3, 24, 25, 50]);
-        let town = towns::town(rng.pick(&[Sort::Row, Sort::Overlapping, Sort::Dense, Sort::Ties]), tiles, rng);
+        let sort = rng.pick(&[Sort::Row, Sort::Overlapping, Sort::Dense, Sort::Ties]);
+        let town: Town<2> = towns::town(sort, tiles, rng);
         let mut file = file_of(&town);
         let n = 1 + rng.below(5);
         let mut stops = towns::stops(&town, n, rng);
@@ -250,6 +251,45 @@ fn refused(program: &mut Program, rng: &mut Rng) -> Result<(), Failure> {
     Ok(())
 }
 
+/// The program has stops of two axes: 17 for a town with height, after the tests of its directory, 11 and 12, and
+/// before 13 and the tiles.
+fn with_height(program: &mut Program, rng: &mut Rng) -> Result<(), Failure> {
+    for round in 0..60 {
+        let sort = rng.pick(&SORTS);
+        let tiles = if round == 0 { 119 } else { 1 + rng.below(60) };
+        let town: Town<3> = towns::town(sort, tiles, rng);
+        let mut file = file_of(&town);
+        let mut stops: Vec<Point<2>> = towns::stops(&town, 2, rng).iter().map(|s| [s[0], s[1]]).collect();
+        let mut k = any_k(rng);
+        let due: Option<&[u8]> = match round % 6 {
+            0 | 1 => Some(b"refused 17 block 0\n"),
+            2 => {
+                stops[1][rng.below(2)] = rng.pick(&[LIMIT + 1, i32::MIN]);
+                damage::every_tile(&mut file, &town, rng);
+                Some(b"refused 17 block 0\n")
+            }
+            3 => {
+                k = rng.pick(&[0, 65]);
+                Some(b"refused 11 block 0\n")
+            }
+            4 => {
+                stops.clear();
+                Some(b"refused 12 block 0\n")
+            }
+            _ => {
+                damage::some_directory_field(&mut file, &town, rng);
+                None
+            }
+        };
+        let input = input_of(k, stops.len() as u32, &stops, &file);
+        if let Some(due) = due {
+            assert_eq!(printed(&input), due);
+        }
+        program.agrees(&format!("a town with height, of sort {sort:?}, with {tiles} tiles"), &input)?;
+    }
+    Ok(())
+}
+
 pub fn run(path: &str, rng: &mut Rng) -> Result<String, Failure> {
     let mut program = Program { path, runs: 0, cut: 0, refused: 0 };
     worked_example(&mut program)?;
@@ -257,6 +297,9 @@ pub fn run(path: &str, rng: &mut Rng) -> Result<String, Failure> {
     answered(&mut program, rng)?;
     cut(&mut program, rng)?;
     refused(&mut program, rng)?;
+    if HEIGHT {
+        with_height(&mut program, rng)?;
+    }
     Ok(format!(
         "{} inputs, whole output each: {} `input`, {} refused, {} answered with the worked example among them",
         count(program.runs),

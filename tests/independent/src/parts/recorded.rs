@@ -5,6 +5,8 @@
 //! it was before, guard elements too, else the hash of all of them. A line `inputs` ends each group, with the hash of
 //! what its calls were given.
 //!
+//! The paper's part of these tests has to give the same lines.
+//!
 //! `independent record` writes the record anew. That is due only where a request changes an answer on purpose, and what
 //! it changes is then looked at line by line: git diff shows it.
 
@@ -12,7 +14,10 @@ mod inputs;
 
 use super::count;
 use crate::compare::Failure;
-use crate::host::{self, Slices};
+use crate::host::{self, Slices, Validated, Written};
+use crate::paper::search::{self, Joined, Pruned};
+use crate::paper::writer::{self, Supply};
+use crate::paper::{blocks, boxes, directory, Refusal};
 use inputs::{Call, Draw};
 use std::collections::{BTreeMap, BTreeSet};
 use std::path::PathBuf;
@@ -121,39 +126,96 @@ fn hash_inputs(call: &Call, hash: &mut Hash) {
     }
 }
 
-/// Calls the library. Gives the line of the record and the number of the refusal.
-fn line_of(call: &Call) -> (String, u32) {
+/// Who is asked.
+#[derive(Clone, Copy, PartialEq, Eq)]
+enum By {
+    Library,
+    Paper,
+}
+
+fn join(by: By, file: &[u8], at: [&[i32]; 2], k: u32, slices: Slices) -> Joined {
+    if by == By::Library {
+        return host::join(file, at, k, slices);
+    }
+    let mut lent = search::Lent {
+        dist: slices.dist.to_vec(),
+        site: slices.site.to_vec(),
+        cue: slices.cue.to_vec(),
+        marks: slices.marks.to_vec(),
+    };
+    let joined = search::join(file, at, k, &mut lent).joined;
+    slices.dist.copy_from_slice(&lent.dist);
+    slices.site.copy_from_slice(&lent.site);
+    slices.cue.copy_from_slice(&lent.cue);
+    slices.marks.copy_from_slice(&lent.marks);
+    joined
+}
+
+fn prune(by: By, file: &[u8], o: [[i32; 2]; 2], k: u32, marks: &mut [u8]) -> Pruned {
+    match by {
+        By::Library => host::prune(file, o, k, marks),
+        By::Paper => search::prune(file, o, k, marks),
+    }
+}
+
+fn validate(by: By, file: &[u8]) -> Validated {
+    match by {
+        By::Library => host::validate(file),
+        By::Paper => match directory::full_check(file) {
+            Ok(tiles) => Validated { number: 0, block: 0, tiles: tiles as u32, axes: 2 },
+            Err(Refusal { number, block }) => Validated { number, block, tiles: 0, axes: 0 },
+        },
+    }
+}
+
+fn write(by: By, supply: &Supply<2>, out: &mut [u8]) -> Written {
+    match by {
+        By::Library => host::write(supply, out),
+        By::Paper => match writer::write(supply, out) {
+            Ok(length) => Written { number: 0, block: 0, length },
+            Err(Refusal { number, block }) => Written { number, block, length: 0 },
+        },
+    }
+}
+
+/// Calls the library or the paper's part. Gives the line of the record and the number of the refusal.
+fn line_of(call: &Call, by: By) -> (String, u32) {
     match call {
         Call::Join { file, x, y, k, lengths } => {
             let (mut dist, mut site) = (Lent::<u64>::new(1, lengths[0]), Lent::<u32>::new(2, lengths[1]));
             let (mut cue, mut marks) = (Lent::<u32>::new(3, lengths[2]), Lent::<u8>::new(4, lengths[3]));
             let slices = Slices { dist: dist.slice(), site: site.slice(), cue: cue.slice(), marks: marks.slice() };
-            let got = host::join(file, x, y, *k, slices);
+            let got = join(by, file, [x, y], *k, slices);
             let numbers = [got.number, got.block, got.used, got.tiles, got.opened, got.struck];
             let slices = [dist.after(), site.after(), cue.after(), marks.after()];
             (format!("join {} {}", numbers.map(|n| n.to_string()).join(" "), slices.join(" ")), got.number)
         }
         Call::Prune { file, o, k, marks } => {
             let mut marks = Lent::<u8>::new(4, *marks);
-            let got = host::prune(file, *o, *k, marks.slice());
+            let got = prune(by, file, *o, *k, marks.slice());
             let after = marks.after();
             (format!("prune {} {} {} {} {after}", got.number, got.block, got.tiles, got.struck), got.number)
         }
         Call::Validate { file } => {
-            let got = host::validate(file);
+            let got = validate(by, file);
+            // A plan town has two axes, and nothing else is recorded.
+            assert_eq!(got.axes, if got.number == 0 { 2 } else { 0 });
             (format!("validate {} {} {}", got.number, got.block, got.tiles), got.number)
         }
         Call::Write { boxes, counts, x, y, cues, out } => {
             let mut out = Lent::<u8>::new(5, *out);
-            let got = host::write(boxes, counts, x, y, cues, out.slice());
+            let [x, y] = [x, y].map(|list| list.to_vec());
+            let supply = Supply { boxes: boxes.clone(), counts: counts.clone(), at: [x, y], cues: cues.clone() };
+            let got = write(by, &supply, out.slice());
             (format!("write {} {} {} {}", got.number, got.block, got.length, out.after()), got.number)
         }
         Call::Margin { boxes } => {
-            let got = host::margin(boxes[0], boxes[1], boxes[2]);
+            let margin = if by == By::Library { host::margin } else { boxes::exported_margin };
+            let got = margin(boxes[0], boxes[1], boxes[2]);
             (format!("margin {got}"), if got == 9_000_000_000_000_000_000 { 9 } else { 0 })
         }
         Call::Check { slice } => {
-            let got = host::block_check(slice);
+            let got = if by == By::Library { host::block_check(slice) } else { blocks::block_check(slice) };
             (format!("check {got}"), got)
         }
     }
@@ -186,7 +248,7 @@ fn is_plan(file: &[u8]) -> bool {
     if file.is_empty() || file.len() % 512 != 0 || file.len() > 520_704 {
         return true;
     }
-    file[1] != 3 && (file.len() <= 512_000 || (host::block_check(&file[..512]) == 0 && file[1] == 1))
+    file[1] != 3 && (file.len() <= 512_000 || (blocks::block_check(&file[..512]) == 0 && file[1] == 1))
 }
 
 /// In which fields two lines of the same call differ.
@@ -200,16 +262,18 @@ fn differences(recorded: &str, got: &str) -> String {
     (1..got.len()).filter(differs).map(field).collect::<Vec<String>>().join("; ")
 }
 
-/// What the library gives for all inputs, and the first difference from the record if there is one to compare with.
+/// Which numbers each call gave.
+type Numbers = BTreeMap<String, BTreeSet<u32>>;
+
+/// What all inputs give, and the first difference from the record if there is one to compare with.
 struct Made {
     lines: Vec<String>,
     calls: BTreeMap<&'static str, usize>,
-    /// Which numbers each call gave.
-    numbers: BTreeMap<String, BTreeSet<u32>>,
+    numbers: Numbers,
     failure: Option<Failure>,
 }
 
-fn make(recorded: Option<&[&str]>) -> Made {
+fn make(by: By, recorded: Option<&[&str]>) -> Made {
     let mut made = Made { lines: Vec::new(), calls: BTreeMap::new(), numbers: BTreeMap::new(), failure: None };
     let (mut group, mut hash, mut failed_here) = ("", Hash::new(), false);
     // The line `inputs` of a group: if the group failed, it says whether the inputs are still those of the record.
@@ -244,13 +308,15 @@ fn make(recorded: Option<&[&str]>) -> Made {
             assert!(is_plan(file), "{group}, {what}: not an input for the record");
         }
         hash_inputs(&call, &mut hash);
-        let (line, number) = line_of(&call);
+        let (line, number) = line_of(&call, by);
         let due = recorded.map(|lines| lines.get(made.lines.len()).copied().unwrap_or("nothing"));
         if let (Some(due), true) = (due, made.failure.is_none()) {
             if due != line {
                 let differences = differences(due, &line);
+                let whose = if by == By::Library { "" } else { " by the paper's part, not the library" };
                 let text = format!(
-                    "recorded/plan.txt, line {}, group {group}: {what}\nrecorded {due}\ngot      {line}\n{differences}",
+                    "recorded/plan.txt, line {}, group {group}: {what}\nrecorded {due}\ngot      {line}{whose}\n\
+                     {differences}",
                     made.lines.len() + 1
                 );
                 made.failure = Some(Failure { text, file: file_of(&call).map(|file| file.to_vec()) });
@@ -266,10 +332,10 @@ fn make(recorded: Option<&[&str]>) -> Made {
 }
 
 /// Each call gave each of its numbers, so each of 1 to 16 was given.
-fn every_number(made: &Made) -> Result<(), String> {
+fn every_number(numbers: &Numbers) -> Result<(), String> {
     let mut all = BTreeSet::new();
     for call in ["join", "prune", "validate", "write", "margin", "check"] {
-        let given = made.numbers.get(call).cloned().unwrap_or_default();
+        let given = numbers.get(call).cloned().unwrap_or_default();
         if let Some(missing) = fields(call).1.iter().find(|number| !given.contains(number)) {
             return Err(format!("recorded: no {call} gives {missing}"));
         }
@@ -283,8 +349,8 @@ fn every_number(made: &Made) -> Result<(), String> {
 
 /// Writes the record anew.
 pub fn record() -> Result<String, Failure> {
-    let made = make(None);
-    every_number(&made).map_err(Failure::new)?;
+    let made = make(By::Library, None);
+    every_number(&made.numbers).map_err(Failure::new)?;
     let text = made.lines.join("\n") + "\n";
     let widest = made.lines.iter().map(|line| line.len()).max().unwrap();
     assert!(widest <= 120);
@@ -297,18 +363,18 @@ pub fn run() -> Result<String, Failure> {
     let text = std::fs::read_to_string(path())
         .map_err(|error| Failure::new(format!("{} cannot be read: {error}", path().display())))?;
     let lines: Vec<&str> = text.lines().collect();
-    let made = make(Some(&lines));
-    if let Some(failure) = made.failure {
+    let made = make(By::Library, Some(&lines));
+    if let Some(failure) = made.failure.or_else(|| make(By::Paper, Some(&lines)).failure) {
         return Err(failure);
     }
     if made.lines.len() != lines.len() {
         let text = format!("recorded/plan.txt has {} lines, {} were due", lines.len(), made.lines.len());
         return Err(Failure::new(text));
     }
-    every_number(&made).map_err(Failure::new)?;
+    every_number(&made.numbers).map_err(Failure::new)?;
     let groups: Vec<String> = made.calls.iter().map(|(group, calls)| format!("{} {group}", count(*calls))).collect();
     Ok(format!(
-        "{} calls on inputs with two axes answer as recorded before towns had height ({})",
+        "{} calls on inputs with two axes answer as recorded before towns had height, by library and paper ({})",
         count(made.calls.values().sum()),
         groups.join(", ")
     ))

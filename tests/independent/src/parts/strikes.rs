@@ -1,22 +1,23 @@
 //! nearby_prune against the definition by margins, and against all points of small boxes.
 
 use super::{count, drawn};
-use crate::compare::{self, Failure};
+use crate::compare::{self, name_of, Failure};
 use crate::damage;
 use crate::fillings::{filling, point_in};
-use crate::paper::boxes::margin_of_all_points;
+use crate::paper::blocks::per_block;
+use crate::paper::boxes::{margin_of_all_points, smallest_around};
 use crate::paper::directory::directory_blocks;
 use crate::paper::search::{self, full_search, struck_by};
 use crate::paper::writer::file_of;
-use crate::paper::{Box2, Entry, Town, LIMIT};
+use crate::paper::{each_axis, Bounds, Entry, Town, HEIGHT, LIMIT};
 use crate::rng::Rng;
 use crate::tally::Tally;
 use crate::towns::{self, Sort, SORTS};
 
 /// A box around one to three points that stops could have.
-fn box_near(town: &Town, rng: &mut Rng) -> Box2 {
+fn box_near<const A: usize>(town: &Town<A>, rng: &mut Rng) -> Bounds<A> {
     let n = 1 + rng.below(3);
-    crate::paper::boxes::smallest_around(&towns::stops(town, n, rng))
+    smallest_around(&towns::stops(town, n, rng))
 }
 
 fn any_k(rng: &mut Rng) -> u32 {
@@ -25,16 +26,16 @@ fn any_k(rng: &mut Rng) -> u32 {
 
 /// Towns of every sort. No struck tile has a place in a full search from a point of O. Also counts the tiles that would
 /// be struck if muted sites were added up too.
-fn many_towns(rng: &mut Rng, tally: &mut Tally) -> Result<(usize, usize, usize), Failure> {
+fn many_towns<const A: usize>(rng: &mut Rng, tally: &mut Tally) -> Result<(usize, usize, usize), Failure> {
     let (mut tried, mut struck, mut spared) = (0, 0, 0);
     for round in 0..90 {
         for sort in SORTS {
             let tiles = if round == 89 { 960 } else { 1 + rng.below(70) };
-            let town = towns::town(sort, tiles, rng);
+            let town: Town<A> = towns::town(sort, tiles, rng);
             let mut file = file_of(&town);
             if rng.chance(3) {
                 // Strike reads the directory alone.
-                let first = 512 * directory_blocks(tiles);
+                let first = 512 * directory_blocks(A, tiles);
                 let junk = rng.bytes(file.len() - first);
                 file[first..].copy_from_slice(&junk);
             }
@@ -45,15 +46,15 @@ fn many_towns(rng: &mut Rng, tally: &mut Tally) -> Result<(usize, usize, usize),
                 let (pruned, marks) = compare::prune(&file, o, k, marks_len, rng, tally).map_err(|f| f.case(&case))?;
                 tried += 1;
                 struck += pruned.struck as usize;
-                let all_sound: Vec<Entry> = town.entries.iter().map(|e| Entry { muted: 0, ..*e }).collect();
+                let all_sound: Vec<Entry<A>> = town.entries.iter().map(|e| Entry { muted: 0, ..*e }).collect();
                 let by_all = search::struck(&all_sound, o, k as usize).iter().filter(|s| **s).count();
                 spared += by_all - pruned.struck as usize;
                 let stop = point_in(o, rng);
                 // A place with cue 0 is one left over.
                 for place in full_search(&town, stop, k as usize).iter().filter(|place| place.cue != 0) {
                     if marks[place.site as usize / 40] == 1 {
-                        let text =
-                            format!("nearby_prune(box {o:?}, k {k}) struck the tile of {place:?}, of stop {stop:?}");
+                        let name = name_of::<A>("prune");
+                        let text = format!("{name}(box {o:?}, k {k}) struck the tile of {place:?}, of stop {stop:?}");
                         return Err(Failure::with_file(text, &file).case(&case));
                     }
                 }
@@ -64,17 +65,17 @@ fn many_towns(rng: &mut Rng, tally: &mut Tally) -> Result<(usize, usize, usize),
 }
 
 /// Boxes of few points: which tile is nearer is told by all points.
-fn small_towns(rng: &mut Rng, tally: &mut Tally) -> Result<(usize, usize), Failure> {
+fn small_towns<const A: usize>(rng: &mut Rng, tally: &mut Tally) -> Result<(usize, usize), Failure> {
     let (tried, mut struck) = (1_500, 0);
     for _ in 0..tried {
-        let small = |rng: &mut Rng| -> Box2 {
-            [0, 1].map(|_| {
+        let small = |rng: &mut Rng| -> Bounds<A> {
+            each_axis(|_| {
                 let low = rng.range(0, 9);
                 [low, low + rng.range(0, 2)]
             })
         };
         let tiles = 1 + rng.below(12);
-        let entries: Vec<Entry> = (0..tiles)
+        let entries: Vec<Entry<A>> = (0..tiles)
             .map(|_| {
                 let count = rng.pick(&[0, 1, 2, 3, 10]);
                 Entry { bounds: small(rng), count, muted: rng.below(count + 1) }
@@ -88,7 +89,8 @@ fn small_towns(rng: &mut Rng, tally: &mut Tally) -> Result<(usize, usize), Failu
         let due = struck_by(&town.entries, k as usize, |e, b| margin_of_all_points(o, e, b) < 0);
         let got: Vec<bool> = marks.iter().map(|m| *m == 1).collect();
         if got != due {
-            let text = format!("nearby_prune(box {o:?}, k {k}) by all points: due {due:?}, got {got:?}");
+            let name = name_of::<A>("prune");
+            let text = format!("{name}(box {o:?}, k {k}) by all points: due {due:?}, got {got:?}");
             return Err(Failure::with_file(text, &file));
         }
         struck += due.iter().filter(|s| **s).count();
@@ -96,27 +98,38 @@ fn small_towns(rng: &mut Rng, tally: &mut Tally) -> Result<(usize, usize), Failu
     Ok((tried, struck))
 }
 
-/// "Strike: 1, directory, 11, 9 for O, 14": every set of the five faults.
-fn refusals(rng: &mut Rng, tally: &mut Tally) -> Result<usize, Failure> {
+/// The file of a town, with damage in the directory (bit 1) and another length (bit 0).
+fn spoiled<const A: usize>(town: &Town<A>, faults: usize, rng: &mut Rng) -> Vec<u8> {
+    let mut file = file_of(town);
+    if faults >> 1 & 1 == 1 {
+        damage::some_directory_field(&mut file, town, rng);
+    }
+    if faults & 1 == 1 {
+        damage::wrong_length(&mut file, rng);
+    }
+    file
+}
+
+/// "Strike: 1, directory, 11, 9 for O, 14", and 17 after 11: every set of the six faults. The last is a town of B axes.
+fn refusals<const A: usize, const B: usize>(rng: &mut Rng, tally: &mut Tally) -> Result<usize, Failure> {
     let mut refused = 0;
-    for faults in 0..32usize {
+    for faults in 0..if HEIGHT { 64usize } else { 32 } {
         for _ in 0..60 {
-            let tiles = rng.pick(&[1, 5, 24, 25, 30, 50]);
-            let town = towns::town(rng.pick(&[Sort::Row, Sort::Overlapping, Sort::Points]), tiles, rng);
-            let mut file = file_of(&town);
-            let (mut o, mut k, mut marks_len) = (box_near(&town, rng), any_k(rng), tiles + rng.below(3));
             let has = |fault: usize| faults >> fault & 1 == 1;
-            if has(1) {
-                damage::some_directory_field(&mut file, &town, rng);
-            }
-            if has(0) {
-                damage::wrong_length(&mut file, rng);
-            }
+            let full = per_block(if has(5) { B } else { A });
+            let tiles = rng.pick(&[1, 5, full, full + 1, 30, 2 * full + 2]);
+            let sort = rng.pick(&[Sort::Row, Sort::Overlapping, Sort::Points]);
+            let town: Town<A> = towns::town(sort, tiles, rng);
+            let file = match has(5) {
+                true => spoiled::<B>(&towns::town(sort, tiles, rng), faults, rng),
+                false => spoiled(&town, faults, rng),
+            };
+            let (mut o, mut k, mut marks_len) = (box_near(&town, rng), any_k(rng), tiles + rng.below(3));
             if has(2) {
                 k = rng.pick(&[0, 65, 66, 1 << 31, u32::MAX]);
             }
             if has(3) {
-                let (axis, end) = (rng.below(2), rng.below(2));
+                let (axis, end) = (rng.below(A), rng.below(2));
                 match rng.below(3) {
                     0 => o[axis] = [o[axis][1].min(LIMIT - 1) + 1, o[axis][1].min(LIMIT - 1)],
                     _ => o[axis][end] = rng.pick(&[LIMIT + 1, -LIMIT - 1, i32::MIN, i32::MAX]),
@@ -125,18 +138,26 @@ fn refusals(rng: &mut Rng, tally: &mut Tally) -> Result<usize, Failure> {
             if has(4) {
                 marks_len = rng.pick(&[0, tiles - 1, tiles / 2]);
             }
-            let case = format!("faults {faults:05b} (the last digit is the first fault)");
+            let case = format!("faults {faults:06b} (0 to 5 from the right: 1, directory, 11, 9 for O, 14, 17)");
             let (pruned, _) = compare::prune(&file, o, k, marks_len, rng, tally).map_err(|f| f.case(&case))?;
+            // Damage may be none; the others are sure, and the first of them is the number.
+            if !has(0) && !has(1) {
+                let sure = [(2, 11), (5, 17), (3, 9), (4, 14)].into_iter().find(|(fault, _)| has(*fault));
+                if let Some((_, number)) = sure {
+                    assert_eq!((pruned.number, pruned.block), (number, 0), "{case}");
+                }
+            }
             refused += (pruned.number != 0) as usize;
         }
     }
     Ok(refused)
 }
 
-pub fn run(rng: &mut Rng, tally: &mut Tally) -> Result<String, Failure> {
-    let (tried, struck, spared) = many_towns(rng, tally)?;
-    let (small, small_struck) = small_towns(rng, tally)?;
-    let refused = refusals(rng, tally)?;
+/// B is the other number of axes.
+pub fn run<const A: usize, const B: usize>(rng: &mut Rng, tally: &mut Tally) -> Result<String, Failure> {
+    let (tried, struck, spared) = many_towns::<A>(rng, tally)?;
+    let (small, small_struck) = small_towns::<A>(rng, tally)?;
+    let refused = refusals::<A, B>(rng, tally)?;
     Ok(format!(
         "{} boxes and k on towns of every sort, {} tiles struck, {} more if muted sites were added up; {} against all \
          points of small boxes, {} tiles struck; {} refusals",

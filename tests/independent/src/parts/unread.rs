@@ -1,8 +1,8 @@
 //! Demand 3: tiles that are not opened do not matter, and each opened tile does.
 
+use super::joins::{any_k, list, lists_are_full_search};
 use super::{count, drawn};
-use super::joins::{any_k, list, lists_are_full_search, query_of};
-use crate::compare::{self, Failure, Lengths};
+use crate::compare::{self, Failure, Lengths, Query};
 use crate::fillings::{filling, other_cue};
 use crate::host::{self, Slices};
 use crate::paper::boxes::closest;
@@ -15,8 +15,8 @@ use crate::tally::Tally;
 use crate::towns::{self, SORTS};
 
 /// The engine's own answer on a file, with slices of these lengths.
-pub fn engine(file: &[u8], stops: &[Point], k: u32, lengths: Lengths) -> (Joined, Lent) {
-    let query = query_of(stops, k);
+pub fn engine<const A: usize>(file: &[u8], stops: &[Point<A>], k: u32, lengths: Lengths) -> (Joined, Lent) {
+    let query = Query::of(stops, k);
     let mut lent = Lent {
         dist: vec![7; lengths.dist],
         site: vec![7; lengths.site],
@@ -24,18 +24,18 @@ pub fn engine(file: &[u8], stops: &[Point], k: u32, lengths: Lengths) -> (Joined
         marks: vec![7; lengths.marks],
     };
     let slices = Slices { dist: &mut lent.dist, site: &mut lent.site, cue: &mut lent.cue, marks: &mut lent.marks };
-    let joined = host::join(file, &query.x, &query.y, k, slices);
+    let joined = host::join(file, query.lists(), k, slices);
     (joined, lent)
 }
 
 /// The same slots muted, and all sites at this point with other cues: a filling that keeps count and muted number.
-fn all_at(sites: &[Site], at: Point) -> Vec<Site> {
+fn all_at<const A: usize>(sites: &[Site<A>], at: Point<A>) -> Vec<Site<A>> {
     sites.iter().map(|s| Site { at, cue: other_cue(s.cue) }).collect()
 }
 
 /// "some other filling of it ... changes what the full search gives for at least one stop": all sites of the tile at
 /// the point of its box nearest to a stop, with other cues.
-fn some_filling_matters(town: &Town, tile: usize, stops: &[Point], lists: &[Vec<Place>]) -> bool {
+fn some_filling_matters<const A: usize>(town: &Town<A>, tile: usize, stops: &[Point<A>], lists: &[Vec<Place>]) -> bool {
     stops.iter().zip(lists).any(|(stop, list)| {
         let at = closest(*stop, town.entries[tile].bounds);
         let mut other = town.clone();
@@ -45,10 +45,10 @@ fn some_filling_matters(town: &Town, tile: usize, stops: &[Point], lists: &[Vec<
 }
 
 /// A tile that is not opened: each of these fillings leaves all lists as they are.
-fn no_filling_matters(
-    town: &Town,
+fn no_filling_matters<const A: usize>(
+    town: &Town<A>,
     tile: usize,
-    stops: &[Point],
+    stops: &[Point<A>],
     lists: &[Vec<Place>],
     rng: &mut Rng,
 ) -> Result<usize, String> {
@@ -81,16 +81,16 @@ fn no_filling_matters(
     Ok(tried)
 }
 
-pub fn run(rng: &mut Rng, tally: &mut Tally) -> Result<String, Failure> {
+pub fn run<const A: usize>(rng: &mut Rng, tally: &mut Tally) -> Result<String, Failure> {
     let (mut pairs, mut matter, mut idle, mut idle_muted, mut runs) = (0, 0, 0, 0, 0);
     for round in 0..150 {
         for sort in SORTS {
             let tiles = if round % 75 == 74 { 300 } else { 1 + rng.below(40) };
             let (n, k) = (1 + rng.below(5), any_k(rng));
-            let town = towns::town(sort, tiles, rng);
+            let town: Town<A> = towns::town(sort, tiles, rng);
             let stops = towns::stops(&town, n, rng);
             let file = file_of(&town);
-            let query = query_of(&stops, k);
+            let query = Query::of(&stops, k);
             let lengths = Lengths::enough(&query, tiles, rng);
             let case = format!("a town of sort {sort:?} with {tiles} tiles, stops {stops:?}, k {k}");
             let fail = |text: String, file: &[u8]| Err(Failure::with_file(text, file).case(&case));
@@ -104,7 +104,7 @@ pub fn run(rng: &mut Rng, tally: &mut Tally) -> Result<String, Failure> {
 
             // "Any file of the same length, equal to this one in every byte of the directory and of the opened tiles,
             // gets an answer with the same lists, marks and counts".
-            let d = directory_blocks(tiles);
+            let d = directory_blocks(A, tiles);
             for _ in 0..3 {
                 let mut other = file.clone();
                 for tile in (0..tiles).filter(|t| lent.marks[*t] != 2) {

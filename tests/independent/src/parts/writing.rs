@@ -3,25 +3,27 @@
 use super::count;
 use crate::compare::{self, Failure};
 use crate::fillings::filling;
-use crate::paper::blocks::SIZE;
-use crate::paper::directory::directory_blocks;
+use crate::paper::blocks::{count_in_entry, entry_at, most_sites, per_block, SIZE};
+use crate::paper::directory::file_size;
 use crate::paper::writer::Supply;
-use crate::paper::{Entry, Town, LIMIT};
+use crate::paper::{each_axis, Entry, Town, LIMIT};
 use crate::rng::Rng;
 use crate::tally::Tally;
 use crate::towns::{town, SORTS};
 
 /// Towns of every sort and many sizes: the file, later bytes as they were, and T by the full check.
-fn good_towns(rng: &mut Rng, tally: &mut Tally) -> Result<(usize, usize), Failure> {
+fn good_towns<const A: usize>(rng: &mut Rng, tally: &mut Tally) -> Result<(usize, usize), Failure> {
     let (mut towns, mut bytes) = (0, 0);
     for sort in SORTS {
-        let mut sizes = vec![1, 1, 2, 3, 23, 24, 25, 47, 48, 49, 72, 73, 960];
+        let (full, twice) = (per_block(A), 2 * per_block(A));
+        let mut sizes = vec![1, 1, 2, 3, full - 1, full, full + 1, twice - 1, twice, twice + 1];
+        sizes.extend([twice + full, twice + full + 1, 960]);
         sizes.extend((0..25).map(|_| 1 + rng.below(130)));
         sizes.push(130 + rng.below(830));
         for tiles in sizes {
             let case = format!("a town of sort {sort:?} with {tiles} tiles");
-            let supply = Supply::of(&town(sort, tiles, rng));
-            let length = SIZE * (tiles + directory_blocks(tiles));
+            let supply: Supply<A> = Supply::of(&town(sort, tiles, rng));
+            let length = file_size(A, tiles);
             for later in [0, 1, rng.below(2_000)] {
                 let written = compare::write(&supply, length + later, rng, tally).map_err(|f| f.case(&case))?;
                 let file = written.expect("a good town is written");
@@ -37,29 +39,30 @@ fn good_towns(rng: &mut Rng, tally: &mut Tally) -> Result<(usize, usize), Failur
     Ok((towns, bytes))
 }
 
-/// A tile for every count and every number of muted sites up to it: the bytes 16-19 of each entry.
-fn every_muted_number(rng: &mut Rng, tally: &mut Tally) -> Result<usize, Failure> {
+/// A tile for every count and every number of muted sites up to it: the last four bytes of each entry.
+fn every_muted_number<const A: usize>(rng: &mut Rng, tally: &mut Tally) -> Result<usize, Failure> {
     let mut numbers: Vec<(usize, usize)> =
-        (0..=40).flat_map(|count| (0..=count).map(move |muted| (count, muted))).collect();
+        (0..=most_sites(A)).flat_map(|count| (0..=count).map(move |muted| (count, muted))).collect();
     rng.shuffle(&mut numbers);
     let tiles = numbers.iter().map(|(count, muted)| {
-        let entry = Entry { bounds: [[-9, 9], [0, 99]], count: *count, muted: *muted };
+        let bounds = each_axis(|axis| [[-9, 9], [0, 99], [-600, 300]][axis]);
+        let entry: Entry<A> = Entry { bounds, count: *count, muted: *muted };
         (entry.bounds, filling(&entry, rng))
     });
     let supply = Supply::of(&Town::of(tiles.collect()));
-    let length = SIZE * (numbers.len() + directory_blocks(numbers.len()));
+    let length = file_size(A, numbers.len());
     let file = compare::write(&supply, length, rng, tally)?.expect("a good town is written");
     for (tile, (count, muted)) in numbers.iter().enumerate() {
-        let at = SIZE * (tile / 24) + 16 + 20 * (tile % 24);
-        assert_eq!(file[at + 16..at + 20], [*count as u8, 0, *muted as u8, 0]);
+        let at = SIZE * (tile / per_block(A)) + entry_at(A, tile % per_block(A)) + count_in_entry(A);
+        assert_eq!(file[at..at + 4], [*count as u8, 0, *muted as u8, 0]);
     }
     assert_eq!(compare::validate(&file, tally)?, Ok(numbers.len()));
     Ok(numbers.len())
 }
 
 /// One of the six faults, in the order of their tests: 6, 15, 9, 15, 10, 14.
-fn spoil(fault: usize, supply: &mut Supply, out_len: &mut usize, rng: &mut Rng) {
-    let tiles = supply.counts.len();
+fn spoil<const A: usize>(fault: usize, supply: &mut Supply<A>, out_len: &mut usize, rng: &mut Rng) {
+    let (tiles, ends) = (supply.counts.len(), 2 * A);
     match fault {
         0 => match rng.below(4) {
             0 => supply.counts.clear(),
@@ -70,59 +73,58 @@ fn spoil(fault: usize, supply: &mut Supply, out_len: &mut usize, rng: &mut Rng) 
             2 => supply.counts.resize(961 + rng.below(3), 0),
             _ => {
                 supply.counts.resize(961, 0);
-                supply.boxes.resize(4 * 961, 0);
-                *out_len = 512 * (961 + 41);
+                supply.boxes.resize(ends * 961, 0);
+                *out_len = file_size(A, 961);
             }
         },
         1 => match rng.below(4) {
             0 => supply.boxes.push(0),
             1 => drop(supply.boxes.pop()),
-            2 => supply.boxes.truncate(supply.boxes.len().saturating_sub(4)),
-            _ => supply.boxes.extend([0, 0, 0, 0]),
+            2 => supply.boxes.truncate(supply.boxes.len().saturating_sub(ends)),
+            _ => supply.boxes.extend(vec![0; ends]),
         },
         2 => {
             let at = rng.below(tiles.max(1));
             match rng.below(6) {
                 0 | 1 => {
-                    if let Some(number) = supply.boxes.get_mut(4 * at + rng.below(4)) {
+                    if let Some(number) = supply.boxes.get_mut(ends * at + rng.below(ends)) {
                         *number = rng.pick(&[LIMIT + 1, -LIMIT - 1, i32::MAX, i32::MIN]);
                     }
                 }
                 2 | 3 => {
-                    let axis = rng.below(2);
-                    if 4 * at + 4 <= supply.boxes.len() {
-                        supply.boxes[4 * at + axis] = supply.boxes[4 * at + axis + 2] + 1;
+                    let axis = rng.below(A);
+                    if ends * at + ends <= supply.boxes.len() {
+                        supply.boxes[ends * at + axis] = supply.boxes[ends * at + axis + A] + 1;
                     }
                 }
                 _ => {
                     if let Some(number) = supply.counts.get_mut(at) {
-                        *number = rng.pick(&[41, 42, 256, 65_536, 65_536 + *number, u32::MAX]);
+                        let over = most_sites(A) as u32 + 1;
+                        *number = rng.pick(&[over, over + 1, 256, 65_536, 65_536 + *number, u32::MAX]);
                     }
                 }
             }
         }
-        3 => match rng.below(6) {
-            0 => supply.x.push(0),
-            1 => supply.y.push(0),
-            2 => supply.cues.push(0),
-            3 => drop(supply.x.pop()),
-            4 => drop(supply.y.pop()),
+        3 => match rng.below(2 * A + 2) {
+            list if list < A => supply.at[list].push(0),
+            list if list == A => supply.cues.push(0),
+            list if list <= 2 * A => drop(supply.at[list - A - 1].pop()),
             _ => drop(supply.cues.pop()),
         },
         4 => {
             // A site one outside its box, on some side, or far beyond.
-            let all = supply.x.len().min(supply.y.len());
+            let all = supply.at.iter().map(|list| list.len()).min().unwrap();
             let mut first = 0;
-            let tile_of: Vec<usize> = (0..tiles).flat_map(|t| vec![t; supply.counts[t].min(41) as usize]).collect();
+            let over = most_sites(A) as u32 + 1;
+            let tile_of: Vec<usize> = (0..tiles).flat_map(|t| vec![t; supply.counts[t].min(over) as usize]).collect();
             if all > 0 {
                 first = rng.below(all);
             }
             if let (Some(tile), true) = (tile_of.get(first), first < all) {
-                let axis = rng.below(2);
-                let list = if axis == 0 { &mut supply.x } else { &mut supply.y };
-                if 4 * tile + 4 <= supply.boxes.len() {
-                    let (low, high) = (supply.boxes[4 * tile + axis], supply.boxes[4 * tile + axis + 2]);
-                    list[first] =
+                let axis = rng.below(A);
+                if ends * tile + ends <= supply.boxes.len() {
+                    let (low, high) = (supply.boxes[ends * tile + axis], supply.boxes[ends * tile + axis + A]);
+                    supply.at[axis][first] =
                         rng.pick(&[low.wrapping_sub(1), high.wrapping_add(1), i32::MIN, i32::MAX, low.wrapping_sub(1)]);
                 }
             }
@@ -132,14 +134,14 @@ fn spoil(fault: usize, supply: &mut Supply, out_len: &mut usize, rng: &mut Rng) 
 }
 
 /// Every set of the six faults, several times: the first in order is the number, and out is as it was.
-fn refusals(rng: &mut Rng, tally: &mut Tally) -> Result<usize, Failure> {
+fn refusals<const A: usize>(rng: &mut Rng, tally: &mut Tally) -> Result<usize, Failure> {
     let mut refused = 0;
     for faults in 0..64usize {
         for round in 0..60 {
             let sort = rng.pick(&SORTS);
             let tiles = if round % 20 == 19 { 960 } else { 1 + rng.below(30) };
-            let mut supply = Supply::of(&town(sort, tiles, rng));
-            let mut out_len = SIZE * (tiles + directory_blocks(tiles));
+            let mut supply: Supply<A> = Supply::of(&town(sort, tiles, rng));
+            let mut out_len = file_size(A, tiles);
             for fault in 0..6 {
                 if faults >> fault & 1 == 1 {
                     spoil(fault, &mut supply, &mut out_len, rng);
@@ -154,10 +156,10 @@ fn refusals(rng: &mut Rng, tally: &mut Tally) -> Result<usize, Failure> {
     Ok(refused)
 }
 
-pub fn run(rng: &mut Rng, tally: &mut Tally) -> Result<String, Failure> {
-    let (towns, bytes) = good_towns(rng, tally)?;
-    let numbers = every_muted_number(rng, tally)?;
-    let refused = refusals(rng, tally)?;
+pub fn run<const A: usize>(rng: &mut Rng, tally: &mut Tally) -> Result<String, Failure> {
+    let (towns, bytes) = good_towns::<A>(rng, tally)?;
+    let numbers = every_muted_number::<A>(rng, tally)?;
+    let refused = refusals::<A>(rng, tally)?;
     Ok(format!(
         "{} towns of 1 to 960 tiles written and checked, {} bytes; one of {numbers} tiles, for every count and muted \
          number; {} refusals by one fault or several at once",
