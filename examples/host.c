@@ -1,7 +1,7 @@
 /* A sound host: host FILE
  *
  * Checks a town's file as a host would when it arrives, then drives along a track and says which cues to play at each
- * stop.
+ * stop. Its stops have no height, so it takes plan towns; examples/viaduct.c asks a town with height.
  *
  *     gcc examples/host.c $(pkg-config --cflags --libs nearby) -o host        after make install
  *     gcc -Iinclude examples/host.c target/lib/libnearby.a -o host            after make lib */
@@ -12,7 +12,7 @@
 
 enum { STOPS = 4, K = 3 };
 
-static uint8_t file[NEARBY_MAX_FILE + 1];
+static uint8_t file[NEARBY_MAX_FILE_3 + 1]; /* so that a file over all limits is seen */
 
 static size_t load(const char *name) {
     FILE *f = fopen(name, "rb");
@@ -41,8 +41,13 @@ static unsigned check_blocks(size_t length) {
 
 /* What a host says, and does, about a refusal (include/nearby.h, "Where" and "What to do"). Gives the exit status. */
 static int refused(uint32_t number, uint32_t block, size_t length) {
-    size_t directory = (length / NEARBY_BLOCK_SIZE + 24) / 25;
+    size_t entries = file[1] == 3 ? 17 : 24; /* of a directory block: with height, or of a plan town */
+    size_t directory = (length / NEARBY_BLOCK_SIZE + entries) / (entries + 1);
     printf("refused %" PRIu32, number);
+    if (number == NEARBY_AXES) {
+        printf(": a town with height, and the stops have none\n");
+        return 2;
+    }
     if (number >= NEARBY_K && number != NEARBY_MUTED) {
         printf(": the question is wrong\n");
         return 2;

@@ -5,9 +5,10 @@ set -euo pipefail
 cd "$(dirname "$0")/.."
 built=target/examples
 mkdir -p "$built"
-for name in town host; do
+for name in town host viaduct; do
     gcc -std=c11 -O2 -Wall -Wextra -Werror -Iinclude "examples/$name.c" target/lib/libnearby.a -o "$built/$name"
 done
+gcc -std=c11 -O2 -Wall -Wextra -Werror examples/reader.c -o "$built/reader"
 
 runs=0
 # compare EXPECTED_FILE COMMAND..: what a command prints, errors too
@@ -27,6 +28,23 @@ ask() { python3 examples/ask.py "$@" | target/bin/nearby; }
 compare samples/riverside.town text_to_town samples/riverside.txt
 compare samples/riverside.host "$built/host" samples/riverside.town
 compare samples/riverside.answer ask samples/riverside.town 3 1200,3000 2600,3100 4100,3200 5600,3200
+
+# A town with height: by its text, and by the program that has it. The reader gives back a text without its comments.
+compare samples/viaduct.town text_to_town samples/viaduct.txt
+compare samples/viaduct.answer "$built/viaduct" "$built/viaduct.town"
+compare samples/viaduct.town cat "$built/viaduct.town"
+town_to_text() { "$built/reader" <"samples/$1.town"; }
+for name in riverside crossing viaduct; do
+    compare <(sed 's/ *#.*//; /^$/d' "samples/$name.txt") town_to_text "$name"
+done
+# It is asked with stops of two axes: by the program, and by the host. The tests of a question come in their order.
+compare <(echo "refused 17 block 0") ask samples/viaduct.town 3 3000,3020
+compare <(echo "refused 17 block 0") ask samples/viaduct.town 3 3000,1000001
+compare <(echo "refused 11 block 0") ask samples/viaduct.town 65 3000,3020
+compare <(echo "refused 12 block 0") ask samples/viaduct.town 3
+compare <(printf '%s\n' "blocks 13 bad 0" "full check: number 0 block 0 tiles 12" \
+    "margin -21000000: the crossing is nearer" "refused 17: a town with height, and the stops have none" "status 2") \
+    "$built/host" samples/viaduct.town
 
 # A line may end in CR LF, and the last one may have no end.
 with_cr() { sed 's/$/\r/' samples/riverside.txt | "$built/town"; }
@@ -109,6 +127,28 @@ recount "$built/384.town" 12 4 23 >"$built/384-12.town"
 recount "$built/384.town" 16 4 1 >"$built/384-16.town"
 says 7 12 "block 12 of the directory" "$built/384-12.town"
 says 7 16 "block 16, tile 0" "$built/384-16.town"
+# With height a directory block has 17 entries: of 18 tiles the first is block 2, in a plan town block 1. A tile's block
+# of a plan town is refused there, and a plan town that is too long.
+printf 'tile 0 0 0 1 1 1 # %s\n' {1..18} | "$built/town" >"$built/18.town"
+recount "$built/18.town" 1 4 2 >"$built/18-1.town"
+recount "$built/18.town" 2 4 1 >"$built/18-2.town"
+recount "$built/18.town" 2 0 $((0x02D6)) >"$built/18-kind.town"
+printf 'tile 0 0 1 1 # %s\n' {1..18} | "$built/town" >"$built/plan-18.town"
+recount "$built/plan-18.town" 1 4 1 >"$built/plan-18-1.town"
+printf 'tile 0 0 1 1 # %s\n' {1..960} | "$built/town" >"$built/960.town"
+(cat "$built/960.town" && head -c 8704 /dev/zero) >"$built/long.town"
+(cat "$built/960.town" && head -c 8705 /dev/zero) >"$built/longer.town"
+says 7 1 "block 1 of the directory" "$built/18-1.town"
+says 7 2 "block 2, tile 0" "$built/18-2.town"
+says 4 2 "block 2, tile 0" "$built/18-kind.town"
+says 7 1 "block 1, tile 0" "$built/plan-18-1.town"
+says 1 0 "the length" "$built/long.town"
+says 1 0 "the length" "$built/longer.town"
+# The largest file with height is longer than any of a plan town.
+printf 'tile 0 0 0 1 1 1 # %s\n' {1..960} | "$built/town" >"$built/960-height.town"
+checks() { ("$built/host" "$1" || true) | sed -n 2p; }
+compare <(echo 520704) stat -c %s "$built/960-height.town"
+compare <(echo "full check: number 0 block 0 tiles 960") checks "$built/960-height.town"
 compare <(echo "refused 11 block 0") ask samples/riverside.town 65 0,0
 compare <(echo "refused 12 block 0") ask samples/riverside.town 3
 compare <(echo "refused 13 block 0") ask samples/riverside.town 3 0,1000001
@@ -137,7 +177,18 @@ fails "line 4: tile 0, slot 1: the site is outside the tile's box" 'tile 0 0 1 1
 fails "line 2: tile 1: $bad_box" 'tile 0 0 1 1\ntile 5 0 4 1\n'
 fails "line 1: tile 0: $bad_box" 'tile 0 0 1 1000001\n'
 fails "line 42: tile 0: more than 40 sites" "tile 0 0 1 1\n$(yes 'site 1 1 1\n' | head -n 41 | tr -d '\n')"
+fails "line 32: tile 0: more than 30 sites" "tile 0 0 0 1 1 1\n$(yes 'site 1 1 1 1\n' | head -n 31 | tr -d '\n')"
+fails "line 1: tile 0: $bad_box" 'tile 0 0 5 1 1 4\n'
+fails "line 1: tile 0: $bad_box" 'tile 0 0 5 1 1 1000001\n'
+fails "line 2: tile 0, slot 0: the site is outside the tile's box" 'tile 0 0 0 1 1 1\nsite 1 1 2 1\n'
+fails "line 2: a number beyond 32 bits" 'tile 0 0 0 1 1 1\nsite 1 1 4294967296 1\n'
+fails "line 2: a cue with a minus" 'tile 0 0 0 1 1 1\nsite 1 1 1 -1\n'
+fails "line 1: a site before the first tile" 'site 0 0 0 1\n'
+fails "line 1: neither a tile nor a site" 'tile 0 0 0 1 1\n'
+fails "line 2: not as many axes as the first tile, which has 2" 'tile 0 0 1 1\nsite 1 1 1 1\n'
+fails "line 2: not as many axes as the first tile, which has 2" 'tile 0 0 1 1\ntile 0 0 0 1 1 1\n'
+fails "line 2: not as many axes as the first tile, which has 3" 'tile 0 0 0 1 1 1\nsite 1 1 1\n'
 fails "line 961: more than 960 tiles" "$(yes 'tile 0 0 1 1\n' | head -n 961 | tr -d '\n')"
 fails "line 1: longer than 254 characters" "# $(yes long | head -n 60 | xargs)\n"
 fails "there is no tile" '# nothing\n'
-echo "examples: 2 C programs built without a warning, $runs runs compared"
+echo "examples: 4 C programs built without a warning, $runs runs compared"
