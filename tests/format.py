@@ -322,13 +322,62 @@ def check_families(document, samples):
                                                          480 // (4 * axes + 4)))
         expect(f"kinds of {family.name()}", {sample[at + 1] for at in range(0, len(sample), BLOCK)},
                {family.directory, family.tile})
-    said = document.running()
-    for words in ("Entries and sites have 480 bytes of a block, bytes 16 to 495", "is 1 in a plan town and 3 in a town",
-                  "A is 2 and E is 24 in a plan town; A is 3 and E is 17 in a town with height",
-                  "that a file over 512000 bytes is no plan town", "no site has a slot over 29",
-                  "up to 40 sites, with height up to 30,", "24 tiles to a block, with height 17.",
-                  "to a town with height it prints `refused 17 block 0`"):
+
+
+def check_words(document):
+    """Sentences with numbers that differ between the families, or that settle which it is; the numbers here are those
+    that the other checks hold against the engine."""
+    (plan, height), said = FAMILIES, re.sub(r" +", " ", document.running())
+    for words in (
+            # part 1 and 2
+            f"up to {plan.sites} sites, with height up to {height.sites},",
+            f"{plan.entries} tiles to a block, with height {height.entries}.",
+            "Tiles are numbered from 0. The sites of a tile are numbered by **slot**, from 0.",
+            "Entries and sites have 480 bytes of a block, bytes 16 to 495",
+            f"Byte 1 of the file, the kind of block 0, is {plan.directory} in a plan town and {height.directory} in a "
+            "town with height. Block 0 settles it for the whole file: every later block has a kind of the same family.",
+            f"that a file over {plan.bytes} bytes is no plan town",
+            f"The site number uses 40 in both families: with height no site has a slot over {height.sites - 1}.",
+            f"A is {plan.axes} and E is {plan.entries} in a plan town; A is {height.axes} and E is {height.entries} in "
+            "a town with height. `1 | 3` is 1 in a plan town, 3 in a town with height, and `2 | 4` likewise.",
+            # parts 3 to 6
+            f"An entry has {height.entry} bytes; here it takes two rows.",
+            "The sample with height has 12 tiles, so n and T are 12.",
+            "Block 4 of the sample with height is tile 3, since d is 1.",
+            "A block of the other family is refused with 4, in the directory and in a tile,",
+            "It is refused there: with 4 if another kind is due at that place, else with 5.",
+            "Block 2 of `samples/riverside.town`, a plan town, is tile 1, since d is 1.",
+            f"The kind of block 0 is {height.directory}.", "a site outside the box of its tile (10);",
+            # part 7
+            "to a town with height it prints `refused 17 block 0`",
+            f"**4 kind**: byte 1. In block 0 it is {plan.directory} or {height.directory}, which settles the family; "
+            "in a later block it is that of block 0.",
+            f"**1 length**: in block 0 only. If its kind is {plan.directory}, the file has at most {plan.bytes} bytes.",
+            "**5 position**: bytes 2-3 are p.",
+            "**6 tiles**: T in bytes 6-7 is 1 to 960, is that of block 0, and T/E rounded up, plus T, is N.",
+            "**7 entries**: bytes 4-5 are the smaller of E and T - E p.", "Of step 6 the last condition is enough",
+            f"**4 kind**: byte 1 is {plan.tile}; with height {height.tile}.",
+            f"**1 length**: the file has 512 to {height.bytes} bytes, a multiple of 512.",
+            "A refusal by steps 1 to 7 leaves the output slices as they were.",
+            "**9 box**: the box O of the call, at block 0.", "and never refuses with 17.",
+            "- For every refusal by the writer: 0,", "- For 9, when the box O of the strike call is bad: 0.",
+            "If a later block is refused, block 0 was good, so byte 1 says the family,",
+            "**17 speaks of the call and the file together.**",
+            # part 8
+            f"the {plan.site} or {height.site} bytes of the site, and the check.",
+            "give all its boxes and sites z 0 and make the file with `nearby_write3`.",
+            f"A tile with more than {height.sites} sites has to be cut first. With the same tiles, stops with z 0 get",
+            f"A tile takes up to {plan.sites} sites, with height {height.sites}, and a town up to 960 tiles."):
         expect(f"the document says: {words}", words in said, True)
+    header = (ROOT / "include/nearby.h").read_text()
+    named = set(re.findall(r"\bnearby_\w+", document.whole))
+    expect("calls that the header does not have", named - set(re.findall(r"\bnearby_\w+(?=\()", header)), set())
+    notes = {row[0]: row[4] for row in document.table("What", "Least", "Most in a plan town", "Most with height")}
+    expect("notes of the sizes", [notes[name].partition(",")[0] for name in ("bytes of a file", "cue", "site number")],
+           ["512 × (d + T)", "any number of 32 bits; 0: muted", "tile × 40 + slot"])
+    for title, lines in document.parts.items():
+        steps = [int(step[1]) for step in (re.match(r"(\d+)\. ", line) for line in lines) if step]
+        expect(f"numbers of the steps: {title}", steps, list(range(1, len(steps) + 1)))
 
 
 def check_limits(document, engine, family):
@@ -349,6 +398,7 @@ def check_limits(document, engine, family):
     expect("coordinates", [one(low, low), one(high, high), one(low - 1, low), one(high, high + 1)],
            [{0}, {0}, {9}, {9}])
     fewest, sites = limits["sites of a tile"]
+    expect("an empty tile", fewest, 0)
     expect("sites of a tile", [one(0, 0, fewest), one(0, 0, sites), one(0, 0, sites + 1)], [{0}, {0}, {9}])
     expect("muted sites of a tile", limits["muted sites of a tile"], (0, sites))
     expect("cues", [one(0, 0, 1, cue) for cue in limits["cue"]], [{0}, {0}])
@@ -572,8 +622,8 @@ def check_grammar(document, tables, family):
            ["sync", "kind", "position", "entries", "zero", "zero"])
     expect("d in the grammar", "\n".join(grammar).count("d = (T + E - 1) / E, the whole part of it"), 1)
     expect("n in the grammar", "\n".join(grammar).count("n is the smaller of E and T - E p"), 1)
-    bounds = [re.findall(r"to (\d+)", line) for line in grammar if "// sites of the tile" in line]
-    expect("counts in the grammar", bounds, [[str(each.sites) for each in FAMILIES]])
+    bounds = [line.partition("// ")[2] for line in grammar if "// sites of the tile" in line]
+    expect("counts in the grammar", bounds, [f"sites of the tile, 0 to {PLAN.sites}; with height 0 to {HEIGHT.sites}"])
     entry_at = (rf"(\d+ × \(t / {family.entries}\) \+ \d+ \+ \d+ × \(t % {family.entries}\))( \+ \d+)? "
                 r"of the file")
     expect("formulas for the place of an entry", len(re.findall(entry_at, document.running())), 2)
@@ -640,7 +690,10 @@ def check_byte_tables(document, engine, reader, sample, text, family):
     said.update((f"low {axis}", f"from -1,000,000 to high {axis}") for axis in axes)
     said.update((f"high {axis}", f"from low {axis} to 1,000,000") for axis in axes)
     said.update((axis, f"from low {axis} to high {axis} of the tile's box") for axis in axes)
+    said["cue"] = "any number; 0 in as many sites of the tile as `muted` of its entry says"
     expect("what is due", {name: due.get(name) for name in said}, said)
+    zeros = [row[3].partition(";")[0] for table in (directory, tile) for row in table if row[2] == "zeros"]
+    expect("zeros due", zeros, ["0"] * 4)
     expect("entries due", [next(row[3] for row in table if row[2] == "entries") for table in (directory, tile)], [
         f"n, the smaller of {family.entries} and T - {family.entries} × position",
         "n, the count in the tile's directory entry"])
@@ -1030,7 +1083,8 @@ def check_block_12(document, engine, reader):
             expect(f"block 12 with {number_} entries", engine.checked(bad), (0, 0) if number_ == entries else (7, 12))
         reader.compare(bad)
     for words in ("d is N/25 rounded up in a plan town, where 24 tiles take 25 blocks, and N/18 rounded up with "
-                  "height, where 17 tiles take 18 blocks", "one block more than a multiple of 25, or with height of 18"):
+                  "height, where 17 tiles take 18 blocks",
+                  "one block more than a multiple of 25, or with height of 18"):
         expect(f"the document says: {words}", words in document.running(), True)
     for family in FAMILIES:
         lengths = {tiles + family.directory_blocks(tiles): tiles for tiles in range(1, 961)}
@@ -1206,6 +1260,7 @@ def main():
     samples = [(ROOT / f"samples/{name}.town").read_bytes() for name in names]
     check_arithmetic(document)
     check_families(document, samples)
+    check_words(document)
     check_worked_block(document, engine, samples[0])
     check_refusals(document)
     for family, sample, name in zip(FAMILIES, samples, names):
