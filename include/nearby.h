@@ -150,8 +150,8 @@ struct nearby_joined {
  * be opened, NEARBY_SYNC, NEARBY_CHECK, NEARBY_KIND, NEARBY_POSITION, NEARBY_ENTRIES, NEARBY_PADDING, NEARBY_STRAY,
  * NEARBY_MUTED: the first n * k places and T marks are 0. A tile without a sounding site is not opened, and one that
  * is not opened may hold anything: the answer does not depend on it.
- * NEARBY_LENGTH comes first for a file over 520,704 bytes. A plan town's over 512,000 has it directly after
- * NEARBY_KIND of block 0. */
+ * NEARBY_LENGTH of a plan town's file over 512,000 bytes, but not over 520,704, comes directly after NEARBY_KIND of
+ * block 0. */
 struct nearby_joined nearby_join(const uint8_t *file, size_t file_len,
                                  const int32_t *x, size_t x_len, const int32_t *y, size_t y_len, uint32_t k,
                                  uint64_t *dist, size_t dist_len, uint32_t *site, size_t site_len,

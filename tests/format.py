@@ -349,7 +349,7 @@ def check_words(document):
             "Block 2 of `samples/riverside.town`, a plan town, is tile 1, since d is 1.",
             f"The kind of block 0 is {height.directory}.", "a site outside the box of its tile (10);",
             # part 7
-            "to a town with height it prints `refused 17 block 0`",
+            "for a town with height it prints `refused 17 block 0`, if no earlier test refuses.",
             f"**4 kind**: byte 1. In block 0 it is {plan.directory} or {height.directory}, which settles the family; "
             "in a later block it is that of block 0.",
             f"**1 length**: in block 0 only. If its kind is {plan.directory}, the file has at most {plan.bytes} bytes.",
