@@ -66,8 +66,9 @@ class Page:
         self.o = town.around(stops)
         file, self.path = WORK / f"{name}.town", WORK / f"{name}.html"
         file.write_bytes(content)
-        subprocess.run([ROOT / "tools/town", "draw", file, str(k), *(f"{x},{y}" for x, y in stops), self.path],
-                       check=True, stdout=subprocess.DEVNULL)
+        self.axes = len(self.o) // 2
+        subprocess.run([ROOT / "tools/town", "draw", file, str(k), *(",".join(map(str, stop)) for stop in stops),
+                        self.path], check=True, stdout=subprocess.DEVNULL)
         driver.get(self.path.as_uri())
         same(self.script("return performance.getEntriesByType('resource').length"), 0,
              f"{name}: nothing is loaded from elsewhere")
@@ -142,7 +143,7 @@ class Page:
         for t, tile in enumerate(self.tiles):
             drawn_box = self.box_of(outlines[t])
             for axis in (0, 1):
-                low, high, due = drawn_box[axis], drawn_box[axis + 2], tile.box[axis::2]
+                low, high, due = drawn_box[axis], drawn_box[axis + 2], tile.box[axis::self.axes]
                 if due[0] < due[1]:
                     same((low, high), due, f"{self.name}: the outline of tile {t}")
                 else:
@@ -157,12 +158,13 @@ class Page:
                  f"{self.name}: the muted sites on the map")
         title = self.text("title")
         same(title.startswith(f"{self.name}.town: {town.size(self.tiles)}, {len(self.stops)} stop"), True, title)
-        same(self.box_of(self.at("#layer-o .o").get_attribute("d")), self.o, f"{self.name}: O on the map")
+        o = self.o[:2] + self.o[self.axes:self.axes + 2]
+        same(self.box_of(self.at("#layer-o .o").get_attribute("d")), o, f"{self.name}: O on the map")
         spots = self.script("return [...document.querySelectorAll('[data-stop]')]"
                             ".map((g) => [+g.dataset.stop, g.getAttribute('transform')])")
         for i, where in spots:
             x, y = re.match(r"translate\((-?\d+) (-?\d+)\)", where).groups()
-            same((int(x), -int(y)), self.stops[i], f"{self.name}: stop {i} on the map")
+            same((int(x), -int(y)), self.stops[i][:2], f"{self.name}: stop {i} on the map")
         same(len(spots), len(self.stops), f"{self.name}: the stops on the map")
 
     def run_numbers(self, k):
@@ -225,7 +227,7 @@ class Page:
                                   " ...['r', 'cx', 'cy'].map((name) => +c.getAttribute(name))])")
         same([[kind, round(radius ** 2)] for kind, radius, _, _ in drawn_rings], rings, f"{what}: the circles")
         for kind, _, x, y in drawn_rings:
-            same((x, -y), stop, f"{what}: the middle of the circle {kind}")
+            same((x, -y), stop[:2], f"{what}: the middle of the circle {kind}")
         chosen = self.points_of("#layer-chosen .chosen")
         same(chosen, [self.tiles[site // 40].sites[site % 40][:2] for _, site, _ in joined.lists[i]],
              f"{what}: the sites in the list")
@@ -243,28 +245,30 @@ class Page:
         same(self.text("margin-value"), str(margin), f"{what}: the margin")
         same(f"tile {e} is {'nearer' if margin < 0 else 'not nearer'} than tile {b} from O" in self.text("margin"),
              True, what)
-        points = [(int(row[1]), int(row[2])) for row in self.rows("points")]
+        points = [tuple(map(int, row[1:-1])) for row in self.rows("points")]
         same(self.engine.margin(*(point + point for point in points)), margin,
              f"{what}: the margin of the three points")
         for point, box in zip(points, (self.o, self.tiles[e].box, self.tiles[b].box)):
-            same(box[0] <= point[0] <= box[2] and box[1] <= point[1] <= box[3], True,
-                 f"{what}: the points are in their boxes")
+            same([low <= end <= high for end, low, high in zip(point, box[:self.axes], box[self.axes:])],
+                 [True] * self.axes, f"{what}: the points are in their boxes")
         links = [self.at(f"#layer-pair .link.{name}").get_attribute("d") for name in "eb"]
         o, *others = points
-        same(links, [f"M{o[0]} {-o[1]}L{x} {-y}" for x, y in others], f"{what}: the lines on the map")
-        same(self.points_of("#layer-pair .chosen"), points, f"{what}: the points on the map")
+        same(links, [f"M{o[0]} {-o[1]}L{x} {-y}" for x, y, *_ in others], f"{what}: the lines on the map")
+        same(self.points_of("#layer-pair .chosen"), [point[:2] for point in points], f"{what}: the points on the map")
         said = self.text("margin")
         far, near = self.engine.far(points[0], self.tiles[e].box), self.engine.near(points[0], self.tiles[b].box)
         same(f"D(o,e) is {far}, D(o,b) is {near}." in said, True, f"{what}: the two distances: {said}")
         self.corner_numbers(e, b)
 
     def corner_numbers(self, e, b):
-        x0, y0, x1, y1 = self.o
-        corners = dict.fromkeys([(x0, y0), (x1, y0), (x0, y1), (x1, y1)])
+        corners = [()]
+        for axis in range(self.axes):
+            corners = [corner + (end,) for end in self.o[axis::self.axes] for corner in corners]
+        corners = dict.fromkeys(corners)
         due = []
         for corner in corners:
             far, near = self.engine.far(corner, self.tiles[e].box), self.engine.near(corner, self.tiles[b].box)
-            due.append([f"({corner[0]}, {corner[1]})", str(far), str(near), "yes" if far < near else "no"])
+            due.append([f"({', '.join(map(str, corner))})", str(far), str(near), "yes" if far < near else "no"])
         same(self.rows("corners"), due, f"{self.name}: E {e}, B {b}: the corners")
 
     def tile_numbers(self, t):
@@ -272,7 +276,8 @@ class Page:
         box = tile.box
         count, muted = len(tile.sites), len(tile.sites) - tile.sounding
         sites = town.several(count, "site") + (f", {muted} of them muted" if muted else "")
-        same(says.startswith(f"Box x {box[0]}..{box[2]}, y {box[1]}..{box[3]}, {sites}. "), True, says)
+        ends = ", ".join(f"{name} {box[axis]}..{box[axis + self.axes]}" for axis, name in enumerate("xyz"[:self.axes]))
+        same(says.startswith(f"Box {ends}, {sites}. "), True, says)
         if "Neither" in says:
             due = ("Neither opened nor struck. " if tile.sounding else "Neither: it is empty and not struck. "
                    if not count else "Neither: all its sites are muted, and it is not struck. ")
@@ -281,9 +286,13 @@ class Page:
         due = "64 sounding sites or more" if nearer >= 64 else town.several(nearer, "sounding site")
         same(f"The tiles nearer than it from O hold {due}, and k is" in says, True,
              f"{self.name}: tile {t}: {nearer}: {says}")
-        due = [[str(slot), str(40 * t + slot), str(x), str(y), str(cue) if cue else "0, muted"]
-               for slot, (x, y, cue) in enumerate(tile.sites)]
+        due = [[str(slot), str(40 * t + slot), *map(str, spot), str(cue) if cue else "0, muted"]
+               for slot, (*spot, cue) in enumerate(tile.sites)]
         same(self.rows("sites"), due, f"tile {t}: sites")
+        for table, names in (("sites", ["slot", "site", "cue"]), ("points", ["point", "what it is"])):
+            head = self.script("return [...document.querySelectorAll('#' + arguments[0] + ' th')]"
+                               ".map((cell) => cell.textContent)", table)
+            same(head, [*names[:-1], *"xyz"[:self.axes], names[-1]], f"{self.name}: the head of {table}")
 
 
 def browser():
@@ -471,18 +480,18 @@ def phone(page):
     page.quiet()
 
 
-def drawn(driver, engine, rng, number):
+def drawn(driver, engine, rng, number, axes=2):
     """A town of drawn boxes: overlapping, points, lines, empty ones, muted sites; distances often equal."""
     span = rng.choice([6, 40, 3000, 1_000_000])
     tiles = []
     for _ in range(rng.choice([1, 4, 15, 40])):
-        ends = [sorted(rng.randint(-span, span) for _ in range(2)) for _ in range(2)]
-        box = (ends[0][0], ends[1][0], ends[0][1], ends[1][1])
+        ends = [sorted(rng.randint(-span, span) for _ in range(2)) for _ in range(axes)]
+        box = tuple(end[side] for side in (0, 1) for end in ends)
         muted = rng.choice([0, 0, 0.4, 1])
-        tiles.append((box, [(rng.randint(box[0], box[2]), rng.randint(box[1], box[3]),
+        tiles.append((box, [(*(rng.randint(*end) for end in ends),
                              0 if rng.random() < muted else rng.randrange(1, 2**32))
-                            for _ in range(rng.choice([0, 1, 2, 7, 40]))]))
-    stops = [(rng.randint(-span, span), rng.randint(-span, span)) for _ in range(rng.choice([1, 3, 6]))]
+                            for _ in range(rng.choice([0, 1, 2, 7, 40 if axes == 2 else 30]))]))
+    stops = [tuple(rng.randint(-span, span) for _ in range(axes)) for _ in range(rng.choice([1, 3, 6]))]
     page = Page(driver, engine, f"drawn-{number}", engine.write(tiles), stops, rng.choice([1, 3, 9]))
     most = int(page.at("#k").get_attribute("max"))
     for k in {page.k, rng.randint(1, most), most}:
@@ -596,6 +605,35 @@ def muted(driver, engine):
     page.quiet()
 
 
+def height(driver, engine, rng):
+    """Towns with height: the map is the plan, and z stands beside x and y. Of boxes as large the higher one is seen."""
+    tiles = [((0, 0, 900, 40, 30, 950), [(10, 10, 900, 5), (30, 20, 930, 0)]),
+             ((0, 0, 0, 40, 30, 50), [(10, 10, 0, 6), (20, 20, 40, 7)]),
+             ((50, 0, 0, 80, 30, 0), [(60, 10, 0, 8)]), ((90, 0, -40, 120, 30, -40), [])]
+    page = Page(driver, engine, "viaduct", engine.write(tiles), [(15, 5, 900), (15, 5, 10)], 2)
+    note = page.text("notes")
+    same("The town has height" in note and "D takes in z" in note, True, f"viaduct: the note: {note}")
+    for i in (0, 1):
+        page.choose("stop", i)
+        page.stop_numbers(i, 2, True)
+        same(page.at("#stop option:checked").text, f"Stop {i} at (15, 5, {(900, 10)[i]})", "viaduct: the stop's z")
+        same([row[3] for row in page.rows("list")], [["0", "1"], ["1", "1"]][i], "viaduct: the tiles of the list")
+    page.click("[data-tile='0']")
+    page.tile_numbers(0)
+    same(page.at("#tile").get_attribute("value"), "0", "viaduct: a click takes the higher box")
+    page.choose("tile", 1)
+    page.tile_numbers(1)
+    page.click("#tab-pair")
+    for e, b in ((0, 1), (1, 0), (2, 3), (3, 2), (1, 1)):
+        page.choose("e", e)
+        page.choose("b", b)
+        page.pair_numbers(e, b)
+    driver.save_screenshot(str(WORK / "page-height.png"))
+    page.quiet()
+    for number in range(6, 10):
+        drawn(driver, engine, rng, number, 3)
+
+
 def main():
     WORK.mkdir(parents=True, exist_ok=True)
     engine, driver = Engine(), browser()
@@ -608,6 +646,7 @@ def main():
         unusual(driver, engine)
         muted(driver, engine)
         large(driver, engine, rng)
+        height(driver, engine, rng)
     except Refused as refused:
         sys.exit(f"page: {refused}")
     finally:

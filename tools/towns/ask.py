@@ -2,7 +2,7 @@
 from typing import NamedTuple
 
 from .engine import MAX_SITES, Joined
-from .town import around, entry
+from .town import around, box_words, entry, stop_words
 
 OPENED, STRUCK, NEITHER = 2, 1, 0
 
@@ -59,8 +59,7 @@ def report(engine, content, stops, k):
     """The answer as lines."""
     answer = ask(engine, content, stops, k)
     joined, total = answer.joined, len(answer.joined.marks)
-    o = around(stops)
-    lines = [f"k {k}, stops {len(stops)}, O x {o[0]}..{o[2]}, y {o[1]}..{o[3]}",
+    lines = [f"k {k}, stops {len(stops)}, O {box_words(around(stops))}",
              f"tiles {total}: opened {joined.opened}, struck {joined.struck}, "
              f"neither {total - joined.opened - joined.struck}"]
     for i, stop in enumerate(stops):
@@ -69,7 +68,7 @@ def report(engine, content, stops, k):
     for mark, word in ((STRUCK, "struck"), (NEITHER, "neither")):
         lines.append(f"{word}: {_tiles(content, [tile for tile, held in enumerate(joined.marks) if held == mark])}")
     for i, (stop, places) in enumerate(zip(stops, joined.lists)):
-        lines.append(f"stop {i} at {stop[0]},{stop[1]}:" + ("" if places else " no sounding site"))
+        lines.append(f"stop {i} at {stop_words(stop)}:" + ("" if places else " no sounding site"))
         for dist, site, cue in places:
             lines.append(f"  D {dist}, site {site} (tile {site // MAX_SITES} slot {site % MAX_SITES}), cue {cue}")
     return lines

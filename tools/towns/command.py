@@ -4,7 +4,7 @@ import re
 import sys
 
 from . import ask, page, text, town, words
-from .engine import BLOCK_SIZE, MAX_FILE, Engine, NoLibrary, Refused
+from .engine import BLOCK_SIZE, MAX_FILE_3, Engine, NoLibrary, Refused
 
 USAGE = """\
 town: the tool for towns
@@ -17,6 +17,7 @@ town: the tool for towns
   town renew OLD FILE           writes again a file from before muted sites were counted
 
 town COMMAND --help says more of a command. Coordinates are whole centimetres from -1000000 to 1000000.
+In a town with height a stop is X,Y,Z.
 A site with cue 0 is muted: it takes no place in a list. All others are sounding.
 Exit status: 0 done, 1 refused or wrong, 2 a command that cannot be understood.
 """
@@ -30,9 +31,14 @@ Makes the file of a town from text; TEXT may be - for standard input. A line of 
   tile LOW_X LOW_Y HIGH_X HIGH_Y   a tile and its box
   site X Y CUE                     a site of the tile above it
 
-in whole centimetres; what follows a # is left out. Tiles are numbered from 0 in their order, \
-the sites of a tile from slot 0.
-A town has 1 to 960 tiles, a tile at most 40 sites, all inside its box, ends included. \
+or, in a town with height,
+
+  tile LOW_X LOW_Y LOW_Z HIGH_X HIGH_Y HIGH_Z
+  site X Y Z CUE
+
+in whole centimetres; what follows a # is left out. The first tile settles whether the town has height, for all lines.
+Tiles are numbered from 0 in their order, the sites of a tile from slot 0.
+A town has 1 to 960 tiles, a tile at most 40 sites (30 with height), all inside its box, ends included.
 A cue is a number from 0 to 4294967295.
 A site with cue 0 is muted: it keeps its slot, but takes no place in a list. All others are sounding.
 What is wrong is said with line, tile and slot; then no file is written.
@@ -61,6 +67,7 @@ Before them: O, the smallest box around the stops; the tiles opened for each sto
 the tiles struck; and those
 neither opened nor struck. K is 1 to 64; there are 1 to 256 stops. \
 An opened tile is named at the first stop that needs it.
+In a town with height a stop is X,Y,Z.
 """,
     "draw": """\
 town draw FILE K X,Y .. PAGE
@@ -73,6 +80,7 @@ The numbers are those of
 the engine, asked when the page is written; of O and the three points, docs/TOOL.md says more. \
 The file must pass the full
 check.
+In a town with height a stop is X,Y,Z. The map is the plan, seen from above; z is written beside x and y.
 """,
     "renew": """\
 town renew OLD FILE
@@ -82,6 +90,7 @@ and a tile with a cue 0
 is refused with 16. All else of it must pass the full check. FILE is that of the same town, with its muted sites; \
 they are printed.
 A damaged file, or one of two versions, may look the same: renew only a file that you know to be old.
+A file with height is never old: a good one is written as it is.
 """,
 }
 
@@ -89,7 +98,7 @@ A damaged file, or one of two versions, may look the same: renew only a file tha
 SHOWN = 20  # faults of a text, tiles with muted sites
 MAX_TEXT = 2**24  # bytes of a text; the largest town takes some 2 million
 NUMBER = "[+-]?[0-9]{1,30}"
-STOP = f"{NUMBER},{NUMBER}"
+STOP = f"{NUMBER},{NUMBER}(,{NUMBER})?"
 
 
 class Usage(Exception):
@@ -103,7 +112,7 @@ class Wrong(Exception):
         super().__init__("\n".join(lines))
 
 
-def _content(name, most=MAX_FILE + 1):
+def _content(name, most=MAX_FILE_3 + 1):
     """What a file holds; of a device or a pipe, which may have no end, at most so many bytes."""
     try:
         with open(name, "rb") as file:
@@ -127,16 +136,20 @@ def _refused(name, content, refused, stops=(), k=0):
 
 def _stop(part):
     if not re.fullmatch(STOP, part):
-        raise Usage(f"a stop is X,Y, two whole numbers, not `{part}`")
-    x, y = part.split(",")
-    return int(x), int(y)
+        raise Usage(f"a stop is X,Y, two whole numbers, or X,Y,Z with height, not `{part}`")
+    return tuple(map(int, part.split(",")))
 
 
 def _question(arguments):
     k, *stops = arguments
     if not re.fullmatch(NUMBER, k):
         raise Usage(f"K is a whole number, not `{k}`")
-    return int(k), [_stop(stop) for stop in stops]
+    read = [_stop(stop) for stop in stops]
+    for stop in read:
+        if len(stop) != len(read[0]):
+            one, other = town.stop_words(read[0]), town.stop_words(stop)
+            raise Usage(f"the stops are all X,Y or all X,Y,Z, not `{one}` and `{other}`")
+    return int(k), read
 
 
 def make(arguments):
@@ -170,8 +183,9 @@ def show(arguments):
 
 
 def check(arguments):
-    tiles = town.read(_good(Engine(), *arguments))
-    blocks = town.directory_blocks(len(tiles))
+    content = _good(Engine(), *arguments)
+    tiles = town.read(content)
+    blocks = town.layout(content).directory_blocks(len(tiles))
     print(f"{arguments[0]}: good: {town.size(tiles)}, {blocks + len(tiles)} blocks, {blocks} of them of the directory")
 
 
@@ -180,7 +194,7 @@ def _counted(content):
     file = bytearray(content)
     for number, tile in enumerate(town.read(content)):
         town.put_muted(file, number, len(tile.sites) - tile.sounding)
-    for position in range(town.directory_blocks(town.two_bytes(file, 6))):
+    for position in range(town.layout(file).directory_blocks(town.two_bytes(file, 6))):
         at = BLOCK_SIZE * position
         file[at + 510:at + 512] = words.sums(file[at:at + 512])
     return bytes(file)
@@ -194,7 +208,7 @@ def renew(arguments):
         engine.validate(content)
     except Refused as refused:
         # An old file. 16 comes after the directory was accepted, so that its tiles can be read.
-        if refused.number != 16 or not town.none_muted(content):
+        if refused.number != 16 or town.layout(content) == town.HEIGHT or not town.none_muted(content):
             raise _refused(name, content, refused) from None
         muted = [f"  muted: tile {number}, {town.muted_slots(tile.sites)}"
                  for number, tile in enumerate(town.read(content)) if tile.sounding < len(tile.sites)]
@@ -206,6 +220,8 @@ def renew(arguments):
     tiles = town.read(content)
     _save(target, engine.write(tiles))
     more = [f"  {town.several(len(muted) - SHOWN, 'more tile')} like these"] if len(muted) > SHOWN else []
+    if town.has_height(tiles):
+        more = [f"  written as it was: {words.NEVER_OLD}"]
     print("\n".join([f"{target}: {town.size(tiles)}, {len(content)} bytes", *muted[:SHOWN], *more]))
 
 

@@ -8,16 +8,18 @@ from typing import NamedTuple
 
 BLOCK_SIZE = 512
 MAX_TILES = 960
-MAX_SITES = 40
+MAX_SITES = 40  # in a tile; a site's number has it for all towns
+MAX_SITES_3 = 30  # in a tile of a town with height
 MAX_STOPS = 256
 MAX_K = 64
 MAX_FILE = 512_000
+MAX_FILE_3 = 520_704  # of a town with height
 LIMIT = 1_000_000
 BAD_BOX = 9_000_000_000_000_000_000
 
 NAMES = {
     1: "length", 2: "sync", 3: "check", 4: "kind", 5: "position", 6: "tiles", 7: "entries", 8: "padding", 9: "box",
-    10: "stray", 11: "k", 12: "stops", 13: "spot", 14: "short", 15: "supply", 16: "muted",
+    10: "stray", 11: "k", 12: "stops", 13: "spot", 14: "short", 15: "supply", 16: "muted", 17: "axes",
 }
 
 
@@ -35,7 +37,7 @@ class Refused(Exception):
 
 
 class Joined(NamedTuple):
-    """An answer of nearby_join. lists has, for each stop, its used places: (squared distance, site, cue)."""
+    """An answer of the join. lists has, for each stop, its used places: (squared distance, site, cue)."""
     used: int
     opened: int
     struck: int
@@ -52,7 +54,7 @@ class _Pruned(Structure):
 
 
 class _Validated(Structure):
-    _fields_ = [(name, c_uint32) for name in ("number", "block", "tiles")]
+    _fields_ = [(name, c_uint32) for name in ("number", "block", "tiles", "axes")]
 
 
 class _Written(Structure):
@@ -86,9 +88,15 @@ def refusal(call, *given):
     return 0, 0
 
 
+def by_axis(box):
+    """The ends of a box as the calls take them: low x, high x, low y, high y, and so on."""
+    axes = len(box) // 2
+    return [end for axis in range(axes) for end in (box[axis], box[axis + axes])]
+
+
 class Engine:
     """The loaded library, that of a path or else the one that `library` finds. `calls` has the header's calls as they
-    are."""
+    are. A box or a stop says by its length whether the call for two axes is meant or the one for three."""
 
     def __init__(self, path=None):
         path = path or library()
@@ -101,21 +109,27 @@ class Engine:
     def _declare(self):
         data, whole = POINTER(c_uint8), POINTER(c_int32)
         many = POINTER(c_uint32)
+        room = [POINTER(c_uint64), c_size_t, many, c_size_t, many, c_size_t, data, c_size_t]
         lib = self.calls
         lib.nearby_block_check.argtypes = [data, c_size_t]
         lib.nearby_block_check.restype = c_uint32
-        lib.nearby_margin.argtypes = [c_int32] * 12
-        lib.nearby_margin.restype = c_int64
-        lib.nearby_join.argtypes = [data, c_size_t, whole, c_size_t, whole, c_size_t, c_uint32, POINTER(c_uint64),
-                                    c_size_t, many, c_size_t, many, c_size_t, data, c_size_t]
-        lib.nearby_join.restype = _Joined
-        lib.nearby_prune.argtypes = [data, c_size_t, c_int32, c_int32, c_int32, c_int32, c_uint32, data, c_size_t]
-        lib.nearby_prune.restype = _Pruned
         lib.nearby_validate.argtypes = [data, c_size_t]
         lib.nearby_validate.restype = _Validated
-        lib.nearby_write.argtypes = [whole, c_size_t, many, c_size_t, whole, c_size_t, whole, c_size_t, many, c_size_t,
-                                     data, c_size_t]
-        lib.nearby_write.restype = _Written
+        # The calls for two axes and those for three, by the number of axes.
+        self._margin = {2: lib.nearby_margin, 3: lib.nearby_margin3}
+        self._join = {2: lib.nearby_join, 3: lib.nearby_join3}
+        self._prune = {2: lib.nearby_prune, 3: lib.nearby_prune3}
+        self._write = {2: lib.nearby_write, 3: lib.nearby_write3}
+        for axes in (2, 3):
+            self._margin[axes].argtypes = [c_int32] * 6 * axes
+            self._margin[axes].restype = c_int64
+            self._join[axes].argtypes = [data, c_size_t, *[whole, c_size_t] * axes, c_uint32, *room]
+            self._join[axes].restype = _Joined
+            self._prune[axes].argtypes = [data, c_size_t, *[c_int32] * 2 * axes, c_uint32, data, c_size_t]
+            self._prune[axes].restype = _Pruned
+            self._write[axes].argtypes = [whole, c_size_t, many, c_size_t, *[whole, c_size_t] * axes, many, c_size_t,
+                                          data, c_size_t]
+            self._write[axes].restype = _Written
 
     @staticmethod
     def file(content):
@@ -128,8 +142,8 @@ class Engine:
         return self.calls.nearby_block_check(data, length)
 
     def margin(self, o, e, b):
-        """The margin of boxes O, E and B, each (low x, low y, high x, high y) as in a directory."""
-        value = self.calls.nearby_margin(o[0], o[2], o[1], o[3], e[0], e[2], e[1], e[3], b[0], b[2], b[1], b[3])
+        """The margin of boxes O, E and B, each with its lows and then its highs as in a directory."""
+        value = self._margin[len(o) // 2](*by_axis(o), *by_axis(e), *by_axis(b))
         if value == BAD_BOX:
             raise ValueError("a bad box")
         return value
@@ -145,13 +159,14 @@ class Engine:
         return self.margin(p, box, p)
 
     def join(self, content, stops, k):
-        """nearby_join of bytes, or of a slice made by `file`. Raises Refused."""
+        """nearby_join, or nearby_join3 for stops with z, of bytes or of a slice made by `file`. Raises Refused."""
         data, length = content if isinstance(content, tuple) else self.file(content)
         n, room = len(stops), max(1, len(stops) * min(k, MAX_K))
-        x, y = lent(c_int32, [stop[0] for stop in stops]), lent(c_int32, [stop[1] for stop in stops])
+        axes = len(stops[0]) if stops else 2
+        spots = [part for axis in range(axes) for part in lent(c_int32, [stop[axis] for stop in stops])]
         dist, site, cue = (c_uint64 * room)(), (c_uint32 * room)(), (c_uint32 * room)()
         marks = (c_uint8 * MAX_TILES)()
-        r = self.calls.nearby_join(data, length, *x, *y, k, dist, room, site, room, cue, room, marks, MAX_TILES)
+        r = self._join[axes](data, length, *spots, k, dist, room, site, room, cue, room, marks, MAX_TILES)
         if r.number:
             raise Refused(r.number, r.block)
         lists = [list(zip(dist[i * k:i * k + r.used], site[i * k:i * k + r.used], cue[i * k:i * k + r.used]))
@@ -159,10 +174,10 @@ class Engine:
         return Joined(r.used, r.opened, r.pruned, bytes(marks)[:r.tiles], lists)
 
     def strike(self, content, box, k):
-        """nearby_prune: the marks, 1 for each struck tile. Raises Refused."""
+        """nearby_prune, or nearby_prune3 for a box with z: the marks, 1 for each struck tile. Raises Refused."""
         data, length = content if isinstance(content, tuple) else self.file(content)
         marks = (c_uint8 * MAX_TILES)()
-        r = self.calls.nearby_prune(data, length, box[0], box[2], box[1], box[3], k, marks, MAX_TILES)
+        r = self._prune[len(box) // 2](data, length, *by_axis(box), k, marks, MAX_TILES)
         if r.number:
             raise Refused(r.number, r.block)
         return bytes(marks)[:r.tiles]
@@ -176,13 +191,16 @@ class Engine:
         return r.tiles
 
     def write(self, tiles):
-        """The file of a town, given as a list of (box, sites) with sites (x, y, cue). Raises Refused."""
+        """The file of a town, given as a list of (box, sites) with sites (x, y, cue), or with boxes of six numbers and
+        sites (x, y, z, cue). Raises Refused."""
+        axes = len(tiles[0][0]) // 2 if tiles else 2
         sites = [site for _, held in tiles for site in held]
         boxes = lent(c_int32, [end for box, _ in tiles for end in box])
         counts = lent(c_uint32, [len(held) for _, held in tiles])
-        x, y, cue = (lent(kind, [site[i] for site in sites]) for i, kind in enumerate((c_int32, c_int32, c_uint32)))
-        out = (c_uint8 * MAX_FILE)()
-        r = self.calls.nearby_write(*boxes, *counts, *x, *y, *cue, out, MAX_FILE)
+        lists = [part for i, kind in enumerate([c_int32] * axes + [c_uint32])
+                 for part in lent(kind, [site[i] for site in sites])]
+        out = (c_uint8 * MAX_FILE_3)()
+        r = self._write[axes](*boxes, *counts, *lists, out, MAX_FILE_3)
         if r.number:
             raise Refused(r.number, r.block)
         return bytes(out)[:r.length]

@@ -6,15 +6,21 @@
   const data = JSON.parse(document.getElementById("data").textContent);
   const WORDS = ["neither", "struck", "opened"], SITES = 40;
   const T = data.boxes.length, N = data.stops.length;
+  // How many axes the town has: 2, or 3 with height; and how many numbers a site has.
+  const A = data.o.length / 2, SIZE = A + 1, AXES = ["x", "y", "z"].slice(0, A);
   const state = {k: data.k, stop: 0, step: null, e: null, b: null, tile: null, pick: null, zoom: 1, tab: "stop"};
   const $ = (id) => document.getElementById(id);
   const plural = (n, word) => n + " " + word + (n === 1 ? "" : "s");
-  const count = (t) => data.sites[t].length / 3;
+  const count = (t) => data.sites[t].length / SIZE;
   // A site with cue 0 is muted: it takes no place. The others are sounding.
-  const muted = data.sites.map((held) => held.filter((end, at) => at % 3 === 2 && end === 0).length);
+  const muted = data.sites.map((held) => held.filter((end, at) => at % SIZE === A && end === 0).length);
   const sounding = (t) => count(t) - muted[t];
   const mark = (t) => +data.marks[state.k - 1][t];
-  const boxWords = (b) => `x ${b[0]}..${b[2]}, y ${b[1]}..${b[3]}`;
+  const boxWords = (b) => AXES.map((name, axis) => `${name} ${b[axis]}..${b[axis + A]}`).join(", ");
+  const spotWords = (spot) => `(${spot.join(", ")})`;
+  // What the map shows of a box: low x, low y, high x, high y.
+  const plan = (b) => [b[0], b[1], b[A], b[A + 1]];
+  const plans = data.boxes.map(plan), siteOf = (t, slot) => data.sites[t].slice(SIZE * slot, SIZE * slot + SIZE);
 
   function make(name, attributes, text, space) {
     const made = space ? document.createElementNS("http://www.w3.org/2000/svg", name) : document.createElement(name);
@@ -48,12 +54,12 @@
   // The list of stop i after m turns: of all places that are ever in its lists, in their order, the first k of opened
   // tiles.
   function listOf(i, m) {
-    const opened = new Set(queueOf(i).slice(0, m).map((row) => row.tile)), held = data.places[i], list = [];
-    for (let at = 0; at < held.length && list.length < state.k; at += 2) {
-      const site = held[at], tile = Math.floor(site / SITES), slot = site % SITES;
+    const opened = new Set(queueOf(i).slice(0, m).map((row) => row.tile)), places = data.places[i], list = [];
+    for (let at = 0; at < places.length && list.length < state.k; at += 2) {
+      const site = places[at], dist = places[at + 1], tile = Math.floor(site / SITES), slot = site % SITES;
       if (opened.has(tile)) {
-        const [x, y, cue] = data.sites[tile].slice(3 * slot, 3 * slot + 3);
-        list.push({site, tile, slot, dist: held[at + 1], x, y, cue});
+        const held = siteOf(tile, slot);
+        list.push({site, tile, slot, dist, x: held[0], y: held[1], cue: held[A]});
       }
     }
     return list;
@@ -68,7 +74,7 @@
 
   // ---- the map ------------------------------------------------------------------------------------------------------
   const view = (function () {
-    const all = data.boxes.concat([data.o]);
+    const all = plans.concat([plan(data.o)]);
     let x0 = Math.min(...all.map((b) => b[0])), x1 = Math.max(...all.map((b) => b[2]));
     let y0 = Math.min(...all.map((b) => b[1])), y1 = Math.max(...all.map((b) => b[3]));
     const size = Math.max(x1 - x0, y1 - y0, 10), least = size / 2.5, edge = size * 0.05;
@@ -96,19 +102,22 @@
     `M${p[0]} ${-p[1]}m${-r} ${-r}l${2 * r} ${2 * r}m0 ${-2 * r}l${-2 * r} ${2 * r}`).join("");
   const tiles = data.boxes.map((_, t) => draw("path", {"data-tile": t}));
   // Larger boxes first, so that a box inside another can be clicked.
-  const area = (t) => (data.boxes[t][2] - data.boxes[t][0]) * (data.boxes[t][3] - data.boxes[t][1]);
-  layer.tiles.append(...tiles.map((_, t) => t).sort((a, b) => area(b) - area(a) || a - b).map((t) => tiles[t]));
-  layer.o.append(draw("path", {class: "o", d: outline(data.o)}));
+  const area = (t) => (plans[t][2] - plans[t][0]) * (plans[t][3] - plans[t][1]);
+  // Of boxes as large, the higher one is seen from above.
+  const top = (t) => (A === 3 ? data.boxes[t][5] : 0);
+  layer.tiles.append(...tiles.map((_, t) => t).sort((a, b) => area(b) - area(a) || top(a) - top(b) || a - b)
+    .map((t) => tiles[t]));
+  layer.o.append(draw("path", {class: "o", d: outline(plan(data.o))}));
   const every = [];
-  data.sites.forEach((held) => { for (let at = 0; at < held.length; at += 3) every.push(held.slice(at, at + 3)); });
+  data.sites.forEach((_, t) => { for (let slot = 0; slot < count(t); slot++) every.push(siteOf(t, slot)); });
   // Sounding sites are dots, muted ones crosses.
-  const heard = every.filter((site) => site[2]), silent = every.filter((site) => !site[2]);
+  const heard = every.filter((site) => site[A]), silent = every.filter((site) => !site[A]);
   const rim = draw("path", {class: "rim", d: dots(heard)}), mutedRim = draw("path", {class: "muted rim"});
   const soundingSites = draw("path", {class: "sites", d: dots(heard)}), mutedSites = draw("path", {class: "muted"});
   layer.sites.append(mutedRim, mutedSites, rim, soundingSites);
-  const stops = data.stops.map(([x, y], i) => {
+  const stops = data.stops.map((spot, i) => {
     const group = draw("g", {class: "stop", role: "button", tabindex: -1, "data-stop": i,
-      "aria-label": `Stop ${i} at (${x}, ${y})`});
+      "aria-label": `Stop ${i} at ${spotWords(spot)}`});
     group.append(draw("circle", {class: "hit", r: 20}), draw("circle", {class: "dot", r: 9, "stroke-width": 2}),
       draw("text", {"text-anchor": "middle", y: 4, "font-size": i > 99 ? 8 : 11}, i));
     layer.stops.append(group);
@@ -119,9 +128,9 @@
   let unit = 1; // how many centimetres a pixel is
   // A box as it is drawn: one without width or height is a bar, to be seen and clicked.
   const BAR = 9;
-  const flat = (t) => data.boxes[t][1] === data.boxes[t][3];
+  const flat = (t) => plans[t][1] === plans[t][3];
   function drawnBox(t) {
-    const b = data.boxes[t].slice();
+    const b = plans[t].slice();
     for (const axis of [0, 1]) {
       if (b[axis] === b[axis + 2]) {
         b[axis] -= BAR * unit;
@@ -205,7 +214,7 @@
     }
     for (const [t, name] of [[state.e, "E"], [state.b, "B"]]) {
       if (t === null) continue;
-      const b = data.boxes[t];
+      const b = plans[t];
       layer.pair.append(label([(b[0] + b[2]) / 2, (b[1] + b[3]) / 2], name, "letter", 18));
     }
   }
@@ -274,14 +283,14 @@
   // The three points, from letters: which end of O, which end of E, and for b an end of B or o itself.
   function threePoints() {
     if (state.e === null || state.b === null || !data.points[state.e]) return null;
-    const letters = data.points[state.e].slice(6 * state.b, 6 * state.b + 6);
+    const letters = data.points[state.e].slice(3 * A * state.b, 3 * A * state.b + 3 * A);
     const boxes = [data.o, data.boxes[state.e], data.boxes[state.b]];
-    const end = (box, axis, letter) => box[letter === "l" ? axis : axis + 2];
-    const axes = [0, 1].map((axis) => {
+    const end = (box, axis, letter) => box[letter === "l" ? axis : axis + A];
+    const axes = AXES.map((_, axis) => {
       const [o, e, b] = letters.slice(3 * axis, 3 * axis + 3), at = end(boxes[0], axis, o);
       return [at, end(boxes[1], axis, e), b === "o" ? at : end(boxes[2], axis, b)];
     });
-    return [0, 1, 2].map((j) => [axes[0][j], axes[1][j]]);
+    return [0, 1, 2].map((j) => axes.map((points) => points[j]));
   }
   function showPair() {
     const {e, b} = state, o = data.o;
@@ -297,29 +306,30 @@
       fill($("corners"), []);
       return;
     }
-    const spots = [[o[0], o[1]], [o[2], o[1]], [o[0], o[3]], [o[2], o[3]]];
+    // The corners in the order of the data: low-low, high-low, low-high, high-high; those of low z first.
+    const spots = data.corners.map((_, j) => AXES.map((_, axis) => o[j >> axis & 1 ? axis + A : axis]));
     const far = data.corners.map((c) => c.far[e]), near = data.corners.map((c) => c.near[b]);
     const nearer = far.every((value, j) => value < near[j]);
     const points = threePoints();
     $("margin").replaceChildren();
     if (points) {
       const margin = data.margins[e][b];
-      const at = spots.findIndex((spot) => spot[0] === points[0][0] && spot[1] === points[0][1]);
+      const at = spots.findIndex((spot) => spot.every((end, axis) => end === points[0][axis]));
       const value = make("strong", {id: "margin-value"}, margin);
       const is = margin < 0 ? "nearer" : "not nearer";
       $("margin").append("The margin is ", value, `: tile ${e} is ${is} than tile ${b} from O` +
         (margin === 0 ? "; a margin of 0 is not nearer" : "") + `. D(o,e) is ${far[at]}, D(o,b) is ${near[at]}.`);
       const [po, pe, pb] = points;
-      fill($("points"), [{cells: ["o", po[0], po[1], "a corner of O"]},
-        {cells: ["e", pe[0], pe[1], `the point of tile ${e} farthest from o`]},
-        {cells: ["b", pb[0], pb[1], `the point of tile ${b} closest to o`]}]);
+      fill($("points"), [{cells: ["o", ...po, "a corner of O"]},
+        {cells: ["e", ...pe, `the point of tile ${e} farthest from o`]},
+        {cells: ["b", ...pb, `the point of tile ${b} closest to o`]}]);
     } else {
       $("margin").textContent = `Tile ${e} is ${nearer ? "nearer" : "not nearer"} than tile ${b} from O, ` +
         "by the corners below; the margin of this pair is not on this page.";
       fill($("points"), []);
     }
     const rows = spots.map((spot, j) => (
-      {cells: [`(${spot[0]}, ${spot[1]})`, far[j], near[j], far[j] < near[j] ? "yes" : "no"]}));
+      {cells: [spotWords(spot), far[j], near[j], far[j] < near[j] ? "yes" : "no"]}));
     // The corners of a narrow O are the same points.
     fill($("corners"), rows.filter((row, j) => rows.findIndex((other) => other.cells[0] === row.cells[0]) === j));
   }
@@ -345,8 +355,8 @@
     $("tile-says").textContent = says.join("");
     const rows = [];
     for (let slot = 0; slot < count(t); slot++) {
-      const [x, y, cue] = data.sites[t].slice(3 * slot, 3 * slot + 3);
-      rows.push({kind: cue ? "" : "later", cells: [slot, SITES * t + slot, x, y, cue || "0, muted"]});
+      const spot = siteOf(t, slot), cue = spot.pop();
+      rows.push({kind: cue ? "" : "later", cells: [slot, SITES * t + slot, ...spot, cue || "0, muted"]});
     }
     fill($("sites"), rows);
   }
@@ -398,11 +408,15 @@
   }
 
   const title = `${data.name}: ${plural(T, "tile")}, ${plural(every.length, "site")}` +
-    `${silent.length ? ` (${silent.length} muted)` : ""}, ${plural(N, "stop")}`;
+    `${silent.length ? ` (${silent.length} muted)` : ""}${A === 3 ? ", with height" : ""}, ${plural(N, "stop")}`;
   document.title = $("title").textContent = title;
   $("k").max = data.kmax;
   data.notes.forEach((note) => $("notes").append(make("p", {class: "note"}, note)));
-  data.stops.forEach(([x, y], i) => $("stop").append(make("option", {value: i}, `Stop ${i} at (${x}, ${y})`)));
+  data.stops.forEach((spot, i) => $("stop").append(make("option", {value: i}, `Stop ${i} at ${spotWords(spot)}`)));
+  // With height the tables of points have a column for z, after y.
+  if (A === 3)
+    for (const id of ["points", "sites"])
+      [...$(id).tHead.rows[0].cells].find((cell) => cell.textContent === "y").after(make("th", {}, "z"));
   for (const id of ["e", "b", "tile"]) {
     $(id).append(make("option", {value: ""}, "none"));
     data.boxes.forEach((box, t) => $(id).append(make("option", {value: t}, id === "tile" ? `Tile ${t}` : t)));

@@ -16,15 +16,19 @@ alone has to be the margin of the boxes.
 
 Where two calls must agree, they are compared, and a page is not written if they do not.
 """
+import itertools
 import json
 import pkgutil
 
 from .ask import OPENED, STRUCK
 from .engine import MAX_K, MAX_SITES
-from .town import around
+from .town import around, ends, has_height
 
 STEPS = 2000  # lists after a turn, in a page
 PAIRS = 30_000  # margins, in a page
+SEEN_FROM_ABOVE = ("The town has height, and the map shows it from above: x and y. Boxes may lie over one another: "
+                   "choose a hidden one by its number. D takes in z, so that what lies inside a circle may be farther "
+                   "than it looks.")
 
 
 class Disagrees(Exception):
@@ -44,7 +48,7 @@ class Run:
         self.file = engine.file(content)
         self.held = [t for t, tile in enumerate(tiles) if tile.sounding]
         self.o = around(stops)
-        self.notes = []
+        self.notes = [SEEN_FROM_ABOVE] if has_height(tiles) else []
         self.kmax = min(MAX_K, max(k, sum(tile.sounding for tile in tiles)))
         self.joined = [engine.join(self.file, stops, k) for k in range(1, self.kmax + 1)]
         self.queues = [sorted((engine.near(stop, tiles[t].box), t) for t in self.held) for stop in stops]
@@ -134,9 +138,10 @@ class Run:
         return most
 
     def corners(self):
-        """Of each corner of O (low-low, high-low, low-high, high-high): far and near of every tile's box."""
-        x0, y0, x1, y1 = self.o
-        for corner in ((x0, y0), (x1, y0), (x0, y1), (x1, y1)):
+        """Of each corner of O (low-low, high-low, low-high, high-high; with height those of low z first): far and near
+        of every tile's box."""
+        for reverse in itertools.product(*[(low, high) for _, low, high in reversed(ends(self.o))]):
+            corner = reverse[::-1]
             yield ([self.engine.far(corner, tile.box) for tile in self.tiles],
                    [self.engine.near(corner, tile.box) for tile in self.tiles])
 
@@ -180,14 +185,12 @@ def margins(run, e):
     box, o = run.tiles[e].box, run.o
     values, letters = [], []
     for b, tile in enumerate(run.tiles):
-        other = tile.box
-        x, (ox, ex, bx) = _axis((o[0], o[2]), (box[0], box[2]), (other[0], other[2]))
-        y, (oy, ey, by) = _axis((o[1], o[3]), (box[1], box[3]), (other[1], other[3]))
-        value = run.engine.margin(o, box, other)
-        _agree(run.engine.margin((ox, oy, ox, oy), (ex, ey, ex, ey), (bx, by, bx, by)), value,
+        axes = [_axis(*(held[1:] for held in of)) for of in zip(ends(o), ends(box), ends(tile.box))]
+        value = run.engine.margin(o, box, tile.box)
+        _agree(run.engine.margin(*(point + point for point in zip(*(points for _, points in axes)))), value,
                f"the margin of {e} and {b}")
         values.append(value)
-        letters.append(x + y)
+        letters += [letter for letter, _ in axes]
     return values, "".join(letters)
 
 

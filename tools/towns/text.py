@@ -1,16 +1,19 @@
 """A town as text, and back.
 
 A line is `tile LOW_X LOW_Y HIGH_X HIGH_Y`, or `site X Y CUE` for a site of the tile above it, in centimetres; what
-follows a # is left out. Tiles are numbered from 0 in their order, and the sites of a tile from slot 0.
-docs/FORMAT.md, part 5, has the grammar; a line that does not follow it is a fault.
+follows a # is left out. In a town with height they are `tile LOW_X LOW_Y LOW_Z HIGH_X HIGH_Y HIGH_Z` and
+`site X Y Z CUE`; the first tile settles which, for all lines. Tiles are numbered from 0 in their order, and the sites
+of a tile from slot 0. docs/FORMAT.md, part 5, has the grammar; a line that does not follow it is a fault.
 """
 import re
 from typing import NamedTuple, Optional
 
-from .engine import LIMIT, MAX_SITES, MAX_TILES, Refused
-from .town import Tile, is_muted, number, size
+from .engine import LIMIT, MAX_TILES, Refused
+from .town import AXES, HEIGHT, PLAN, Layout, Tile, box_words, end_names, ends, is_muted, number, size
 
-FORMS = {"tile": ("LOW_X", "LOW_Y", "HIGH_X", "HIGH_Y"), "site": ("X", "Y", "CUE")}
+# The numbers of a line by its word, in a plan town and in one with height.
+FORMS = {PLAN: {"tile": ("LOW_X", "LOW_Y", "HIGH_X", "HIGH_Y"), "site": ("X", "Y", "CUE")},
+         HEIGHT: {"tile": ("LOW_X", "LOW_Y", "LOW_Z", "HIGH_X", "HIGH_Y", "HIGH_Z"), "site": ("X", "Y", "Z", "CUE")}}
 MAX_CUE = 2**32 - 1
 WHOLE = re.compile(r"[+-]?[0-9]+")
 SPACES = re.compile(r"[ \t]+")
@@ -40,10 +43,11 @@ class Faulty(Exception):
 
 
 class Source(NamedTuple):
-    """A text's tiles, and the line of each tile and of each site."""
+    """A text's tiles, the line of each tile and of each site, and the layout of their town."""
     tiles: list
     tile_lines: list
     site_lines: list
+    layout: Layout
 
 
 def _shown(part):
@@ -57,11 +61,32 @@ def _whole(part):
     return -value if part[0] == "-" else value
 
 
-def _numbers(word, given):
+def _settled(lines):
+    """The layout of a text, and the line that settles it: the first tile with as many numbers as one of them takes."""
+    for line, word, given in lines:
+        for layout, form in FORMS.items():
+            if word == "tile" and len(given) == len(form[word]):
+                return layout, line
+    return PLAN, None
+
+
+def _miscounted(layout, settled, word, given):
+    """What is said of a line with too many or too few numbers."""
+    names, other = FORMS[layout][word], FORMS[PLAN if layout == HEIGHT else HEIGHT][word]
+    here = f"here are {len(given)}"
+    if settled and len(given) == len(other):
+        here += f", but the tile of line {settled} has {'no ' if layout == PLAN else ''}height"
+    due = f"{len(names)} numbers, {' '.join(names)}"
+    if not settled and len(names) < len(given) < len(other):
+        due += f", or {len(other)}, {' '.join(other)}"
+    return f"`{word}` takes {due}; {here}"
+
+
+def _numbers(layout, settled, word, given):
     """The numbers after `tile` or `site`, or what is wrong with them."""
-    names = FORMS[word]
+    names = FORMS[layout][word]
     if len(given) != len(names):
-        return None, f"`{word}` takes {len(names)} numbers, {' '.join(names)}; here are {len(given)}"
+        return None, _miscounted(layout, settled, word, given)
     for name, part in zip(names, given):
         if not WHOLE.fullmatch(part):
             return None, f"{name} is `{_shown(part)}`, not a whole number"
@@ -74,17 +99,20 @@ def _numbers(word, given):
 
 def parse(text):
     """The source, and the faults of lines that cannot be read at all."""
-    source, faults = Source([], [], []), []
     *ended, last = text.split("\n")
+    lines = []
     for line, content in enumerate([whole.removesuffix("\r") for whole in ended] + [last], 1):
         word, *given = SPACES.split(content.split("#")[0].strip(" \t"))
-        if not word:
-            continue
+        if word:
+            lines.append((line, word, given))
+    layout, settled = _settled(lines)
+    source, faults = Source([], [], [], layout), []
+    for line, word, given in lines:
         here = len(source.tiles) - 1 if word == "site" and source.tiles else None
-        if word not in FORMS:
+        if word not in FORMS[layout]:
             faults.append(Fault(line, None, None, f"`{_shown(word)}` is neither `tile` nor `site`"))
             continue
-        numbers, wrong = _numbers(word, given)
+        numbers, wrong = _numbers(layout, settled, word, given)
         if word == "tile":
             # A tile that cannot be read still counts, so that the numbers of those after it are right.
             source.tiles.append(Tile(tuple(numbers) if numbers else None, []))
@@ -109,28 +137,28 @@ def _beyond(name, value):
 
 
 def _box_faults(box):
-    for name, value in zip(("low x", "low y", "high x", "high y"), box):
+    for name, value in zip(end_names(box), box):
         if _beyond(name, value):
             yield _beyond(name, value)
-    for axis, low, high in (("x", box[0], box[2]), ("y", box[1], box[3])):
+    for axis, low, high in ends(box):
         if low > high:
             yield f"low {axis} {low} is above high {axis} {high}"
 
 
 def _site_faults(box, site):
-    x, y, cue = site
-    wrong = [words for words in (_beyond("x", x), _beyond("y", y)) if words]
+    *spot, cue = site
+    wrong = [words for words in map(_beyond, AXES, spot) if words]
     yield from wrong
     if not 0 <= cue <= MAX_CUE:
         yield f"the cue is {cue}, not a number from 0 to {MAX_CUE}"
     if box and not wrong:
-        yield from outside(box, x, y)
+        yield from outside(box, spot)
 
 
-def outside(box, x, y):
+def outside(box, spot):
     """That a site is outside its box, in words, if it is."""
-    if not (box[0] <= x <= box[2] and box[1] <= y <= box[3]):
-        yield f"the site at ({x}, {y}) is outside its box, x {box[0]}..{box[2]}, y {box[1]}..{box[3]}"
+    if not all(low <= end <= high for end, (_, low, high) in zip(spot, ends(box))):
+        yield f"the site at ({', '.join(map(str, spot))}) is outside its box, {box_words(box)}"
 
 
 def _town_faults(source):
@@ -142,8 +170,9 @@ def _town_faults(source):
     for t, tile in enumerate(source.tiles):
         wrong = list(_box_faults(tile.box)) if tile.box else []
         yield from (Fault(source.tile_lines[t], t, None, words) for words in wrong)
-        if len(tile.sites) > MAX_SITES:
-            yield Fault(source.site_lines[t][MAX_SITES], t, MAX_SITES, f"more than {MAX_SITES} sites in the tile")
+        most = source.layout.most
+        if len(tile.sites) > most:
+            yield Fault(source.site_lines[t][most], t, most, f"more than {most} sites in the tile")
         box = None if wrong else tile.box
         for slot, site in enumerate(tile.sites):
             if site:
@@ -153,8 +182,8 @@ def _town_faults(source):
 def _passable(source):
     """Whether all numbers fit the 32 bits in which the engine takes them."""
     whole = [end for tile in source.tiles for end in tile.box]
-    whole += [end for tile in source.tiles for site in tile.sites for end in site[:2]]
-    cues = [site[2] for tile in source.tiles for site in tile.sites]
+    whole += [end for tile in source.tiles for site in tile.sites for end in site[:-1]]
+    cues = [site[-1] for tile in source.tiles for site in tile.sites]
     return all(-2**31 <= n < 2**31 for n in whole) and all(0 <= cue <= MAX_CUE for cue in cues)
 
 
@@ -176,8 +205,8 @@ def show(tiles):
     lines = [f"# {size(tiles)}"]
     for t, tile in enumerate(tiles):
         what = "" if tile.sounding else ", muted" if tile.sites else ", empty"
-        lines.append("tile {} {} {} {}  # tile {}".format(*tile.box, t) + what)
+        lines.append(f"tile {' '.join(map(str, tile.box))}  # tile {t}{what}")
         for slot, site in enumerate(tile.sites):
-            lines.append("site {} {} {}  # site {}, slot {}".format(*site, number(t, slot), slot)
+            lines.append(f"site {' '.join(map(str, site))}  # site {number(t, slot)}, slot {slot}"
                          + (", muted" if is_muted(site) else ""))
     return "\n".join(lines) + "\n"

@@ -2,13 +2,14 @@
 
 The engine says the number and the block; the bytes say the rest.
 """
-from .engine import BLOCK_SIZE, LIMIT, MAX_FILE, MAX_K, MAX_SITES, MAX_STOPS, MAX_TILES, NAMES
+from .engine import BLOCK_SIZE, LIMIT, MAX_K, MAX_STOPS, MAX_TILES, NAMES
 from .text import outside
-from .town import (ENTRIES, ENTRY_SIZE, PAYLOAD, SITE_SIZE, block, directory_blocks, entry, is_muted, muted_slots,
-                   none_muted, several, site, two_bytes)
+from .town import (HEIGHT, PAYLOAD, PLAN, block, end_names, ends, entry, is_muted, layout, muted_slots, none_muted,
+                   several, sites, stop_words, two_bytes)
 
 PAYLOAD_END = 496
 CHECK = 510
+NEVER_OLD = "a file with height is never old"
 
 
 def sums(held):
@@ -29,9 +30,10 @@ class Blocks:
 
     def __init__(self, content):
         self.content = content
+        self.layout = layout(content)
         self.count = len(content) // BLOCK_SIZE
         self.tiles = two_bytes(content, 6)
-        self.directory = directory_blocks(self.tiles)
+        self.directory = self.layout.directory_blocks(self.tiles)
 
     def is_directory(self, position):
         """Block 0 is always of the directory; the others by what block 0 says of T."""
@@ -45,17 +47,17 @@ class Blocks:
     def entries_due(self, position):
         if not self.is_directory(position):
             return entry(self.content, position - self.directory).count
-        return min(ENTRIES, self.tiles - ENTRIES * position)
+        return min(self.layout.entries, self.tiles - self.layout.entries * position)
 
     def zeros(self, position):
         """The bytes due to be zero, each with what it is."""
         held = block(self.content, position)
         entries = two_bytes(held, 4)
         if self.is_directory(position):
-            first, what = PAYLOAD + ENTRY_SIZE * entries, "past the last entry"
+            first, what = PAYLOAD + self.layout.entry_size * entries, "past the last entry"
         else:
             yield from ((at, "zero in a tile, where a directory block has T") for at in (6, 7))
-            first, what = PAYLOAD + SITE_SIZE * entries, "past the last site"
+            first, what = PAYLOAD + self.layout.site_size * entries, "past the last site"
         yield from ((at, "between the head and the payload") for at in range(8, PAYLOAD))
         yield from ((at, what) for at in range(first, PAYLOAD_END))
         yield from ((at, "between the payload and the check") for at in range(PAYLOAD_END, CHECK))
@@ -65,7 +67,10 @@ def _length(content):
     there = f"the file has {len(content)} bytes"
     if len(content) % BLOCK_SIZE:
         there += f", {several(len(content) // BLOCK_SIZE, 'block')} and {several(len(content) % BLOCK_SIZE, 'byte')}"
-    return f"a multiple of {BLOCK_SIZE} bytes, from {BLOCK_SIZE} to {MAX_FILE}", there
+    due = f"a multiple of {BLOCK_SIZE} bytes, from {BLOCK_SIZE} to {layout(content).longest}"
+    if len(content) > PLAN.longest and content[1] not in (PLAN.directory, HEIGHT.directory):
+        due += f", with height to {HEIGHT.longest}"
+    return due, there
 
 
 def _sync(file, position):
@@ -79,7 +84,11 @@ def _check(file, position):
 
 
 def _kind(file, position):
-    due = "1, a block of the directory" if file.is_directory(position) else "2, a tile"
+    if file.layout == PLAN:
+        due = "1, a block of the directory" if file.is_directory(position) else "2, a tile"
+        due += ", or 3, one with height" if position == 0 else ""
+    else:
+        due = "3, a block of the directory with height" if file.is_directory(position) else "4, a tile with height"
     return f"byte 1, the kind, is {due}", f"byte 1 is {block(file.content, position)[1]}"
 
 
@@ -95,6 +104,7 @@ def _tiles(file, position):
         return f"the T of block 0, {file.tiles}", there
     if not 1 <= says <= MAX_TILES:
         return f"T from 1 to {MAX_TILES}", there
+    directory_blocks = file.layout.directory_blocks
     room = [t for t in range(1, MAX_TILES + 1) if t + directory_blocks(t) == file.count]
     due = (f"T {room[0]}, as the file has {file.count} blocks" if room
            else f"a T that takes {file.count} blocks (there is none)")
@@ -122,16 +132,17 @@ def _padding(file, position):
 
 
 def _box(file, position):
-    for tile in range(ENTRIES * position, ENTRIES * position + file.entries_due(position)):
+    first = file.layout.entries * position
+    for tile in range(first, first + file.entries_due(position)):
         box, count, muted = entry(file.content, tile)
-        for name, value in zip(("low x", "low y", "high x", "high y"), box):
+        for name, value in zip(end_names(box), box):
             if not -LIMIT <= value <= LIMIT:
                 return f"coordinates from {-LIMIT} to {LIMIT}", f"{name} of tile {tile} is {value}"
-        for axis, low, high in (("x", box[0], box[2]), ("y", box[1], box[3])):
+        for axis, low, high in ends(box):
             if low > high:
                 return "no low end above its high end", f"tile {tile} has low {axis} {low} and high {axis} {high}"
-        if count > MAX_SITES:
-            return f"at most {MAX_SITES} sites in a tile", f"the count of tile {tile} is {count}"
+        if count > file.layout.most:
+            return f"at most {file.layout.most} sites in a tile", f"the count of tile {tile} is {count}"
         if muted > count:
             return ("no more muted sites in a tile than sites",
                     f"the muted number of tile {tile} is {muted}, its count {count}")
@@ -141,23 +152,24 @@ def _box(file, position):
 def _stray(file, position):
     tile = position - file.directory
     box, count, _ = entry(file.content, tile)
-    held = block(file.content, position)
-    for slot in range(count):
-        x, y, _ = site(held, slot)
-        for words in outside(box, x, y):
+    for slot, (*spot, _) in enumerate(sites(file.content, position, count)):
+        for words in outside(box, spot):
             return "all sites inside the box of their tile", f"slot {slot} of tile {tile}: {words}"
     return None
 
 
 def _muted(file, position):
     due = entry(file.content, position - file.directory)
-    held = block(file.content, position)
-    sites = [site(held, slot) for slot in range(due.count)]
-    muted = sum(map(is_muted, sites))
+    held = sites(file.content, position, due.count)
+    muted = sum(map(is_muted, held))
+    if file.layout == HEIGHT:
+        old = f"{NEVER_OLD}: muted sites were always counted there"
+    elif none_muted(file.content):
+        old = "if you know that the file is from before muted sites were counted: `renew` writes it again"
+    else:
+        old = "no file from before muted sites were counted: the directory has some"
     return (f"{several(due.muted, 'site')} with cue 0, the directory's muted number of this tile",
-            f"{several(muted, 'site')} with cue 0" + (f", {muted_slots(sites)}" if muted else ""),
-            "if you know that the file is from before muted sites were counted: `renew` writes it again"
-            if none_muted(file.content) else "no file from before muted sites were counted: the directory has some")
+            f"{several(muted, 'site')} with cue 0" + (f", {muted_slots(held)}" if muted else ""), old)
 
 
 OF_BLOCKS = {2: _sync, 3: _check, 4: _kind, 5: _position, 6: _tiles, 7: _entries, 8: _padding, 9: _box, 10: _stray,
@@ -169,7 +181,15 @@ def of_file(number):
     return number == 1 or number in OF_BLOCKS
 
 
-def _of_question(number, stops, k):
+def _axes(content, stops):
+    """Of stops with another number of axes than the town."""
+    there = f"stop 0 is at {stop_words(stops[0])}"
+    if layout(content) == HEIGHT:
+        return "stops X,Y,Z, as the town has height", there, "give each stop its z, or ask a town without height"
+    return "stops X,Y, as the town has no height", there, "leave out the z of each stop, or ask a town with height"
+
+
+def _of_question(content, number, stops, k):
     if number == 11:
         return f"k from 1 to {MAX_K}", f"k is {k}"
     if number == 12:
@@ -177,12 +197,14 @@ def _of_question(number, stops, k):
     if number == 13:
         for i, stop in enumerate(stops):
             if not all(-LIMIT <= end <= LIMIT for end in stop):
-                return f"coordinates from {-LIMIT} to {LIMIT}", f"stop {i} is at {stop[0]},{stop[1]}"
+                return f"coordinates from {-LIMIT} to {LIMIT}", f"stop {i} is at {stop_words(stop)}"
+    if number == 17:
+        return _axes(content, stops)
     return None
 
 
 def refusal(content, refused, stops=(), k=0):
-    """A refusal as lines: number, name and block; what was due; what stood there; of 16, what may help."""
+    """A refusal as lines: number, name and block; what was due; what stood there; of 16 and 17, what may help."""
     number, position = refused.number, refused.block
     head = f"refused {number} ({NAMES[number]})"
     if number == 1:
@@ -192,6 +214,6 @@ def refusal(content, refused, stops=(), k=0):
         head += f", block {position}, {file.name(position)}"
         said = OF_BLOCKS[number](file, position)
     else:
-        said = _of_question(number, stops, k)
+        said = _of_question(content, number, stops, k)
     due, there, *more = said or ("?", "?")
     return [head, f"  due: {due}", f"  there: {there}", *(f"  {line}" for line in more)]
