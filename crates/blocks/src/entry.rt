@@ -107,13 +107,25 @@ fn entry_valid(axes: usize, s: &[u8], i: usize) -> bool
     )
 }
 
+// The same: compiled code has it twice, each with the number of axes as a constant.
+fn entry_passes(axes: usize, s: &[u8], i: usize) -> bool
+    requires { ⌜ KnownAxes axes × (i < entriesPerBlock axes) × (length (now s) ≡ blockSize) ⌝ }
+    ensures { λ r. ⌜ r ≡ entryValid axes (now (s .entry)) i ⌝ }
+{
+    if axes == layout::HEIGHT {
+        entry_valid(layout::HEIGHT, s, i)
+    } else {
+        entry_valid(layout::PLAN, s, i)
+    }
+}
+
 pub fn entries_valid(axes: usize, s: &[u8], n: usize) -> bool
     requires { ⌜ KnownAxes axes × (n ≤ entriesPerBlock axes) × (length (now s) ≡ blockSize) ⌝ }
     ensures { λ r. ⌜ r ≡ every (entryValid axes (now (s .entry))) n ⌝ }
 {
     let mut i = 0;
     while i < n {
-        if !entry_valid(axes, s, i) {
+        if !entry_passes(axes, s, i) {
             return false;
         }
         i += 1;

@@ -19,15 +19,15 @@ abbrev μ-loop : tie.MeasureT-loop
 loop-holds : tie.Need-loop-holds Inv-loop μ-loop
 loop-holds c = λ j l. absurd (omega arith)
 
-entry-valid-requires : tie.Need-entry-valid-requires Inv-loop μ-loop
-entry-valid-requires c κs = search needs
+entry-passes-requires : tie.Need-entry-passes-requires Inv-loop μ-loop
+entry-passes-requires c κs = search needs
 
 returns : tie.Need-returns Inv-loop μ-loop
 returns c =
     let l : tie.At-loop Inv-loop μ-loop = search in
     let a = l .before .before .args in
     sym (every-fails (entryValid (a .axes) (a .s .now)) (a .n) (l .loop .i) (search needs)
-    (failed (c .before .entry-valid .ensures) (c .if1 .taken)))
+    (failed (c .before .entry-passes .ensures) (c .if1 .taken)))
 
 add-i : tie.Need-add-i Inv-loop μ-loop
 add-i c = search needs
@@ -38,7 +38,7 @@ loop-less c = search needs
 loop-again : tie.Need-loop-again Inv-loop μ-loop
 loop-again c =
     let l : tie.At-loop Inv-loop μ-loop = search in
-    below-more _ _ (l .loop .inv) (passed (c .before .entry-valid .ensures) (c .if1 .left))
+    below-more _ _ (l .loop .inv) (passed (c .before .entry-passes .ensures) (c .if1 .left))
 
 returns-2 : tie.Need-returns-2 Inv-loop μ-loop
 returns-2 c =
@@ -47,5 +47,5 @@ returns-2 c =
     sym (every-holds (entryValid (a .axes) (a .s .now)) (a .n) (λ j h. l .loop .inv j (omega arith)))
 
 pub entries-valid-spec : {M : Type 1} → statement M
-entries-valid-spec = tie.close (tie.spec Inv-loop μ-loop loop-holds entry-valid-requires returns add-i loop-less
+entries-valid-spec = tie.close (tie.spec Inv-loop μ-loop loop-holds entry-passes-requires returns add-i loop-less
     loop-again returns-2)

@@ -1,34 +1,44 @@
-use borrow.Author.Needs.{needs}
-use mathlib.Core.Path.{ap, _∙_}
-use lib.ListN.{take}
+use mathlib.Core.Path.{_≡_}
 use native.Mathlib.Omega.{arith}
-use Rattle.geometry.specs.Distance.{D}
-use Rattle.plan.specs.Inner.Seam.{stopOf}
+use borrow.Author.Needs.{needs}
 use Rattle.plan.proofs.sites.place_in.Statement.{statement}
 use Rattle.plan.proofs.sites.place_in.Tie as tie
 
-point-in-requires : tie.Need-point-in-requires
-point-in-requires c κs =
+place-on-requires : tie.Need-place-on-requires
+place-on-requires c κs =
     let s : tie.Start = search in
-    (s .pre .0 .axes, omega (arith, s .pre .0 .few, s .pre .1), s .pre .0 .whole)
+    let sited = s .pre .0 in
+    let e : s .args .h .axes ≡ 3 = omega arith in (
+      search needs,
+      omega (arith, rw e at (sited .few), s .pre .1),
+      sited .whole,
+      rw e at (s .pre .2 .valid),
+      rw e at (sited .valid (s .args .slot) (s .pre .1)),
+    )
 
-cue-in-requires : tie.Need-cue-in-requires
-cue-in-requires c κs =
+place-on-requires-2 : tie.Need-place-on-requires-2
+place-on-requires-2 c κs =
     let s : tie.Start = search in
-    (s .pre .0 .axes, omega (arith, s .pre .0 .few, s .pre .1), s .pre .0 .whole)
-
-squared-dist-requires : tie.Need-squared-dist-requires
-squared-dist-requires c κs =
-    let s : tie.Start = search in
-    let r : tie.After-point-in = search in
-    (s .pre .0 .axes, (s .pre .2 .valid, rw (r .point-in .ensures) (s .pre .0 .valid (s .args .slot) (s .pre .1))))
+    let sited = s .pre .0 in
+    let e : s .args .h .axes ≡ 2 = omega (arith, sited .axes) in (
+      search needs,
+      omega (arith, rw e at (sited .few), s .pre .1),
+      sited .whole,
+      rw e at (s .pre .2 .valid),
+      rw e at (sited .valid (s .args .slot) (s .pre .1)),
+    )
 
 returns : tie.Need-returns
 returns c =
     let s : tie.Start = search in
-    let p : tie.After-point-in = search in
-    let q : tie.After-cue-in = search in
-    rw (c .squared-dist .ensures, p .point-in .ensures, q .cue-in .ensures)
+    let e : s .args .h .axes ≡ 3 = omega arith in
+    rw e (c .place-on .ensures)
+
+returns-2 : tie.Need-returns-2
+returns-2 c =
+    let s : tie.Start = search in
+    let e : s .args .h .axes ≡ 2 = omega (arith, s .pre .0 .axes) in
+    rw e (c .place-on2 .ensures)
 
 pub place-in-spec : {M : Type 1} → statement M
-place-in-spec = tie.close (tie.spec point-in-requires cue-in-requires squared-dist-requires returns)
+place-in-spec = tie.close (tie.spec place-on-requires place-on-requires-2 returns returns-2)
