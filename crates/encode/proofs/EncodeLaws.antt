@@ -1,6 +1,6 @@
 -- The bytes of blocks: their lengths, and that rows of writing calls leave them. Assumes nothing.
 --
---   length-head, length-box, length-entry, length-site   the length of each part
+--   length-head, length-number, length-box, length-box-count, length-entry, length-site   the length of each part
 --   length-entries, length-sites                of several
 --   length-body, length-blockBytes              of a block
 --   length-directory-block, length-tile-block   of a block of each kind
@@ -135,8 +135,9 @@ unfolding directoryBytes
 length-directory-block a boxes counts cues p =
     let n = entriesDue (headerOf a counts) p in
     let first = entriesPerBlock a * p in
-    length-blockBytes (headBytes (directoryKind a) p n (length counts)) (joined (entryBytes a boxes counts cues) first n)
-    (length-head (directoryKind a) p n (length counts))
+    let kind = directoryKind a in
+    length-blockBytes (headBytes kind p n (length counts)) (joined (entryBytes a boxes counts cues) first n)
+    (length-head kind p n (length counts))
     (omega (
       arith,
       length-entries a boxes counts cues first n,

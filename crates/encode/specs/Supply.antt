@@ -1,5 +1,5 @@
--- The writer's lists (document 01, "Writer, full check, host, program"; 02.1, 02.2): "boxes, counts, and x, y, cue lists
--- in tile order"; the spots are columns, a list of coordinates for each axis, z after y.
+-- The writer's lists (document 01, "Writer, full check, host, program"; 02.1, 02.2): "boxes, counts, and x, y, cue
+-- lists in tile order"; the spots are columns, a list of coordinates for each axis, z after y.
 --
 --   Supply, supply                    the lists as one value
 --   axesOf, headerOf, tilesOf         the axes; T with the axes as a header, and as a number

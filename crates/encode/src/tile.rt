@@ -37,7 +37,8 @@ fn put_site(
         × (i < length (now zs)) × (i < length (now cues)) ⌝ }
     ensures { λ _. ⌜
         now (d .exit) ≡ over (now (d .entry)) at
-        (siteBytes axes (take axes (now (xs .entry) ∷ now (ys .entry) ∷ now (zs .entry) ∷ [])) (now (cues .entry)) i) ⌝ }
+        (siteBytes axes (take axes (now (xs .entry) ∷ now (ys .entry) ∷ now (zs .entry) ∷ [])) (now (cues .entry))
+        i) ⌝ }
 {
     put_i32(d, at, xs[i]);
     put_i32(d, at + 4, ys[i]);

@@ -5,7 +5,7 @@
 --   ends                   the box whose numbers f gives
 --   ends-same, ends-only   the same numbers, the same box; and the other way
 --   numbers-of             the numbers of the box
-use Prim.Native.Nat.{ℕ, zero, suc, _+_, _*_, _<_}
+use Prim.Native.Nat.{ℕ, zero, suc, _+_, _<_}
 use mathlib.Core.List.{List, [], _∷_, _++_, map}
 use mathlib.Core.Path.{_≡_, refl, sym, ap, _∙_}
 use native.Mathlib.Nat.{add-zero, zero-add}

@@ -7,17 +7,17 @@ use native.Mathlib.Nat.{zero-add}
 use native.Mathlib.Omega.{arith}
 use lib.ListN.{length, getD}
 use Rattle.base.specs.Tabulate.{joined}
-use Rattle.base.proofs.HowMany.{how-many-none}
-use Rattle.base.proofs.Joined.{joined-same}
 use Rattle.blocks.specs.Directory.{directoryBlocks, entriesDue}
 use Rattle.blocks.specs.Layout.{directoryKind, entrySize, mutedOffset, entriesPerBlock}
 use Rattle.codec.specs.Bytes.{bytes, bytes16}
 use Rattle.encode.specs.Document01.{entryBytes01, directoryBytes01, fileBytes01}
 use Rattle.encode.specs.Encode.{headBytes, blockBytes, entryBytes, directoryBytes, tileBytesOf, fileBytes}
 use Rattle.encode.specs.Supply.{Supply, axesOf, headerOf, tilesOf, countOf, offset, siteTotal, mutedFrom}
+use Rattle.tiles.specs.Tile.{mutedCue}
+use Rattle.base.proofs.HowMany.{how-many-none}
+use Rattle.base.proofs.Joined.{joined-same}
 use Rattle.encode.proofs.EncodeLaws.{due-within}
 use Rattle.encode.proofs.SupplyLaws.{offset-within}
-use Rattle.tiles.specs.Tile.{mutedCue}
 
 module _ (s : Supply)
     (sounds : (i : ℕ) → i < siteTotal (s .counts) → mutedCue (getD (s .cues) i 0) ≡ false) where
@@ -35,16 +35,19 @@ module _ (s : Supply)
       )
 
   block-like-01 : (p : ℕ) → p < directoryBlocks (headerOf (axesOf s) (s .counts)) →
-      directoryBytes (axesOf s) (s .boxes) (s .counts) (s .cues) p ≡ directoryBytes01 (axesOf s) (s .boxes) (s .counts) p
+      directoryBytes (axesOf s) (s .boxes) (s .counts) (s .cues) p
+      ≡ directoryBytes01 (axesOf s) (s .boxes) (s .counts) p
   unfolding directoryBytes directoryBytes01
   block-like-01 p l =
       let n = entriesDue (headerOf (axesOf s) (s .counts)) p in
       ap (blockBytes (headBytes (directoryKind (axesOf s)) p n (length (s .counts))))
       (joined-same _ _ (entriesPerBlock (axesOf s) * p) n
-      (λ i k. entry-like-01 (entriesPerBlock (axesOf s) * p + i) (omega (arith, due-within (headerOf (axesOf s) (s .counts)) p l))))
+      (λ i k. entry-like-01 (entriesPerBlock (axesOf s) * p + i)
+      (omega (arith, due-within (headerOf (axesOf s) (s .counts)) p l))))
 
   pub file-like : fileBytes s ≡ fileBytes01 s
   unfolding fileBytes fileBytes01
   file-like =
       ap (λ d. d ++ joined (tileBytesOf (axesOf s) (s .counts) (s .spots) (s .cues)) 0 (tilesOf s))
-      (joined-same _ _ 0 (directoryBlocks (headerOf (axesOf s) (s .counts))) (λ p l. rw (zero-add p) (block-like-01 p l)))
+      (joined-same _ _ 0 (directoryBlocks (headerOf (axesOf s) (s .counts)))
+      (λ p l. rw (zero-add p) (block-like-01 p l)))

@@ -16,9 +16,9 @@ use Rattle.codec.specs.Number.{Bytes}
 use Rattle.encode.specs.Encode.{directoryBytes, tileBytesOf, fileBytes, fileLength}
 use Rattle.encode.specs.Supply.{Supply, axesOf, headerOf, tilesOf, boxOf, countOf, offset, mutedOf, siteOf}
 use Rattle.geometry.specs.Axes.{KnownAxes}
-use Rattle.geometry.proofs.Theorems.{by-axes}
 use Rattle.tiles.specs.Accepted.{GoodTileBlock, GoodFile}
 use Rattle.tiles.specs.Tile.{siteIn, mutedIn, tilePosition, siteAt}
+use Rattle.geometry.proofs.Theorems.{by-axes}
 use Rattle.base.proofs.Joined.{length-joined}
 use Rattle.blocks.proofs.BlockLaws as blocks
 use Rattle.blocks.proofs.BlockLaws.{block-bytes}

@@ -1,7 +1,8 @@
--- The theorems of this crate for the reader. The call is `write::write`, its definitions `writeCall` and `writeExit`
--- (specs/Write). What it accepts: `write-exactly` (`GoodSupply`, specs/Accepted); what it leaves: `written-file`,
--- `written-passes`. Demand 2: `passes-exactly` (`Made`, specs/Made), with `read-back`, `only-town`, `different-towns`.
--- Of old files: `bytes-like-01`. s is the lists, f the file, h its header. Assumes nothing.
+-- The theorems of this crate for the reader. The calls are `write::write` and, with height, `write::write3`, their
+-- definitions `writeCall` and `writeExit` (specs/Write). What they accept: `write-exactly` (`GoodSupply`,
+-- specs/Accepted); what they leave: `written-file`, `written-passes`. Demand 2: `passes-exactly` (`Made`, specs/Made),
+-- with `read-back`, `only-town`, `different-towns`. Of old files: `bytes-like-01`. s is the lists, f the file, h its
+-- header. Assumes nothing.
 use Prim.Native.Nat.{ℕ, _<_, _≤_}
 use mathlib.Core.Bool.{false}
 use mathlib.Core.List.{List, _++_}
@@ -39,8 +40,8 @@ use Rattle.writer.proofs.WriteLaws.{tests-good, tests-enough, call-acce
 pub write-exactly : (s : Supply) (room n : ℕ) →
     (writeCall s room ≡ accepted n → GoodSupply s × (fileLength (headerOf (axesOf s) (s .counts)) ≤ room)
     × (n ≡ fileLength (headerOf (axesOf s) (s .counts))))
-    × (GoodSupply s × (fileLength (headerOf (axesOf s) (s .counts)) ≤ room) × (n ≡ fileLength (headerOf (axesOf s) (s .counts))) →
-    writeCall s room ≡ accepted n)
+    × (GoodSupply s × (fileLength (headerOf (axesOf s) (s .counts)) ≤ room)
+    × (n ≡ fileLength (headerOf (axesOf s) (s .counts))) → writeCall s room ≡ accepted n)
 unfolding writeCall
 write-exactly s room n = (
   λ e. let h = andThen-accepted (writeTests s room) (λ _. accepted (fileLength (headerOf (axesOf s) (s .counts)))) e in
@@ -51,7 +52,8 @@ write-exactly s room n = (
 
 -- accepted, the output slice starts with the file, and "later bytes stay"
 module _ (s : Supply) (out : List ℕ) (n : ℕ) (e : writeCall s (length out) ≡ accepted n) where
-  good : GoodSupply s × (fileLength (headerOf (axesOf s) (s .counts)) ≤ length out) × (n ≡ fileLength (headerOf (axesOf s) (s .counts)))
+  good : GoodSupply s × (fileLength (headerOf (axesOf s) (s .counts)) ≤ length out)
+      × (n ≡ fileLength (headerOf (axesOf s) (s .counts)))
   good = write-exactly s (length out) n .0 e
 
   size : length (fileBytes s) ≡ n
@@ -182,5 +184,6 @@ different-towns s r ts tr out other n k e h q =
     let f = take n (writeExit s out) in
     let m : Made f (headerOf (axesOf s) (s .counts)) s = made-from s ts out n e in
     let w : Made f (headerOf (axesOf r) (r .counts)) r = rw q (made-from r tr other k h) in
-    let t : headerOf (axesOf s) (s .counts) ≡ headerOf (axesOf r) (r .counts) = accepted-injective (sym (passes f _ s m) ∙ passes f _ r w) in
+    let t : headerOf (axesOf s) (s .counts) ≡ headerOf (axesOf r) (r .counts) =
+    accepted-injective (sym (passes f _ s m) ∙ passes f _ r w) in
     only-town f _ s m ∙ ap (supplyOf f) t ∙ sym (only-town f _ r w)

@@ -116,7 +116,8 @@ module _ (s : Supply) (room : ℕ) where
         leb-true (fileLength (headerOf (axesOf s) (s .counts))) room (h .0),
       )
 
-  pub tests-enough : GoodSupply s → fileLength (headerOf (axesOf s) (s .counts)) ≤ room → writeTests s room ≡ accepted tt
+  pub tests-enough : GoodSupply s → fileLength (headerOf (axesOf s) (s .counts)) ≤ room →
+      writeTests s room ≡ accepted tt
   unfolding writeTests tilesFit entryFits listsFit tileFits sitesFit
   tests-enough g h =
       let v = every-holds (entryFits (axesOf s) (s .boxes) (s .counts)) (tilesOf s)
@@ -141,7 +142,8 @@ module _ (s : Supply) (room : ℕ) where
   unfolding writeCall
   call-refused e = rw e
 
-  pub call-accepted : writeTests s room ≡ accepted tt → writeCall s room ≡ accepted (fileLength (headerOf (axesOf s) (s .counts)))
+  pub call-accepted : writeTests s room ≡ accepted tt →
+      writeCall s room ≡ accepted (fileLength (headerOf (axesOf s) (s .counts)))
   unfolding writeCall
   call-accepted e = rw e
 
@@ -156,7 +158,8 @@ module _ (s : Supply) (out : List ℕ) where
 
   pub file-row : {d₁ d₂ : List ℕ} →
       d₁ ≡ over out 0
-      (joined (directoryBytes (axesOf s) (s .boxes) (s .counts) (s .cues)) 0 (directoryBlocks (headerOf (axesOf s) (s .counts)))) →
+      (joined (directoryBytes (axesOf s) (s .boxes) (s .counts) (s .cues)) 0
+      (directoryBlocks (headerOf (axesOf s) (s .counts)))) →
       d₂ ≡ over d₁ (blockSize * directoryBlocks (headerOf (axesOf s) (s .counts)))
       (joined (tileBytesOf (axesOf s) (s .counts) (s .spots) (s .cues)) 0 (tilesOf s)) →
       d₂ ≡ over out 0 (fileBytes s)

@@ -1,5 +1,6 @@
-use Prim.Native.Nat.{_+_, _*_, _<_}
-use mathlib.Core.Path.{_≡_, refl, ap, _∙_}
+use Prim.Native.Nat.{ℕ, _+_, _*_, _<_}
+use mathlib.Core.List.{List}
+use mathlib.Core.Path.{_≡_, ap, _∙_}
 use native.Mathlib.Nat.{mul-zero}
 use native.Mathlib.Omega.{arith}
 use lib.ListN.{length}
@@ -25,6 +26,10 @@ Inv-loop d₀ axes boxes counts cues p₀ site₀ left₀ d p site left =
 abbrev μ-loop : tie.MeasureT-loop
 μ-loop d₀ axes boxes counts cues p₀ site₀ left₀ d p site left = left
 
+-- the bytes of a directory block
+abbrev block : tie.Start Inv-loop μ-loop → ℕ → List ℕ
+block s = let a = s .args in directoryBytes (a .axes) (a .boxes .now) (a .counts .now) (a .cues .now)
+
 header-of-requires : tie.Need-header-of-requires Inv-loop μ-loop
 header-of-requires c κs = search needs
 
@@ -41,8 +46,7 @@ loop-holds c =
     let e = c .directory-blocks .ensures .0 ∙ ap directoryBlocks (h .header-of .ensures) in (
       omega (arith, e),
       search needs,
-      ap (λ k. over (a .args .d .now) 0
-          (joined (directoryBytes (a .args .axes) (a .args .boxes .now) (a .args .counts .now) (a .args .cues .now)) 0 k)) e,
+      ap (λ k. over (a .args .d .now) 0 (joined (block a) 0 k)) e,
       λ some. rw (mul-zero (entriesPerBlock (a .args .axes))),
     )
 
@@ -51,7 +55,8 @@ put-directory-block-requires c κs =
     let s : tie.Start Inv-loop μ-loop = search in
     let l : tie.At-loop Inv-loop μ-loop = search in
     let i : tie.In-loop Inv-loop μ-loop = search in
-    let below : l .loop .p < directoryBlocks (headerOf (s .args .axes) (s .args .counts .now)) = omega (arith, l .loop .inv .0) in (
+    let below : l .loop .p < directoryBlocks (headerOf (s .args .axes) (s .args .counts .now)) =
+    omega (arith, l .loop .inv .0) in (
       s .pre .0,
       omega (arith, below, s .pre .1, l .loop .inv .1),
       s .pre .2,
@@ -78,10 +83,11 @@ loop-again c =
     let b : tie.After-put-directory-block Inv-loop μ-loop = search in
     let p = b .put-directory-block in
     let k : length (p .last .0) ≡ length (l .loop .d) = p .kept .0 in
-    let w = length-directory-block (s .args .axes) (s .args .boxes .now) (s .args .counts .now) (s .args .cues .now) (l .loop .p) in (
+    let a = s .args in
+    let w = length-directory-block (a .axes) (a .boxes .now) (a .counts .now) (a .cues .now) (l .loop .p) in (
       omega (arith, l .loop .inv, i .loop-test),
       omega (arith, k, l .loop .inv),
-      joined-turn (directoryBytes (s .args .axes) (s .args .boxes .now) (s .args .counts .now) (s .args .cues .now)) (l .loop .d)
+      joined-turn (block s) (l .loop .d)
           (blockSize * l .loop .p) (blockSize * (l .loop .p + 1)) (l .loop .p)
           (l .loop .left) (search needs) (p .ensures .0) (omega (arith, w)) ∙ l .loop .inv .2,
       λ some. p .ensures .1
@@ -96,7 +102,7 @@ returns : tie.Need-returns Inv-loop μ-loop
 returns c =
     let s : tie.Start Inv-loop μ-loop = search in
     let l : tie.At-loop Inv-loop μ-loop = search in
-    joined-end (directoryBytes (s .args .axes) (s .args .boxes .now) (s .args .counts .now) (s .args .cues .now)) (l .loop .d)
+    joined-end (block s) (l .loop .d)
     (blockSize * l .loop .p) (l .loop .p) (l .loop .left) (search needs)
     ∙ l .loop .inv .2
 

@@ -25,7 +25,9 @@ due c =
 
 few : (c : tie.After-entries-due) →
     let s : tie.Start = search in c .entries-due .result ≤ entriesPerBlock (s .args .axes)
-few c = let s : tie.Start = search in rw (due c) (due-few (headerOf (s .args .axes) (s .args .counts .now)) (s .args .p))
+few c =
+    let s : tie.Start = search in
+    rw (due c) (due-few (headerOf (s .args .axes) (s .args .counts .now)) (s .args .p))
 
 used-end : (c : tie.After-entry-offset) → c .entry-offset .result ≤ checkAt
 used-end c =

@@ -60,6 +60,7 @@ loop-again c =
     let p = w .put-entry in
     let one = one-part (entrySize (a .axes)) (l .loop .left) (i .loop-test .taken) in
     let z = c .entry-size .ensures in
+    let wide = length-entry (a .axes) (a .boxes .now) (a .counts .now) (a .cues .now) (l .loop .t) in
     let k : length (p .last .0) ≡ length (l .loop .d) = p .kept .0 in (
       omega (arith, k, l .loop .inv),
       omega (arith, k, l .loop .inv),
@@ -68,7 +69,7 @@ loop-again c =
       p .ensures .1,
       joined-turn (entryBytes (a .axes) (a .boxes .now) (a .counts .now) (a .cues .now)) (l .loop .d) (l .loop .at)
           (l .loop .at + c .entry-size .result) (l .loop .t) (l .loop .left) (search needs) (p .ensures .0)
-          (ap (λ w. l .loop .at + w) (z ∙ sym (length-entry (a .axes) (a .boxes .now) (a .counts .now) (a .cues .now) (l .loop .t))))
+          (ap (λ w. l .loop .at + w) (z ∙ sym wide))
           ∙ l .loop .inv .5,
     )
 
@@ -81,8 +82,8 @@ returns c =
     let s : tie.Start Inv-loop μ-loop = search in
     let a = s .args in
     let e : l .loop .t ≡ a .first + a .n = omega (arith, l .loop .inv .3) in (
-      joined-end (entryBytes (a .axes) (a .boxes .now) (a .counts .now) (a .cues .now)) (l .loop .d) (l .loop .at) (l .loop .t)
-          (l .loop .left) (search needs) ∙ l .loop .inv .5,
+      joined-end (entryBytes (a .axes) (a .boxes .now) (a .counts .now) (a .cues .now)) (l .loop .d) (l .loop .at)
+          (l .loop .t) (l .loop .left) (search needs) ∙ l .loop .inv .5,
       rw e at (l .loop .inv .4),
     )
 

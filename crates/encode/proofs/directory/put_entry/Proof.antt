@@ -75,12 +75,14 @@ returns c =
     let f : q .muted-from .result ≡ mutedOf (a .counts .now) (a .cues .now) (a .t) =
     q .muted-from .ensures .0 ∙ ap (mutedFrom (a .cues .now) (a .site)) e
     ∙ ap (λ i. mutedFrom (a .cues .now) i (countOf (a .counts .now) (a .t))) (s .pre .5) in (
-      entry-row (a .d .now) (a .at) (a .axes) (a .boxes .now) (a .counts .now) (a .cues .now) (a .t) (b .put-box .ensures)
+      entry-row (a .d .now) (a .at) (a .axes) (a .boxes .now) (a .counts .now) (a .cues .now) (a .t)
+          (b .put-box .ensures)
           (n .put-u16 .ensures ∙ ap (λ k. over (b .put-box .last .0) (a .at + k) (bytes16 (w .wide .result)))
           (co .count-offset .ensures)
           ∙ ap (λ n. over (b .put-box .last .0) (a .at + countOffset (a .axes)) (bytes16 n)) e)
           (m .put-u162 .ensures
-          ∙ ap (λ k. over (n .put-u16 .last .0) (a .at + k) (bytes16 (q .muted-from .result))) (mo .muted-offset .ensures)
+          ∙ ap (λ k. over (n .put-u16 .last .0) (a .at + k) (bytes16 (q .muted-from .result)))
+          (mo .muted-offset .ensures)
           ∙ ap (λ k. over (n .put-u16 .last .0) (a .at + mutedOffset (a .axes)) (bytes16 k)) f),
       omega (arith, offset-next (a .counts .now) (a .t), s .pre .5, e),
     )

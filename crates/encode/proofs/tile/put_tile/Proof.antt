@@ -1,8 +1,8 @@
 use Prim.Native.Nat.{_*_, _≤_}
 use mathlib.Core.List.{[], _∷_}
 use mathlib.Core.Path.{ap, _∙_}
-use lib.ListN.{take}
 use native.Mathlib.Omega.{arith}
+use lib.ListN.{take}
 use borrow.Author.Needs.{needs}
 use Rattle.base.specs.Over.{over}
 use Rattle.base.specs.Tabulate.{joined}
@@ -93,6 +93,6 @@ returns c =
     (z .put-zeros .ensures) (y .put-sites .ensures) (x .put-zeros2 .ensures) (w .put-checksum .ensures)
 
 pub put-tile-spec : {M : Type 1} → statement M
-put-tile-spec = tie.close (tie.spec mul-at site-offset-requires tile-kind-requires put-head-requires add-put-zeros add-put-zeros-2
-    put-zeros-requires add-put-sites put-sites-requires add-put-zeros-3 add-put-zeros-4 put-zeros-requires-2
-    put-checksum-requires same-length returns)
+put-tile-spec = tie.close (tie.spec mul-at site-offset-requires tile-kind-requires put-head-requires add-put-zeros
+    add-put-zeros-2 put-zeros-requires add-put-sites put-sites-requires add-put-zeros-3 add-put-zeros-4
+    put-zeros-requires-2 put-checksum-requires same-length returns)

@@ -22,9 +22,10 @@ abbrev Inv-loop : tie.InvT-loop
 Inv-loop d₀ axes counts xs ys zs cues p₀ t₀ first₀ d p t first =
     (p ≡ directoryBlocks (headerOf axes counts) + t) × (first ≡ offset counts t) × (t ≤ length counts)
     × (length d ≡ length d₀)
-    × (over d (blockSize * p) (joined (tileBytesOf axes counts (take axes (xs ∷ ys ∷ zs ∷ [])) cues) t (length counts - t))
-    ≡ over d₀ (blockSize * directoryBlocks (headerOf axes counts)) (joined (tileBytesOf axes counts (take axes (xs ∷ ys ∷ zs ∷ [])) cues) 0
-    (length counts)))
+    × (over d (blockSize * p)
+    (joined (tileBytesOf axes counts (take axes (xs ∷ ys ∷ zs ∷ [])) cues) t (length counts - t))
+    ≡ over d₀ (blockSize * directoryBlocks (headerOf axes counts))
+    (joined (tileBytesOf axes counts (take axes (xs ∷ ys ∷ zs ∷ [])) cues) 0 (length counts)))
 
 abbrev μ-loop : tie.MeasureT-loop
 μ-loop d₀ axes counts xs ys zs cues p₀ t₀ first₀ d p t first = length counts - t
@@ -45,7 +46,8 @@ loop-holds c =
     let a = s .args in
     let r = c .directory-blocks .result in
     let e = c .directory-blocks .ensures .0 ∙ ap directoryBlocks (h .header-of .ensures) in
-    let g = tileBytesOf (a .axes) (a .counts .now) (take (a .axes) (a .xs .now ∷ a .ys .now ∷ a .zs .now ∷ [])) (a .cues .now) in (
+    let spots = take (a .axes) (a .xs .now ∷ a .ys .now ∷ a .zs .now ∷ []) in
+    let g = tileBytesOf (a .axes) (a .counts .now) spots (a .cues .now) in (
       omega (arith, e),
       refl,
       search needs,
@@ -138,7 +140,8 @@ returns c =
     let s : tie.Start Inv-loop μ-loop = search in
     let l : tie.At-loop Inv-loop μ-loop = search in
     let a = s .args in
-    joined-end (tileBytesOf (a .axes) (a .counts .now) (take (a .axes) (a .xs .now ∷ a .ys .now ∷ a .zs .now ∷ [])) (a .cues .now)) (l .loop .d)
+    let spots = take (a .axes) (a .xs .now ∷ a .ys .now ∷ a .zs .now ∷ []) in
+    joined-end (tileBytesOf (a .axes) (a .counts .now) spots (a .cues .now)) (l .loop .d)
     (blockSize * l .loop .p) (l .loop .t) (length (a .counts .now) - l .loop .t) (search needs) ∙ l .loop .inv .4
 
 pub put-tiles-spec : {M : Type 1} → statement M

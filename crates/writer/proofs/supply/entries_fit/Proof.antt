@@ -35,8 +35,8 @@ returns : tie.Need-returns Inv-loop μ-loop
 returns c =
     let l : tie.At-loop Inv-loop μ-loop = search in
     let a = l .before .before .args in
-    sym (every-fails (entryFits (a .axes) (a .boxes .now) (a .counts .now)) (length (a .counts .now)) (l .loop .t) (search needs)
-    (failed (c .before .entry-fits .ensures) (c .if1 .taken)))
+    sym (every-fails (entryFits (a .axes) (a .boxes .now) (a .counts .now)) (length (a .counts .now)) (l .loop .t)
+    (search needs) (failed (c .before .entry-fits .ensures) (c .if1 .taken)))
 
 add-t : tie.Need-add-t Inv-loop μ-loop
 add-t c = search needs

@@ -1,9 +1,11 @@
-use lib.IntN.{pos}
-use mathlib.Core.List.{[], _∷_}
-use mathlib.Core.Path.{_≡_, refl}
+use Prim.Native.Nat.{ℕ}
+use mathlib.Core.List.{List, [], _∷_}
+use mathlib.Core.Path.{_≡_, refl, ap}
+use lib.IntN.{ℤ, pos}
 use lib.ListN.{getD, take}
 use borrow.Author.Needs.{needs}
 use Rattle.geometry.specs.Around.{row}
+use Rattle.geometry.specs.Axes.{KnownAxes}
 use Rattle.geometry.specs.Box as geometry
 use Rattle.geometry.proofs.Theorems.{by-axes}
 use Rattle.codec.proofs.Number.{local-i32}
@@ -31,8 +33,15 @@ shared-slice-copy-out-z c = search needs
 inside-requires : tie.Need-inside-requires
 inside-requires c κs = search needs
 
-returns : tie.Need-returns
+-- the point of the columns that count
+row-take : (n : ℕ) (xs ys zs : List ℤ) (i : ℕ) → KnownAxes n →
+    take n (getD xs i (pos 0) ∷ getD ys i (pos 0) ∷ getD zs i (pos 0) ∷ []) ≡ row (take n (xs ∷ ys ∷ zs ∷ [])) i
 unfolding row
+row-take n xs ys zs i k =
+    by-axes (λ n. take n (getD xs i (pos 0) ∷ getD ys i (pos 0) ∷ getD zs i (pos 0) ∷ [])
+    ≡ row (take n (xs ∷ ys ∷ zs ∷ [])) i) refl refl n k
+
+returns : tie.Need-returns
 returns c =
     let s : tie.Start = search in
     let a = s .args in
@@ -40,9 +49,8 @@ returns c =
     let y = local-i32 (getD (a .ys .now) (a .i) (pos 0)) (c .before .before .y .given) in
     let z = local-i32 (getD (a .zs .now) (a .i) (pos 0)) (c .before .z .given) in
     simp (c .inside .ensures, x, y, z)
-    (by-axes (λ n. geometry.inside (take n (a .bounds)) (take n (getD (a .xs .now) (a .i) (pos 0) ∷ getD (a .ys .now) (a .i) (pos 0) ∷ getD (a .zs .now) (a .i) (pos 0) ∷ []))
-    ≡ geometry.inside (take n (a .bounds)) (row (take n (a .xs .now ∷ a .ys .now ∷ a .zs .now ∷ [])) (a .i)))
-    refl refl (a .axes) (s .pre .0))
+    (ap (geometry.inside (take (a .axes) (a .bounds)))
+    (row-take (a .axes) (a .xs .now) (a .ys .now) (a .zs .now) (a .i) (s .pre .0)))
 
 pub site-fits-spec : {M : Type 1} → statement M
 site-fits-spec = tie.close (tie.spec mul-x shared-slice-copy-out-x mul-y shared-slice-copy-out-y mul-z

@@ -1,5 +1,5 @@
 use Prim.Native.Nat.{ℕ, _+_, _-_, _<_, _≤_}
-use mathlib.Core.Bool.{true}
+use mathlib.Core.Bool.{Bool, true}
 use mathlib.Core.List.{[], _∷_}
 use mathlib.Core.Path.{_≡_, refl, sym, _∙_}
 use native.Mathlib.Omega.{arith}
@@ -22,6 +22,12 @@ Inv-loop axes boxes counts xs ys zs t₀ first₀ t first = (first ≡ offset co
 
 abbrev μ-loop : tie.MeasureT-loop
 μ-loop axes boxes counts xs ys zs t₀ first₀ t first = length counts - t
+
+-- test 10 of a tile
+abbrev fit : tie.Start Inv-loop μ-loop → ℕ → Bool
+fit s =
+    let a = s .args in
+    tileFits (a .axes) (a .boxes .now) (a .counts .now) (take (a .axes) (a .xs .now ∷ a .ys .now ∷ a .zs .now ∷ []))
 
 loop-holds : tie.Need-loop-holds Inv-loop μ-loop
 unfolding offset
@@ -62,8 +68,7 @@ sites-fit-requires c κs = let s : tie.Start Inv-loop μ-loop = search in omega 
 tile-tested : (c : tie.After-sites-fit Inv-loop μ-loop) →
     let l : tie.At-loop Inv-loop μ-loop = search in
     let s : tie.Start Inv-loop μ-loop = search in
-    let a = s .args in
-    c .sites-fit .result ≡ tileFits (a .axes) (a .boxes .now) (a .counts .now) (take (a .axes) (a .xs .now ∷ a .ys .now ∷ a .zs .now ∷ [])) (l .loop .t)
+    c .sites-fit .result ≡ fit s (l .loop .t)
 tile-tested c =
     let l : tie.At-loop Inv-loop μ-loop = search in
     let w : tie.After-wide Inv-loop μ-loop = search in
@@ -72,8 +77,9 @@ tile-tested c =
 returns : tie.Need-returns Inv-loop μ-loop
 returns c =
     let l : tie.At-loop Inv-loop μ-loop = search in
-    let a = l .before .before .args in
-    sym (every-fails (tileFits (a .axes) (a .boxes .now) (a .counts .now) (take (a .axes) (a .xs .now ∷ a .ys .now ∷ a .zs .now ∷ [])))
+    let s : tie.Start Inv-loop μ-loop = search in
+    let a = s .args in
+    sym (every-fails (fit s)
     (length (a .counts .now)) (l .loop .t) (search needs) (failed (tile-tested search) (c .if1 .taken)))
 
 add-first : tie.Need-add-first Inv-loop μ-loop
@@ -98,8 +104,9 @@ loop-again c =
 returns-2 : tie.Need-returns-2 Inv-loop μ-loop
 returns-2 c =
     let l = c .before in
-    let a = l .before .before .args in
-    sym (every-holds (tileFits (a .axes) (a .boxes .now) (a .counts .now) (take (a .axes) (a .xs .now ∷ a .ys .now ∷ a .zs .now ∷ [])))
+    let s : tie.Start Inv-loop μ-loop = search in
+    let a = s .args in
+    sym (every-holds (fit s)
     (length (a .counts .now)) (λ i h. l .loop .inv .2 i (omega arith)))
 
 pub tiles-inside-spec : {M : Type 1} → statement M
