@@ -1,7 +1,5 @@
 // The calls of the cab's sound host: the block check, and the margin over two axes and over three.
 ghost use mathlib.Core.Path.{_≡_};
-ghost use lib.ListN.{take};
-ghost use Rattle.geometry.specs.Axes.{KnownAxes};
 ghost use Rattle.host.specs.Cab.{blockCheck, boxFrom, boxFrom3, marginNumber};
 use blocks::checksum;
 use blocks::layout;
@@ -42,16 +40,6 @@ pub fn box3_of(x0: i32, x1: i32, y0: i32, y1: i32, z0: i32, z1: i32) -> [[i32; 2
     [[x0, x1], [y0, y1], [z0, z1]]
 }
 
-fn margin_or_bad(axes: usize, o: [[i32; 2]; 3], e: [[i32; 2]; 3], b: [[i32; 2]; 3]) -> i64
-    requires { ⌜ KnownAxes axes ⌝ }
-    ensures { λ r. ⌜ r ≡ marginNumber (take axes o) (take axes e) (take axes b) ⌝ }
-{
-    if !valid_boxes(axes, o, e, b) {
-        return BAD_BOX;
-    }
-    margin_within(axes, o, e, b)
-}
-
 // The margin of three boxes, each low x, high x, low y, high y; `BAD_BOX` if a box is bad.
 #[no_mangle]
 pub extern "C" fn nearby_margin(
@@ -73,7 +61,10 @@ pub extern "C" fn nearby_margin(
     let o = pad_box(box_of(ox0, ox1, oy0, oy1));
     let e = pad_box(box_of(ex0, ex1, ey0, ey1));
     let b = pad_box(box_of(bx0, bx1, by0, by1));
-    margin_or_bad(layout::PLAN, o, e, b)
+    if !valid_boxes(layout::PLAN, o, e, b) {
+        return BAD_BOX;
+    }
+    margin_within(layout::PLAN, o, e, b)
 }
 
 // The same with low z and high z after them.
@@ -104,5 +95,8 @@ pub extern "C" fn nearby_margin3(
     let o = box3_of(ox0, ox1, oy0, oy1, oz0, oz1);
     let e = box3_of(ex0, ex1, ey0, ey1, ez0, ez1);
     let b = box3_of(bx0, bx1, by0, by1, bz0, bz1);
-    margin_or_bad(layout::HEIGHT, o, e, b)
+    if !valid_boxes(layout::HEIGHT, o, e, b) {
+        return BAD_BOX;
+    }
+    margin_within(layout::HEIGHT, o, e, b)
 }
