@@ -287,6 +287,11 @@ def middle():
     return ((O[0] + O[2]) // 2, (O[1] + O[3]) // 2)
 
 
+def raised(z):
+    """The margin on one axis of the page, with E at this height."""
+    return margin((0, 0, 0, 10, 0, 0), (20, 0, z, 30, 0, z), (31, 0, 0, 70, 0, 0))
+
+
 def sentences():
     """What the page says in words of this town, with the numbers of the engine."""
     near_of = lambda point, t: near(point, BOXES[t])
@@ -321,6 +326,7 @@ def sentences():
         f" {far((10, 0), (20, 0, 30, 0))} against {near((10, 0), (31, 0, 70, 0))}, and the margin is"
         f" {margin((0, 0, 10, 0), (20, 0, 30, 0), (31, 0, 70, 0))}.",
         f"In the table of step 1, tile 1 against tile 4: {corners}.",
+        f"the margin is -41 + 36 = {raised(6)}: E is still nearer. If E is 7 above, it is 49, the margin is {raised(7)},",
         f"Tile 1 against tile 3: {far_of((0, 0), 1)} < {near_of((0, 0), 3)} does not hold.",
         f"The middle is {spot(middle())}. From there far of tile 1 is {far_of(middle(), 1)} and near of tile 2 is"
         f" {near_of(middle(), 2)}",

@@ -1,6 +1,5 @@
 //! The interface of include/nearby.h: the functions of the static library behind safe calls on slices, each over the
-//! number of axes. The functions for three axes are there from request 2 on: until then the feature `height` is off,
-//! and no part calls them.
+//! number of axes.
 
 use crate::paper::search::{Joined, Pruned};
 use crate::paper::writer::Supply;
@@ -29,7 +28,6 @@ struct CValidated {
     number: u32,
     block: u32,
     tiles: u32,
-    #[cfg(feature = "height")]
     axes: u32,
 }
 
@@ -77,11 +75,6 @@ extern "C" {
         x: *const i32, x_len: usize, y: *const i32, y_len: usize,
         cues: *const u32, cues_len: usize, out: *mut u8, out_len: usize,
     ) -> Written;
-}
-
-#[cfg(feature = "height")]
-#[rustfmt::skip]
-extern "C" {
     fn nearby_margin3(
         ox0: i32, ox1: i32, oy0: i32, oy1: i32, oz0: i32, oz1: i32,
         ex0: i32, ex1: i32, ey0: i32, ey1: i32, ez0: i32, ez1: i32,
@@ -118,7 +111,6 @@ pub fn margin<const A: usize>(o: Bounds<A>, e: Bounds<A>, b: Bounds<A>) -> i64 {
                 e[0][0], e[0][1], e[1][0], e[1][1],
                 b[0][0], b[0][1], b[1][0], b[1][1],
             ),
-            #[cfg(feature = "height")]
             3 => nearby_margin3(
                 o[0][0], o[0][1], o[1][0], o[1][1], o[2][0], o[2][1],
                 e[0][0], e[0][1], e[1][0], e[1][1], e[2][0], e[2][1],
@@ -148,7 +140,6 @@ pub fn join<const A: usize>(file: &[u8], at: [&[i32]; A], k: u32, lent: Slices) 
                 lent.dist.as_mut_ptr(), lent.dist.len(), lent.site.as_mut_ptr(), lent.site.len(),
                 lent.cue.as_mut_ptr(), lent.cue.len(), lent.marks.as_mut_ptr(), lent.marks.len(),
             ),
-            #[cfg(feature = "height")]
             3 => nearby_join3(
                 file.as_ptr(), file.len(),
                 at[0].as_ptr(), at[0].len(), at[1].as_ptr(), at[1].len(), at[2].as_ptr(), at[2].len(), k,
@@ -170,7 +161,6 @@ pub fn prune<const A: usize>(file: &[u8], o: Bounds<A>, k: u32, marks: &mut [u8]
                 o[0][0], o[0][1], o[1][0], o[1][1], k,
                 marks.as_mut_ptr(), marks.len(),
             ),
-            #[cfg(feature = "height")]
             3 => nearby_prune3(
                 file.as_ptr(), file.len(),
                 o[0][0], o[0][1], o[1][0], o[1][1], o[2][0], o[2][1], k,
@@ -184,11 +174,7 @@ pub fn prune<const A: usize>(file: &[u8], o: Bounds<A>, k: u32, marks: &mut [u8]
 
 pub fn validate(file: &[u8]) -> Validated {
     let c = unsafe { nearby_validate(file.as_ptr(), file.len()) };
-    #[cfg(feature = "height")]
-    let axes = c.axes;
-    #[cfg(not(feature = "height"))]
-    let axes = if c.number == 0 { 2 } else { 0 };
-    Validated { number: c.number, block: c.block, tiles: c.tiles, axes }
+    Validated { number: c.number, block: c.block, tiles: c.tiles, axes: c.axes }
 }
 
 #[rustfmt::skip]
@@ -201,7 +187,6 @@ pub fn write<const A: usize>(supply: &Supply<A>, out: &mut [u8]) -> Written {
                 at[0].as_ptr(), at[0].len(), at[1].as_ptr(), at[1].len(),
                 cues.as_ptr(), cues.len(), out.as_mut_ptr(), out.len(),
             ),
-            #[cfg(feature = "height")]
             3 => nearby_write3(
                 boxes.as_ptr(), boxes.len(), counts.as_ptr(), counts.len(),
                 at[0].as_ptr(), at[0].len(), at[1].as_ptr(), at[1].len(), at[2].as_ptr(), at[2].len(),

@@ -4,8 +4,7 @@
 //! `independent PATH_OF_NEARBY_PROGRAM [--seed S]` prints a line for each part and ends with status 0, or prints the
 //! part, the seed and the case of the first failure and ends with status 1.
 //!
-//! The parts whose names end in -3 are the same over towns with height; `heights` has what is new with them. They run
-//! with the feature `height` of Cargo.toml.
+//! The parts whose names end in -3 are the same over towns with height; `heights` has what is new with them.
 //!
 //! `independent recorded` runs the part `recorded` alone; `independent record` writes recorded/plan.txt anew and tests
 //! nothing: see parts/recorded.rs for when that is due.
@@ -21,7 +20,6 @@ mod tally;
 mod towns;
 
 use compare::Failure;
-use paper::HEIGHT;
 use rng::Rng;
 use std::process::ExitCode;
 use tally::Tally;
@@ -117,10 +115,6 @@ fn main() -> ExitCode {
     ];
     let code = run_all(&plan, 0, seed);
     if code != ExitCode::SUCCESS {
-        return code;
-    }
-    if !HEIGHT {
-        println!("towns with height: not tried, since the feature `height` of Cargo.toml is off");
         return code;
     }
     run_all(&height, 100, seed)

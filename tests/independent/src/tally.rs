@@ -1,7 +1,7 @@
 //! Which numbers of the table were reached, and at which blocks.
 
 use crate::paper::directory::axes_of;
-use crate::paper::{Refusal, HEIGHT};
+use crate::paper::Refusal;
 use crate::parts::count;
 use std::collections::{BTreeMap, BTreeSet};
 
@@ -69,8 +69,7 @@ impl Tally {
         let least = |blocks: &Blocks, numbers: &[u32]| -> usize {
             numbers.iter().map(|number| blocks.get(number).map_or(0, |set| set.len())).min().unwrap()
         };
-        let last = if HEIGHT { 17 } else { 16 };
-        let every: Vec<u32> = (1..=last).collect();
+        let every: Vec<u32> = (1..=17).collect();
         let in_directory = [2, 3, 4, 5, 6, 7, 8, 9];
         let in_tiles = [2, 3, 4, 5, 7, 8, 10, 16];
         let needs = [
@@ -90,7 +89,7 @@ impl Tally {
         }
         let pairs = |blocks: &Blocks| -> usize { blocks.values().map(|set| set.len()).sum() };
         Ok(format!(
-            "each of 1 to {last} reached; pairs of number and block: {} in directories, {} in tiles by the full check, \
+            "each of 1 to 17 reached; pairs of number and block: {} in directories, {} in tiles by the full check, \
              {} by openings, {} by openings that were not the first; 16 given {} times by the full check, {} times by \
              the join",
             pairs(&self.directory),

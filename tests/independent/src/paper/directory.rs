@@ -5,7 +5,7 @@ use super::blocks::{
     u16_at, SIZE,
 };
 use super::boxes::good_box;
-use super::{each_axis, refuse, Entry, Refusal, Site, HEIGHT};
+use super::{each_axis, refuse, Entry, Refusal, Site};
 
 /// "T is 1 to 960."; 02.2: "T stays at most 960".
 pub const MOST_TILES: usize = 960;
@@ -14,7 +14,7 @@ pub const MOST_TILES: usize = 960;
 pub const MOST_BYTES_OF_PLAN: usize = 512_000;
 
 /// 02.2: "such a file may have 1,017 blocks: over 520,704 bytes is 1 before all else".
-pub const MOST_BYTES: usize = if HEIGHT { 520_704 } else { MOST_BYTES_OF_PLAN };
+pub const MOST_BYTES: usize = 520_704;
 
 /// "d = T/24 rounded up"; 02.2: "17 to a block".
 pub fn directory_blocks(axes: usize, tiles: usize) -> usize {
@@ -42,7 +42,6 @@ fn settled_axes(file: &[u8]) -> Result<usize, Refusal> {
         number => return refuse(number, 0),
     }
     let axes = match [2, 3].into_iter().find(|axes| block[1] == directory_kind(*axes)) {
-        Some(3) if !HEIGHT => return refuse(4, 0),
         Some(axes) => axes,
         None => return refuse(4, 0),
     };

@@ -9,9 +9,6 @@ pub mod program;
 pub mod search;
 pub mod writer;
 
-/// Whether request 2 has landed, which Cargo.toml says. Until then a file with height is refused as document 01 has it.
-pub const HEIGHT: bool = cfg!(feature = "height");
-
 /// "A coordinate is a whole number of centimetres from -1,000,000 to 1,000,000."
 pub const LIMIT: i32 = 1_000_000;
 

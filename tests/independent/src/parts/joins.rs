@@ -7,7 +7,7 @@ use crate::damage;
 use crate::paper::blocks::per_block;
 use crate::paper::search::{full_search, Lent, Place};
 use crate::paper::writer::file_of;
-use crate::paper::{each_axis, Entry, Town, HEIGHT, LIMIT};
+use crate::paper::{each_axis, Entry, Town, LIMIT};
 use crate::rng::Rng;
 use crate::tally::Tally;
 use crate::towns::{self, Sort, SORTS};
@@ -227,7 +227,7 @@ fn spoiled<const A: usize>(town: &Town<A>, faults: usize, rng: &mut Rng) -> Vec<
 /// eight faults. The last is a town of B axes.
 fn together<const A: usize, const B: usize>(rng: &mut Rng, tally: &mut Tally) -> Result<usize, Failure> {
     let mut refused = 0;
-    for faults in 0..if HEIGHT { 256usize } else { 128 } {
+    for faults in 0..256usize {
         for _ in 0..30 {
             let has = |fault: usize| faults >> fault & 1 == 1;
             let full = per_block(if has(7) { B } else { A });

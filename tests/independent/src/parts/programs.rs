@@ -8,7 +8,7 @@ use crate::paper::blocks::SIZE;
 use crate::paper::directory::directory_blocks;
 use crate::paper::program::printed;
 use crate::paper::writer::file_of;
-use crate::paper::{Point, Site, Town, HEIGHT, LIMIT};
+use crate::paper::{Point, Site, Town, LIMIT};
 use crate::rng::Rng;
 use crate::towns::{self, Sort, SORTS};
 use std::io::{Read, Write};
@@ -297,9 +297,7 @@ pub fn run(path: &str, rng: &mut Rng) -> Result<String, Failure> {
     answered(&mut program, rng)?;
     cut(&mut program, rng)?;
     refused(&mut program, rng)?;
-    if HEIGHT {
-        with_height(&mut program, rng)?;
-    }
+    with_height(&mut program, rng)?;
     Ok(format!(
         "{} inputs, whole output each: {} `input`, {} refused, {} answered with the worked example among them",
         count(program.runs),

@@ -9,7 +9,7 @@ use crate::paper::boxes::{margin_of_all_points, smallest_around};
 use crate::paper::directory::directory_blocks;
 use crate::paper::search::{self, full_search, struck_by};
 use crate::paper::writer::file_of;
-use crate::paper::{each_axis, Bounds, Entry, Town, HEIGHT, LIMIT};
+use crate::paper::{each_axis, Bounds, Entry, Town, LIMIT};
 use crate::rng::Rng;
 use crate::tally::Tally;
 use crate::towns::{self, Sort, SORTS};
@@ -113,7 +113,7 @@ fn spoiled<const A: usize>(town: &Town<A>, faults: usize, rng: &mut Rng) -> Vec<
 /// "Strike: 1, directory, 11, 9 for O, 14", and 17 after 11: every set of the six faults. The last is a town of B axes.
 fn refusals<const A: usize, const B: usize>(rng: &mut Rng, tally: &mut Tally) -> Result<usize, Failure> {
     let mut refused = 0;
-    for faults in 0..if HEIGHT { 64usize } else { 32 } {
+    for faults in 0..64usize {
         for _ in 0..60 {
             let has = |fault: usize| faults >> fault & 1 == 1;
             let full = per_block(if has(5) { B } else { A });
