@@ -68,3 +68,14 @@ int64_t c_margin(int32_t ox0, int32_t ox1, int32_t oy0, int32_t oy1,
         return INT64_C(9000000000000000000);
     return axis_margin(ox0, ox1, ex0, ex1, bx0, bx1) + axis_margin(oy0, oy1, ey0, ey1, by0, by1);
 }
+
+int64_t c_margin3(int32_t ox0, int32_t ox1, int32_t oy0, int32_t oy1, int32_t oz0, int32_t oz1,
+                  int32_t ex0, int32_t ex1, int32_t ey0, int32_t ey1, int32_t ez0, int32_t ez1,
+                  int32_t bx0, int32_t bx1, int32_t by0, int32_t by1, int32_t bz0, int32_t bz1)
+{
+    if (!(valid(ox0, ox1) && valid(oy0, oy1) && valid(oz0, oz1) && valid(ex0, ex1) && valid(ey0, ey1) &&
+          valid(ez0, ez1) && valid(bx0, bx1) && valid(by0, by1) && valid(bz0, bz1)))
+        return INT64_C(9000000000000000000);
+    return axis_margin(ox0, ox1, ex0, ex1, bx0, bx1) + axis_margin(oy0, oy1, ey0, ey1, by0, by1) +
+           axis_margin(oz0, oz1, ez0, ez1, bz0, bz1);
+}

@@ -16,10 +16,13 @@ uint32_t c_block_check(const uint8_t *block, size_t block_len);
 /* The same answers, but the sums are reduced once at the end: they stay below 2^32. */
 uint32_t c_block_check_late(const uint8_t *block, size_t block_len);
 
-/* As nearby_margin. */
+/* As nearby_margin and nearby_margin3. */
 int64_t c_margin(int32_t ox0, int32_t ox1, int32_t oy0, int32_t oy1,
                  int32_t ex0, int32_t ex1, int32_t ey0, int32_t ey1,
                  int32_t bx0, int32_t bx1, int32_t by0, int32_t by1);
+int64_t c_margin3(int32_t ox0, int32_t ox1, int32_t oy0, int32_t oy1, int32_t oz0, int32_t oz1,
+                  int32_t ex0, int32_t ex1, int32_t ey0, int32_t ey1, int32_t ez0, int32_t ez1,
+                  int32_t bx0, int32_t bx1, int32_t by0, int32_t by1, int32_t bz0, int32_t bz1);
 
 #ifdef __cplusplus
 }

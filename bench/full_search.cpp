@@ -5,21 +5,21 @@
 
 namespace {
 
-class FullSearch : public Index {
-public:
-    FullSearch(const Bytes &file, BlockCheck check) : sites_(read_sites(file, check)) {}
+double square(double d) { return d * d; }
 
-    void ask(const Query &q, Lists &out) const override
+template <size_t A> class FullSearch : public Index<A> {
+public:
+    FullSearch(const Bytes &file, BlockCheck check) : sites_(read_sites<A>(file, check)) {}
+
+    void ask(const Query<A> &q, Lists &out) const override
     {
         size_t n = sites_.size();
         std::vector<double> dist(n);
-        Best best(q.k);
+        Best<A> best(q.k);
         for (size_t i = 0; i < q.stops(); i++) {
-            double px = q.x[i], py = q.y[i];
-            for (size_t j = 0; j < n; j++) {
-                double dx = sites_.x[j] - px, dy = sites_.y[j] - py;
-                dist[j] = dx * dx + dy * dy;
-            }
+            auto p = stop_at<double>(q, i);
+            for (size_t j = 0; j < n; j++)
+                dist[j] = sum<A>([&](size_t a) { return square(sites_.at[a][j] - p[a]); });
             best.clear();
             double worst = 1e18;
             for (size_t j = 0; j < n; j++) {
@@ -34,12 +34,15 @@ public:
     }
 
 private:
-    Sites sites_;
+    Sites<A> sites_;
 };
 
 } // namespace
 
-std::unique_ptr<Index> full_search(const Bytes &file, BlockCheck check, Use)
+template <size_t A> std::unique_ptr<Index<A>> full_search(const Bytes &file, BlockCheck check, Use)
 {
-    return std::make_unique<FullSearch>(file, check);
+    return std::make_unique<FullSearch<A>>(file, check);
 }
+
+template std::unique_ptr<Index<2>> full_search<2>(const Bytes &, BlockCheck, Use);
+template std::unique_ptr<Index<3>> full_search<3>(const Bytes &, BlockCheck, Use);

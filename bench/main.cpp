@@ -27,20 +27,28 @@ FILE *results;
 struct Engine {
     std::vector<uint8_t> marks = std::vector<uint8_t>(NEARBY_MAX_TILES);
     nearby_joined joined{};
-    void run(const Query &q, Lists &out)
+    void run(const Query<2> &q, Lists &out)
     {
-        joined = nearby_join(q.file.data(), q.file.size(), q.x.data(), q.x.size(), q.y.data(), q.y.size(), q.k,
+        const auto &[x, y] = q.at;
+        joined = nearby_join(q.file.data(), q.file.size(), x.data(), x.size(), y.data(), y.size(), q.k,
                              out.dist.data(), out.dist.size(), out.site.data(), out.site.size(), out.cue.data(),
                              out.cue.size(), marks.data(), marks.size());
+    }
+    void run(const Query<3> &q, Lists &out)
+    {
+        const auto &[x, y, z] = q.at;
+        joined = nearby_join3(q.file.data(), q.file.size(), x.data(), x.size(), y.data(), y.size(), z.data(), z.size(),
+                              q.k, out.dist.data(), out.dist.size(), out.site.data(), out.site.size(), out.cue.data(),
+                              out.cue.size(), marks.data(), marks.size());
     }
 };
 
 // One input with everything that answers it: (a) to (f), each with lists of its own.
-class Cell {
+template <size_t A> class Cell {
 public:
-    Cell(const Town &town, const std::string &stops, size_t n, uint32_t k, BlockCheck check = c_block_check)
+    Cell(const Town<A> &town, const std::string &stops, size_t n, uint32_t k, BlockCheck check = c_block_check)
         : town_(town), kind_(stops), stops_(stops == "track" ? track(town, n) : spread(town, n)),
-          query_{town.file, stops_.x, stops_.y, k}, check_(check), lists_(6, Lists(n * k))
+          query_{town.file, stops_, k}, check_(check), lists_(6, Lists(n * k))
     {
     }
 
@@ -48,9 +56,11 @@ public:
     {
         std::vector<Runner> r;
         r.push_back({"engine", [this] { engine_.run(query_, lists_[0]); }});
-        r.push_back({"search", [this] { full_search(town_.file, check_, Use::ONCE)->ask(query_, lists_[1]); }});
-        r.push_back({"nanoflann", [this] { nanoflann_tree(town_.file, check_, Use::ONCE)->ask(query_, lists_[2]); }});
-        r.push_back({"rtree", [this] { boost_rtree(town_.file, check_, Use::ONCE)->ask(query_, lists_[3]); }});
+        r.push_back({"search", [this] { full_search<A>(town_.file, check_, Use::ONCE)->ask(query_, lists_[1]); }});
+        r.push_back({"nanoflann", [this] {
+                         nanoflann_tree<A>(town_.file, check_, Use::ONCE)->ask(query_, lists_[2]);
+                     }});
+        r.push_back({"rtree", [this] { boost_rtree<A>(town_.file, check_, Use::ONCE)->ask(query_, lists_[3]); }});
         r.push_back({"paper", [this] { counts_[0] = paper(query_, check_, lists_[4]); }});
         r.push_back({"tuned", [this] { counts_[1] = tuned_paper(query_, check_, lists_[5]); }});
         return r;
@@ -60,7 +70,7 @@ public:
     std::vector<Runner> askers()
     {
         ready_.clear();
-        for (auto make : {full_search, nanoflann_tree, boost_rtree})
+        for (auto make : {full_search<A>, nanoflann_tree<A>, boost_rtree<A>})
             ready_.push_back(make(town_.file, check_, Use::AGAIN));
         std::vector<Runner> r;
         const char *names[] = {"search", "nanoflann", "rtree"};
@@ -100,7 +110,7 @@ public:
 
     void print(const std::vector<Runner> &runners) const
     {
-        std::printf("%-14s %-6s %4zu %3u", town_.name.c_str(), kind_.c_str(), query_.stops(), query_.k);
+        std::printf("%-15s %-6s %4zu %3u", town_.name.c_str(), kind_.c_str(), query_.stops(), query_.k);
         for (const Runner &r : runners)
             std::printf(" %10.1f", r.best);
         std::printf("  ");
@@ -111,28 +121,29 @@ public:
     }
 
 private:
-    const Town &town_;
+    const Town<A> &town_;
     std::string kind_;
-    Stops stops_;
-    Query query_;
+    Stops<A> stops_;
+    Query<A> query_;
     BlockCheck check_;
     Engine engine_;
     PaperCounts counts_[2] = {};
-    std::vector<std::unique_ptr<Index>> ready_;
+    std::vector<std::unique_ptr<Index<A>>> ready_;
     std::vector<Lists> lists_;
 };
 
 void header(const char *title)
 {
     std::printf("\n%s: microseconds, then ratios to the engine, then tiles opened/struck\n"
-                "%-14s %-6s %4s %3s %10s %10s %10s %10s %10s %10s\n",
+                "%-15s %-6s %4s %3s %10s %10s %10s %10s %10s %10s\n",
                 title, "town", "stops", "n", "k", "engine", "search", "nanoflann", "rtree", "paper", "tuned");
 }
 
-void measure_cell(const char *group, const Town &town, const std::string &stops, size_t n, uint32_t k,
+template <size_t A>
+void measure_cell(const char *group, const Town<A> &town, const std::string &stops, size_t n, uint32_t k,
                   BlockCheck check = c_block_check)
 {
-    Cell cell(town, stops, n, k, check);
+    Cell<A> cell(town, stops, n, k, check);
     std::vector<Runner> runners = cell.runners();
     measure(runners);
     cell.compare();
@@ -147,88 +158,105 @@ void measure_cell(const char *group, const Town &town, const std::string &stops,
     cell.write("ask", askers);
 }
 
-void measure_inputs(const Town &town)
+template <size_t A> void measure_town(const Town<A> &town, const char *stops)
+{
+    std::fprintf(results, "town\t%s\t%zu\t%s\n", town.name.c_str(), A, town.words.c_str());
+    for (size_t n : {1, 256})
+        for (uint32_t k : {1, 8, 64})
+            measure_cell("main", town, stops, n, k);
+}
+
+void measure_inputs(const Town<2> &town, const Town<3> &high)
 {
     header("All inputs");
-    auto all = [](const Town &t, const char *stops) {
-        std::fprintf(results, "town\t%s\t%s\n", t.name.c_str(), t.words.c_str());
-        for (size_t n : {1, 256})
-            for (uint32_t k : {1, 8, 64})
-                measure_cell("main", t, stops, n, k);
-    };
-    all(town, "track");
-    all(town, "spread");
-    for (const Town &t : {grid(960, 8), half_muted(), clustered(), overlapping(), alike()})
-        all(t, "track");
+    measure_town(town, "track");
+    measure_town(town, "spread");
+    for (const Town<2> &t : {grid(960, 8), half_muted(), clustered(), overlapping(), alike()})
+        measure_town(t, "track");
+    measure_town(high, "track");
+    measure_town(high, "spread");
     header("Peers with the late check");
     for (const char *stops : {"track", "spread"})
         measure_cell("late", town, stops, 256, 8, c_block_check_late);
+    for (const char *stops : {"track", "spread"})
+        measure_cell("late", high, stops, 256, 8, c_block_check_late);
+}
+
+template <size_t A> void try_cell(const Town<A> &town, const char *stops, size_t n, uint32_t k, BlockCheck check)
+{
+    Cell<A> cell(town, stops, n, k, check);
+    for (Runner &r : cell.runners())
+        r.run();
+    cell.compare();
+    for (Runner &r : cell.askers())
+        r.run();
+    cell.compare();
 }
 
 // Lists with many ties, empty tiles and unused places, before anything is timed.
-void rehearse()
+template <size_t A> void rehearse(const std::vector<Town<A>> &few)
 {
-    Town town = tied();
+    Town<A> town = tied<A>();
     for (const char *stops : {"track", "spread"})
         for (size_t n : {1, 100})
             for (uint32_t k : {1, 2, 8, 64})
-                for (BlockCheck check : {c_block_check, c_block_check_late}) {
-                    Cell cell(town, stops, n, k, check);
-                    for (Runner &r : cell.runners())
-                        r.run();
-                    cell.compare();
-                }
-    for (uint32_t sites : {0, 1, 3}) {
-        Town few = grid(4, sites);
-        Cell cell(few, "track", 10, 64);
-        for (Runner &r : cell.runners())
-            r.run();
-        cell.compare();
-    }
+                for (BlockCheck check : {c_block_check, c_block_check_late})
+                    try_cell(town, stops, n, k, check);
+    for (const Town<A> &t : few)
+        try_cell(t, "track", 10, 64, c_block_check);
 }
 
 // The block check and the margin, against C.
 
-struct Triple {
-    int32_t v[12];
+template <size_t A> struct Triple {
+    int32_t v[6 * A];
 };
 
-template <class F> int64_t margin_of(F f, const Triple &t)
+template <class F, size_t A, size_t... i> int64_t margin_of(F f, const Triple<A> &t, std::index_sequence<i...>)
 {
-    const int32_t *v = t.v;
-    return f(v[0], v[1], v[2], v[3], v[4], v[5], v[6], v[7], v[8], v[9], v[10], v[11]);
+    return f(t.v[i]...);
+}
+
+template <class F, size_t A> int64_t margin_of(F f, const Triple<A> &t)
+{
+    return margin_of(f, t, std::make_index_sequence<6 * A>());
 }
 
 // O around the track, E and B every 15th tile: as a strike call asks.
-std::vector<Triple> tile_pairs(const Town &town)
+template <size_t A> std::vector<Triple<A>> tile_pairs(const Town<A> &town)
 {
-    Stops s = track(town, 256);
-    auto [x0, x1] = std::minmax_element(s.x.begin(), s.x.end());
-    auto [y0, y1] = std::minmax_element(s.y.begin(), s.y.end());
-    Directory dir = read_directory(town.file, c_block_check);
-    std::vector<Triple> list;
+    Stops<A> s = track(town, 256);
+    Directory<A> dir = read_directory<A>(town.file, c_block_check);
+    std::vector<Triple<A>> list;
     for (size_t b = 0; b < dir.tiles(); b += 15)
         for (size_t e = 0; e < dir.tiles(); e += 15) {
-            const Box &p = dir.box[e], &q = dir.box[b];
-            list.push_back({{*x0, *x1, *y0, *y1, p.x0, p.x1, p.y0, p.y1, q.x0, q.x1, q.y0, q.y1}});
+            Triple<A> t;
+            for (size_t a = 0; a < A; a++) {
+                auto [low, high] = std::minmax_element(s[a].begin(), s[a].end());
+                const Span ends[] = {{*low, *high}, dir.box[e][a], dir.box[b][a]};
+                for (size_t i = 0; i < 3; i++) {
+                    t.v[2 * (A * i + a)] = ends[i].low;
+                    t.v[2 * (A * i + a) + 1] = ends[i].high;
+                }
+            }
+            list.push_back(t);
         }
     return list;
 }
 
-void write_ns(const char *what, std::vector<Runner> &runners, size_t calls)
+void write_ns(const std::string &what, std::vector<Runner> &runners, size_t calls)
 {
     measure(runners, 100000);
-    std::printf("%-30s", what);
+    std::printf("%-45s", what.c_str());
     for (Runner &r : runners) {
         std::printf("  %s %.2f ns", r.name.c_str(), r.best * 1000 / calls);
-        std::fprintf(results, "ns\t%s\t%s\t%.4f\n", what, r.name.c_str(), r.best * 1000 / calls);
+        std::fprintf(results, "ns\t%s\t%s\t%.4f\n", what.c_str(), r.name.c_str(), r.best * 1000 / calls);
     }
     std::printf("\n");
 }
 
-void measure_checks(const Town &town)
+void measure_check(const Town<2> &town)
 {
-    std::printf("\nBlock check and margin alone\n");
     const Bytes &f = town.file;
     size_t blocks = f.size() / BLOCK;
     Bytes bad = f;
@@ -254,44 +282,49 @@ void measure_checks(const Town &town)
                                {"c", over_blocks(c_block_check)},
                                {"c-late", over_blocks(c_block_check_late)}};
     write_ns("block check", checks, blocks);
+}
 
+// `proved` and `c` take the same numbers; `named` says which margin it is.
+template <size_t A, class F> void measure_margin(const Town<A> &town, const std::string &named, F proved, F c)
+{
     std::mt19937_64 rng(7);
-    std::vector<Triple> mixed(4096);
-    for (Triple &t : mixed)
-        for (int i = 0; i < 12; i += 2) {
+    std::vector<Triple<A>> mixed(4096);
+    for (Triple<A> &t : mixed)
+        for (size_t i = 0; i < 6 * A; i += 2) {
             int32_t a = int32_t(rng() % 2000001) - 1000000, w = int32_t(rng() % 200000);
             t.v[i] = a;
             t.v[i + 1] = std::min(a + w, 1000000);
         }
-    std::vector<Triple> same(4096, mixed[0]), pairs = tile_pairs(town);
-    for (Triple t : mixed)
-        for (int bad_at = -1; bad_at < 12; bad_at++) {
+    std::vector<Triple<A>> same(4096, mixed[0]), pairs = tile_pairs(town);
+    for (Triple<A> t : mixed)
+        for (int bad_at = -1; bad_at < int(6 * A); bad_at++) {
             if (bad_at >= 0)
                 t.v[bad_at] = 1000001;
-            if (margin_of(nearby_margin, t) != margin_of(c_margin, t))
+            if (margin_of(proved, t) != margin_of(c, t))
                 fail("margins differ");
         }
-    auto over_triples = [&](const std::vector<Triple> &list, auto f) {
+    volatile uint64_t sink = 0;
+    auto over_triples = [&](const std::vector<Triple<A>> &list, F f) {
         return [&, f] {
             uint64_t sum = 0;
-            for (const Triple &t : list)
+            for (const Triple<A> &t : list)
                 sum += uint64_t(margin_of(f, t));
             sink = sink + sum;
         };
     };
-    using Named = std::pair<const char *, const std::vector<Triple> &>;
-    for (const auto &[what, list] : {Named("margin, tile pairs of the grid", pairs), {"margin, random boxes", mixed},
-                                     {"margin, one triple again", same}}) {
-        std::vector<Runner> margins{{"proved", over_triples(list, nearby_margin)}, {"c", over_triples(list, c_margin)}};
-        write_ns(what, margins, list.size());
+    using Named = std::pair<const char *, const std::vector<Triple<A>> &>;
+    for (const auto &[what, list] : {Named(", tile pairs of the grid", pairs), Named(", random boxes", mixed),
+                                     Named(", one triple again", same)}) {
+        std::vector<Runner> margins{{"proved", over_triples(list, proved)}, {"c", over_triples(list, c)}};
+        write_ns(named + what, margins, list.size());
     }
 }
 
 // Reading alone: every block checked and decoded, as (b), (c), (d) do first.
-void measure_reading(const Town &town)
+template <size_t A> void measure_reading(const Town<A> &town)
 {
-    std::vector<Runner> r{{"paper's check", [&] { read_sites(town.file, c_block_check); }},
-                          {"late check", [&] { read_sites(town.file, c_block_check_late); }}};
+    std::vector<Runner> r{{"paper's check", [&] { read_sites<A>(town.file, c_block_check); }},
+                          {"late check", [&] { read_sites<A>(town.file, c_block_check_late); }}};
     measure(r);
     std::printf("\nReading all of %s:", town.name.c_str());
     for (Runner &x : r) {
@@ -306,58 +339,61 @@ void measure_growth()
     header("Growth");
     for (size_t tiles : {24, 48, 96, 192, 384, 768, 960})
         measure_cell("growth-T", grid(tiles, 40), "track", 64, 8);
-    Town town = grid(960, 40);
+    Town<2> town = grid(960, 40);
     for (size_t n = 1; n <= 256; n *= 2)
         measure_cell("growth-n", town, "track", n, 8);
     for (uint32_t k = 1; k <= 64; k *= 2)
         measure_cell("growth-k", town, "track", 64, k);
 }
 
-void measure_stack(const Town &town)
+void measure_stack(const Town<2> &town, const Town<3> &high)
 {
-    Stops s = track(town, 256);
     Lists lists(256 * 64);
-    std::vector<uint8_t> marks(960), out(NEARBY_MAX_FILE);
-    Query q{town.file, s.x, s.y, 64};
+    std::vector<uint8_t> marks(960), out(Format<3>::LONGEST);
+    Stops<2> stops = track(town, 256);
+    Stops<3> climbing = track(high, 256);
+    Query<2> q{town.file, stops, 64};
+    Query<3> q3{high.file, climbing, 64};
     Engine engine;
-    const Bytes &f = town.file;
+    const Bytes &f = town.file, &g = high.file;
     // A small town for the writer; its stack does not hang on the lists.
-    std::vector<int32_t> boxes{0, 0, 9, 9}, x(40, 5), y(40, 6);
-    std::vector<uint32_t> counts{40}, cues(40, 7);
+    std::vector<int32_t> boxes{0, 0, 9, 9}, boxes3{0, 0, 0, 9, 9, 9}, x(40, 5), y(40, 6), z(40, 7);
+    std::vector<uint32_t> counts{40}, counts3{30}, cues(40, 7);
     std::vector<std::pair<const char *, std::function<void()>>> calls{
         {"(an empty call)", [] {}},
         {"nearby_join", [&] { engine.run(q, lists); }},
+        {"nearby_join3", [&] { engine.run(q3, lists); }},
         {"nearby_prune",
          [&] { nearby_prune(f.data(), f.size(), -100, 100, -100, 100, 64, marks.data(), marks.size()); }},
+        {"nearby_prune3",
+         [&] { nearby_prune3(g.data(), g.size(), -100, 100, -100, 100, 0, 100, 64, marks.data(), marks.size()); }},
         {"nearby_validate", [&] { nearby_validate(f.data(), f.size()); }},
+        {"nearby_validate, with height", [&] { nearby_validate(g.data(), g.size()); }},
         {"nearby_write",
          [&] {
              nearby_write(boxes.data(), 4, counts.data(), 1, x.data(), 40, y.data(), 40, cues.data(), 40, out.data(),
                           out.size());
          }},
+        {"nearby_write3",
+         [&] {
+             nearby_write3(boxes3.data(), 6, counts3.data(), 1, x.data(), 30, y.data(), 30, z.data(), 30, cues.data(),
+                           30, out.data(), out.size());
+         }},
         {"nearby_block_check", [&] { nearby_block_check(f.data(), BLOCK); }},
         {"nearby_margin", [&] { nearby_margin(0, 1, 0, 1, 2, 3, 2, 3, 4, 5, 4, 5); }},
+        {"nearby_margin3", [&] { nearby_margin3(0, 1, 0, 1, 0, 1, 2, 3, 2, 3, 2, 3, 4, 5, 4, 5, 4, 5); }},
     };
     std::printf("\nStack written, in bytes, frames of the measure included\n");
     for (auto &[name, call] : calls) {
         size_t used = stack_used(call);
-        std::printf("%-20s %zu\n", name, used);
+        std::printf("%-30s %zu\n", name, used);
         std::fprintf(results, "stack\t%s\t%zu\n", name, used);
     }
 }
 
-Town named(const std::string &name)
+template <size_t A> int one(const Town<A> &town, char **v)
 {
-    for (Town &t : std::vector<Town>{grid(960, 40), grid(960, 8), clustered(), overlapping(), alike()})
-        if (t.name == name)
-            return t;
-    fail("no town " + name);
-}
-
-int one(char **v)
-{
-    Town town = named(v[3]);
-    Cell cell(town, v[4], size_t(std::atoi(v[5])), uint32_t(std::atoi(v[6])));
+    Cell<A> cell(town, v[4], size_t(std::atoi(v[5])), uint32_t(std::atoi(v[6])));
     for (Runner &r : cell.runners()) {
         if (r.name != v[2])
             continue;
@@ -374,6 +410,17 @@ int one(char **v)
     fail("no runner " + std::string(v[2]));
 }
 
+int one(char **v)
+{
+    for (const Town<2> &t : {grid(960, 40), grid(960, 8), clustered(), overlapping(), alike()})
+        if (t.name == v[3])
+            return one(t, v);
+    Town<3> high = storeys(960, 30);
+    if (high.name == v[3])
+        return one(high, v);
+    fail("no town " + std::string(v[3]));
+}
+
 } // namespace
 
 int main(int c, char **v)
@@ -385,16 +432,22 @@ int main(int c, char **v)
     results = std::fopen(v[1], "w");
     if (!results)
         fail("cannot write " + std::string(v[1]));
-    rehearse();
-    Town town = grid(960, 40);
+    rehearse<2>({grid(4, 0), grid(4, 1), grid(4, 3)});
+    rehearse<3>({storeys(6, 0), storeys(6, 1), storeys(6, 3)});
+    Town<2> town = grid(960, 40);
+    Town<3> high = storeys(960, 30);
     for (int pass = 1; pass <= 2; pass++) {
         std::printf("\nPass %d of 2\n", pass);
-        measure_inputs(town);
+        measure_inputs(town, high);
         measure_reading(town);
-        measure_checks(town);
+        measure_reading(high);
+        std::printf("\nBlock check and margin alone\n");
+        measure_check(town);
+        measure_margin(town, "margin", nearby_margin, c_margin);
+        measure_margin(high, "margin with height", nearby_margin3, c_margin3);
         measure_growth();
     }
-    measure_stack(town);
+    measure_stack(town, high);
     if (std::fclose(results) != 0)
         fail("cannot write " + std::string(v[1]));
 }

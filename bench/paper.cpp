@@ -25,42 +25,44 @@ int64_t axis_margin(int64_t o0, int64_t o1, int64_t e0, int64_t e1, int64_t b0, 
 }
 
 // The margin of each pair, from the boxes.
-struct PairMargins {
-    const Directory &dir;
-    Box o;
+template <size_t A> struct PairMargins {
+    const Directory<A> &dir;
+    Box<A> o;
     int64_t operator()(size_t e, size_t b) const
     {
-        const Box &p = dir.box[e], &q = dir.box[b];
-        return axis_margin(o.x0, o.x1, p.x0, p.x1, q.x0, q.x1) + axis_margin(o.y0, o.y1, p.y0, p.y1, q.y0, q.y1);
+        const Box<A> &p = dir.box[e], &q = dir.box[b];
+        return sum<A>([&](size_t a) {
+            return axis_margin(o[a].low, o[a].high, p[a].low, p[a].high, q[a].low, q[a].high);
+        });
     }
 };
 
-// The margin of each pair, from squares taken once for each tile from the four ends of O.
+// The margin of each pair, from squares taken once for each tile, on each axis from both ends of O.
 struct Ends {
-    int64_t x0, x1, y0, y1;
+    int64_t low, high;
 };
 
-struct TableMargins {
-    std::vector<Ends> far, near;
-    TableMargins(const Directory &dir, const Box &o) : far(dir.tiles()), near(dir.tiles())
+template <size_t A> struct TableMargins {
+    std::vector<std::array<Ends, A>> far, near;
+    TableMargins(const Directory<A> &dir, const Box<A> &o) : far(dir.tiles()), near(dir.tiles())
     {
-        for (size_t t = 0; t < dir.tiles(); t++) {
-            const Box &b = dir.box[t];
-            far[t] = {far_square(o.x0, b.x0, b.x1), far_square(o.x1, b.x0, b.x1),
-                      far_square(o.y0, b.y0, b.y1), far_square(o.y1, b.y0, b.y1)};
-            near[t] = {near_square(o.x0, b.x0, b.x1), near_square(o.x1, b.x0, b.x1),
-                       near_square(o.y0, b.y0, b.y1), near_square(o.y1, b.y0, b.y1)};
-        }
+        for (size_t t = 0; t < dir.tiles(); t++)
+            for (size_t a = 0; a < A; a++) {
+                const Span &b = dir.box[t][a];
+                far[t][a] = {far_square(o[a].low, b.low, b.high), far_square(o[a].high, b.low, b.high)};
+                near[t][a] = {near_square(o[a].low, b.low, b.high), near_square(o[a].high, b.low, b.high)};
+            }
     }
     int64_t operator()(size_t e, size_t b) const
     {
-        return std::max(far[e].x0 - near[b].x0, far[e].x1 - near[b].x1) +
-               std::max(far[e].y0 - near[b].y0, far[e].y1 - near[b].y1);
+        return sum<A>([&](size_t a) {
+            return std::max(far[e][a].low - near[b][a].low, far[e][a].high - near[b][a].high);
+        });
     }
 };
 
-template <class Margins>
-std::vector<uint8_t> strike(const Directory &dir, const Margins &margin, uint32_t k, PaperCounts &counts)
+template <size_t A, class Margins>
+std::vector<uint8_t> strike(const Directory<A> &dir, const Margins &margin, uint32_t k, PaperCounts &counts)
 {
     size_t tiles = dir.tiles();
     std::vector<uint8_t> marks(tiles);
@@ -84,19 +86,19 @@ struct Key {
 };
 
 // Serves the stops; `each_waiting` calls its argument with each tile that is not struck and has a sounding site.
-template <class Waiting>
-void serve(const Query &q, BlockCheck check, const Directory &dir, std::vector<uint8_t> &marks,
+template <size_t A, class Waiting>
+void serve(const Query<A> &q, BlockCheck check, const Directory<A> &dir, std::vector<uint8_t> &marks,
            const Waiting &each_waiting, PaperCounts &counts, Lists &out)
 {
     std::vector<Key> keys;
     keys.reserve(dir.tiles());
-    Best best(q.k);
+    Best<A> best(q.k);
     for (size_t i = 0; i < q.stops(); i++) {
-        int64_t px = q.x[i], py = q.y[i];
+        auto stop = stop_at<int64_t>(q, i);
         keys.clear();
         each_waiting([&](uint32_t t) {
-            const Box &b = dir.box[t];
-            keys.push_back({uint64_t(near_square(px, b.x0, b.x1) + near_square(py, b.y0, b.y1)), t});
+            const Box<A> &b = dir.box[t];
+            keys.push_back({uint64_t(sum<A>([&](size_t a) { return near_square(stop[a], b[a].low, b[a].high); })), t});
         });
         std::make_heap(keys.begin(), keys.end(), std::greater<>());
         best.clear();
@@ -113,29 +115,30 @@ void serve(const Query &q, BlockCheck check, const Directory &dir, std::vector<u
                 counts.opened++;
             }
             const uint8_t *p = tile_block(q.file, dir, next.tile) + PAYLOAD;
-            for (uint32_t j = 0; j < dir.count[next.tile]; j++, p += SITE)
-                if (u32_at(p + 8) != 0)
-                    best.add({uint64_t(square(i32_at(p) - px) + square(i32_at(p + 4) - py)),
-                              uint32_t(next.tile * SLOTS + j), u32_at(p + 8)});
+            for (uint32_t j = 0; j < dir.count[next.tile]; j++, p += Format<A>::SITE)
+                if (u32_at(p + Format<A>::CUE) != 0)
+                    best.add({uint64_t(sum<A>([&](size_t a) { return square(i32_at(p + 4 * a) - stop[a]); })),
+                              uint32_t(next.tile * SLOTS + j), u32_at(p + Format<A>::CUE)});
         }
         best.put(out, i);
     }
 }
 
-Box around(const Query &q)
+template <size_t A> Box<A> around(const Query<A> &q)
 {
-    auto [x0, x1] = std::minmax_element(q.x.begin(), q.x.end());
-    auto [y0, y1] = std::minmax_element(q.y.begin(), q.y.end());
-    return {*x0, *x1, *y0, *y1};
+    return made<Box<A>, A>([&](size_t a) {
+        auto [low, high] = std::minmax_element(q.at[a].begin(), q.at[a].end());
+        return Span{*low, *high};
+    });
 }
 
 } // namespace
 
-PaperCounts paper(const Query &q, BlockCheck check, Lists &out)
+template <size_t A> PaperCounts paper(const Query<A> &q, BlockCheck check, Lists &out)
 {
-    Directory dir = read_directory(q.file, check);
+    Directory<A> dir = read_directory<A>(q.file, check);
     PaperCounts counts{0, 0};
-    std::vector<uint8_t> marks = strike(dir, PairMargins{dir, around(q)}, q.k, counts);
+    std::vector<uint8_t> marks = strike(dir, PairMargins<A>{dir, around(q)}, q.k, counts);
     auto all = [&](auto take) {
         for (uint32_t t = 0; t < dir.tiles(); t++)
             if (marks[t] != 1 && dir.sounding(t) != 0)
@@ -145,11 +148,11 @@ PaperCounts paper(const Query &q, BlockCheck check, Lists &out)
     return counts;
 }
 
-PaperCounts tuned_paper(const Query &q, BlockCheck check, Lists &out)
+template <size_t A> PaperCounts tuned_paper(const Query<A> &q, BlockCheck check, Lists &out)
 {
-    Directory dir = read_directory(q.file, check);
+    Directory<A> dir = read_directory<A>(q.file, check);
     PaperCounts counts{0, 0};
-    std::vector<uint8_t> marks = strike(dir, TableMargins(dir, around(q)), q.k, counts);
+    std::vector<uint8_t> marks = strike(dir, TableMargins<A>(dir, around(q)), q.k, counts);
     std::vector<uint32_t> waiting;
     for (uint32_t t = 0; t < dir.tiles(); t++)
         if (marks[t] != 1 && dir.sounding(t) != 0)
@@ -161,3 +164,8 @@ PaperCounts tuned_paper(const Query &q, BlockCheck check, Lists &out)
     serve(q, check, dir, marks, gathered, counts, out);
     return counts;
 }
+
+template PaperCounts paper<2>(const Query<2> &, BlockCheck, Lists &);
+template PaperCounts paper<3>(const Query<3> &, BlockCheck, Lists &);
+template PaperCounts tuned_paper<2>(const Query<2> &, BlockCheck, Lists &);
+template PaperCounts tuned_paper<3>(const Query<3> &, BlockCheck, Lists &);

@@ -13,6 +13,7 @@ COLOURS = {'engine': '#6a3d9a', 'search': '#888888', 'nanoflann': '#1f78b4', 'rt
            'tuned': '#b15928'}
 PEERS = ['search', 'nanoflann', 'rtree', 'paper', 'tuned']
 TARGET = ('grid 960 x 40', 'track', 256, 8)
+HIGH_TARGET = ('height 960 x 30', 'track', 256, 8)
 STACK_LIMIT = 512 * 1024
 
 
@@ -26,21 +27,26 @@ def keep(times, name, value):
 class Run:
     def __init__(self, path):
         self.times = defaultdict(lambda: defaultdict(dict))  # group -> (town, stops, n, k) -> runner -> microseconds
-        self.counts, self.towns, self.read, self.ns, self.stack = {}, {}, {}, defaultdict(dict), {}
+        self.counts, self.towns, self.axes, self.stack = {}, {}, {}, {}
+        self.read, self.ns = defaultdict(dict), defaultdict(dict)
         for line in open(path):
             group, *v = line.rstrip('\n').split('\t')
             if group == 'town':
-                self.towns[v[0]] = v[1]
+                self.axes[v[0]], self.towns[v[0]] = int(v[1]), v[2]
             elif group == 'counts':
                 self.counts[(v[0], v[1], int(v[2]), int(v[3]))] = [int(x) for x in v[4:]]
             elif group == 'read':
-                keep(self.read, v[1], v[2])
+                keep(self.read[v[0]], v[1], v[2])
             elif group == 'ns':
                 keep(self.ns[v[0]], v[1], v[2])
             elif group == 'stack':
                 self.stack[v[0]] = int(v[1])
             else:
                 keep(self.times[group][(v[0], v[1], int(v[2]), int(v[3]))], v[4], v[5])
+
+    def rows(self, axes):
+        """The rows of the towns with so many axes."""
+        return {cell: v for cell, v in self.times['main'].items() if self.axes[cell[0]] == axes}
 
 
 def three(x):
@@ -196,9 +202,9 @@ def ratios(v):
     return [f'**{words[p]}**' if v[p] < v['engine'] else words[p] for p in PEERS]
 
 
-def main_table(run):
+def main_table(run, axes):
     rows = []
-    for cell, v in run.times['main'].items():
+    for cell, v in run.rows(axes).items():
         opened, struck = run.counts[cell][1:]
         rows.append([*cell, *(three(v[r]) for r in NAMES), *ratios(v), opened, struck])
     return table(['town', 'stops', 'n', 'k', 'a', 'b', 'c', 'd', 'e', 'f', 'b/a', 'c/a', 'd/a', 'e/a', 'f/a',
@@ -208,7 +214,7 @@ def main_table(run):
 def ask_table(run):
     rows = []
     for cell, v in run.times['ask'].items():
-        if cell[:2] in (('grid 960 x 40', 'track'), ('grid 960 x 40', 'spread'), ('alike', 'track')):
+        if cell[0] in (TARGET[0], 'alike', HIGH_TARGET[0]):
             rows.append([*cell, three(run.times['main'][cell]['engine']),
                          *(three(v[r]) for r in ('search', 'nanoflann', 'rtree'))])
     return table(['town', 'stops', 'n', 'k', 'a, whole call', 'b, sites ready', 'c, tree ready', 'd, tree ready'], rows)
@@ -226,6 +232,12 @@ def ns_table(run):
         rows.append([what, three(v['proved']), three(v['c']), ratio(v['c'] / v['proved']),
                      three(late) if late else '', ratio(late / v['proved']) if late else ''])
     return table(['', 'proved', 'C', 'C / proved', 'C, reduced at the end', '/ proved'], rows)
+
+
+def call(name):
+    """A call of the library, with what is said of it past a comma."""
+    head, comma, rest = name.partition(',')
+    return f'`{head}`{comma}{rest}' if head.startswith('nearby') else name
 
 
 def reach_table(run):
@@ -248,7 +260,7 @@ def reach_table(run):
                  word(set(undefined) <= {'memset', 'memcpy', 'memmove', 'memcmp'} and calls == '0')])
     most = max(run.stack, key=run.stack.get)
     rows.append(['largest frame under 512 KiB, the limit set for the design (the header promises 128 KiB)',
-                 f'{run.stack[most]:,} bytes of stack, by `{most}`', word(run.stack[most] < STACK_LIMIT)])
+                 f'{run.stack[most]:,} bytes of stack, by {call(most)}', word(run.stack[most] < STACK_LIMIT)])
     return table(['On the 960 x 40 grid, track, n = 256, k = 8', 'measured', 'holds'], rows)
 
 
@@ -292,10 +304,27 @@ def slower(run):
     return '\n'.join(lines)
 
 
+def height_words(run):
+    """How the engine stands with height, in words made from the figures."""
+    rows = run.rows(3)
+    ahead = sum(all(v[p] >= v['engine'] for p in PEERS) for v in rows.values())
+    v, plan = rows[HIGH_TARGET], run.times['main'][TARGET]
+    left = {cell: run.counts[cell][0] - run.counts[cell][2] for cell in (TARGET, HIGH_TARGET)}
+    times = {p: ratio(v[p] / v['engine']) for p in PEERS}
+    return f"""- The engine is not slower than any peer in {ahead} of {len(rows)} rows.
+- Track, n = 256, k = 8: {times['nanoflann']} times as fast as nanoflann (c), {times['rtree']} times as fast as the \
+R-tree (d), {times['paper']} times as fast as the paper's algorithm (e), {times['tuned']} times as fast as the same \
+tuned (f).
+- The same without height, on the {TARGET[0]}: {three(plan['engine'])} µs; here {three(v['engine'])} µs. There \
+{left[TARGET]} tiles are not struck and {run.counts[TARGET][1]} are opened, here {left[HIGH_TARGET]} and \
+{run.counts[HIGH_TARGET][1]}: a tile and those above and below it are about as near, so that none strikes another."""
+
+
 def write_page(run):
+    plan, high = run.read[TARGET[0]], run.read[HIGH_TARGET[0]]
     towns = '\n'.join(f'- {name}: {words}' for name, words in run.towns.items())
     stack = table(['call', 'bytes'],
-                  [[f'`{n}`' if n.startswith('nearby') else n, f'{b:,}'] for n, b in run.stack.items()])
+                  [[call(n), f'{b:,}'] for n, b in run.stack.items()])
     page = f"""# Benchmark
 
 Written by `make bench` from one run. Microseconds, best of at least eight runs, in two passes, in which all take
@@ -315,9 +344,10 @@ The clock runs from the file's bytes in memory to the lists of all stops: square
 The output slices are made before. All
 lists are compared, and the run fails if any differ; so are the opened and struck tiles of (a), (e) and (f).
 
-- a: the engine, `nearby_join` of the static library
+- a: the engine, `nearby_join` of the static library; with height `nearby_join3`
 - b: full search: every block checked and decoded, then all sounding sites for each stop
-- c: nanoflann: every block checked and decoded, the k-d tree built, then asked for each stop
+- c: nanoflann: every block checked and decoded, the k-d tree built, then asked for each stop; with height in three \
+dimensions
 - d: Boost.Geometry's R-tree, likewise
 - e: the paper's own algorithm in straightforward C++ (`bench/paper.cpp` says what it does and does not do): \
 a margin for each pair of tiles, all
@@ -331,7 +361,9 @@ they do it with one remainder at the end.
 Towns:
 {towns}
 
-Stops: *track* is a line of 640 m by 213 m, 5% of the grid's width; *spread* is anywhere in the town.
+Stops: *track* is a line of 640 m by 213 m, 5% of the grid's width; with height it climbs 13 m, from the street onto \
+the viaduct.
+*Spread* is anywhere in the town.
 
 ## Reach
 
@@ -342,9 +374,19 @@ Stops: *track* is a line of 640 m by 213 m, 5% of the grid's width; *spread* is 
 Microseconds and ratios to the engine: above 1 the engine is quicker; in bold it is slower. \
 Opened and struck are tiles of {run.counts[TARGET][0]}.
 
-{main_table(run)}
+{main_table(run, 2)}
 
 ![Times for n = 256, k = 8](benchmark/inputs.svg)
+
+## With height
+
+Towns with three axes, in the same run, beside the same peers: each is one text, compiled for two axes and for \
+three, with the same sizes
+of leaves and the same tests of each block. The columns are those above.
+
+{main_table(run, 3)}
+
+{height_words(run)}
 
 ## Where the engine is slower
 
@@ -362,8 +404,8 @@ a leaf here and 64 above: as measured, 16 is quicker to ask and 64 is quicker fo
 
 The same peers when their sums have one remainder at the end. \
 Reading alone (every block of the 960 x 40 grid checked and decoded) takes
-{three(run.read["paper's check"])} µs with the paper's sums and {three(run.read['late check'])} µs with these. \
-Microseconds.
+{three(plan["paper's check"])} µs with the paper's sums and {three(plan['late check'])} µs with these; \
+of the town with height {three(high["paper's check"])} µs and {three(high['late check'])} µs. Microseconds.
 
 {late_table(run)}
 
@@ -371,7 +413,8 @@ Microseconds.
 
 Nanoseconds for one call, over the 1,000 blocks of the 960 x 40 grid and over 4,096 triples of valid boxes: \
 O around the track
-with every 15th tile as E and as B; random boxes; one triple again and again.
+with every 15th tile as E and as B; random boxes; one triple again and again. With height the tiles are those of \
+{HIGH_TARGET[0]}.
 
 {ns_table(run)}
 

@@ -11,60 +11,66 @@ namespace bgi = boost::geometry::index;
 
 namespace {
 
-using Point = bg::model::point<double, 2, bg::cs::cartesian>;
-using Entry = std::pair<Point, uint32_t>;
+double square(double d) { return d * d; }
 
-template <size_t NODE> class RTree : public Index {
+template <size_t A, size_t NODE> class RTree : public Index<A> {
 public:
-    RTree(const Bytes &file, BlockCheck check) : sites_(read_sites(file, check)), tree_(entries(sites_)) {}
+    RTree(const Bytes &file, BlockCheck check) : sites_(read_sites<A>(file, check)), tree_(entries(sites_)) {}
 
-    void ask(const Query &q, Lists &out) const override
+    void ask(const Query<A> &q, Lists &out) const override
     {
         std::vector<Entry> found;
-        std::vector<Place> places;
-        Best best(q.k);
+        std::vector<Place<A>> places;
+        Best<A> best(q.k);
         for (size_t i = 0; i < q.stops(); i++) {
-            double px = q.x[i], py = q.y[i];
+            auto stop = made<Point, A>([&](size_t a) { return double(q.at[a][i]); });
             for (size_t wanted = q.k + 1;; wanted *= 2) {
                 found.clear();
-                tree_.query(bgi::nearest(Point(px, py), unsigned(wanted)), std::back_inserter(found));
+                tree_.query(bgi::nearest(stop, unsigned(wanted)), std::back_inserter(found));
                 places.clear();
                 for (const Entry &e : found) {
-                    double dx = bg::get<0>(e.first) - px, dy = bg::get<1>(e.first) - py;
-                    places.push_back({uint64_t(dx * dx + dy * dy), sites_.site[e.second], sites_.cue[e.second]});
+                    double dist = sum<A>([&](auto a) { return square(bg::get<a>(e.first) - bg::get<a>(stop)); });
+                    places.push_back({uint64_t(dist), sites_.site[e.second], sites_.cue[e.second]});
                 }
                 std::sort(places.begin(), places.end());
                 if (places.size() < wanted || places.back().dist > places[q.k - 1].dist)
                     break;
             }
             best.clear();
-            for (const Place &p : places)
+            for (const Place<A> &p : places)
                 best.add(p);
             best.put(out, i);
         }
     }
 
 private:
-    static std::vector<Entry> entries(const Sites &s)
+    using Point = bg::model::point<double, A, bg::cs::cartesian>;
+    using Entry = std::pair<Point, uint32_t>;
+
+    static std::vector<Entry> entries(const Sites<A> &s)
     {
         std::vector<Entry> v;
         v.reserve(s.size());
         for (size_t j = 0; j < s.size(); j++)
-            v.emplace_back(Point(s.x[j], s.y[j]), uint32_t(j));
+            v.emplace_back(made<Point, A>([&](size_t a) { return s.at[a][j]; }), uint32_t(j));
         return v;
     }
 
-    Sites sites_;
+    Sites<A> sites_;
     bgi::rtree<Entry, bgi::linear<NODE>> tree_;
 };
 
 } // namespace
 
 // Entries in a node. On the 960 x 40 grid with n = 256, k = 8, of 4 to 128: from 64 on the whole call is quickest,
-// within the noise; with the tree ready, questions are quicker with 16 than with 64.
-std::unique_ptr<Index> boost_rtree(const Bytes &file, BlockCheck check, Use use)
+// within the noise; with the tree ready, questions are quicker with 16 than with 64. With height the sizes are the
+// same.
+template <size_t A> std::unique_ptr<Index<A>> boost_rtree(const Bytes &file, BlockCheck check, Use use)
 {
     if (use == Use::ONCE)
-        return std::make_unique<RTree<64>>(file, check);
-    return std::make_unique<RTree<16>>(file, check);
+        return std::make_unique<RTree<A, 64>>(file, check);
+    return std::make_unique<RTree<A, 16>>(file, check);
 }
+
+template std::unique_ptr<Index<2>> boost_rtree<2>(const Bytes &, BlockCheck, Use);
+template std::unique_ptr<Index<3>> boost_rtree<3>(const Bytes &, BlockCheck, Use);
