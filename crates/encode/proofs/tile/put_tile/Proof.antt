@@ -56,7 +56,10 @@ add-put-zeros-3 c =
     search needs
 
 add-put-zeros-4 : tie.Need-add-put-zeros-4
-add-put-zeros-4 c = search needs
+add-put-zeros-4 c =
+    let s : tie.Start = search in
+    let end = used-end search in
+    search needs
 
 put-zeros-requires-2 : tie.Need-put-zeros-requires-2
 put-zeros-requires-2 c κs =
