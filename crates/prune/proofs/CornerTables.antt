@@ -2,35 +2,34 @@
 -- Assumes nothing.
 use Prim.Native.Nat.{ℕ, zero, suc, _+_, _*_, _<_, _≤_}
 use mathlib.Core.Bool.{Bool, false, _&&_, and-true, and-assoc}
-use mathlib.Core.List.{List, map}
+use mathlib.Core.List.{List}
 use mathlib.Core.Path.{_≡_, refl, sym, ap, _∙_}
 use native.Mathlib.Nat.{add-zero, zero-add}
 use native.Mathlib.Omega.{arith}
 use lib.Dec.{ltb, leb}
 use lib.IntN.{ℤ}
-use lib.ListN.{getD}
+use lib.ListN.{getD, set, length-set}
+use lib.Seq.{getD-set-other}
 use borrow.Author.Tests.{ltb-true, ltb-false, le-ltb}
 use Rattle.base.specs.Every.{every}
-use Rattle.base.specs.Over.{over}
 use Rattle.base.specs.Refusal.{accepted}
-use Rattle.blocks.specs.Directory.{directory}
+use Rattle.blocks.specs.Directory.{directory, boxAt}
 use Rattle.blocks.specs.Layout.{maxTiles}
 use Rattle.blocks.specs.declared.header.Header.{Header}
 use Rattle.geometry.specs.Axes.{KnownAxes}
 use Rattle.geometry.specs.Corners.{corners}
+use Rattle.geometry.specs.Distance.{maxDist}
 use Rattle.plan.specs.FilePlan.{space, entries}
 use Rattle.plan.specs.Inner.Seam.{ValidRegion, cornerOf, cornerCount, far}
 use Rattle.search.specs.Lists.{range}
 use Rattle.search.specs.Pruning.{pruned}
 use Rattle.base.proofs.Every.{every-fails, every-same}
-use Rattle.base.proofs.Over.{length-over, getD-before, getD-run}
 use Rattle.base.proofs.Tests.{by-test}
 use Rattle.geometry.proofs.Theorems.{by-axes}
 use Rattle.plan.proofs.Measures.{closer-by-corners, tiles-few}
-use Rattle.plan.proofs.Tables.{table-length, table-at}
 use Rattle.search.proofs.Lists.{all-map, range-below}
 use Rattle.search.proofs.SameEntries.{total-same}
-use Rattle.prune.specs.Inner.Tables.{maxCorners, fars, FarTable, NearTable, belowAll, sumBelow}
+use Rattle.prune.specs.Inner.Tables.{maxCorners, FarTable, NearTable, belowAll, sumBelow}
 
 -- ---- the corners
 
@@ -51,26 +50,32 @@ every-parts f m (suc n) =
 -- ---- the tables of a region
 
 module _ (f : List ℕ) (h : Header) (dir : directory f ≡ accepted h) (o : List (List ℤ)) where
-  -- the part of one more corner
-  pub fill-corner : {c : ℕ} {d d′ : List ℕ} → c < cornerCount h → FarTable f h o c d
-      → d′ ≡ over d (c * maxTiles) (fars f h (cornerOf o c)) → FarTable f h o (c + 1) d′
-  fill-corner {c} {d} {d′} l table e =
-      let g = far f h (cornerOf o c) in
-      let most = tiles-few f h dir in
-      let size = table-length g 0 (h .tiles) in
-      let long = table .long in
-      let part = map g (range 0 (h .tiles)) in
-      rw e (record {
-        long = length-over d (c * maxTiles) part ∙ long;
-        at = λ i t j u. by-test (ltb i c)
-            (λ b. let k = ltb-true i c b in
-            getD-before d (c * maxTiles) (i * maxTiles + t) part (omega arith) ∙ table .at i t k u)
-            (λ b. let q : i ≡ c = omega (arith, ltb-false i c b) in
-            rw q (getD-run d (c * maxTiles) t part (omega arith) (omega arith)
-            ∙ table-at g 0 (h .tiles) t u ∙ rw (zero-add t)));
-      })
+  -- far of a tile is that of its box
+  pub far-of-box : (p : List ℤ) (t : ℕ) {b : List (List ℤ)} → b ≡ boxAt f h t → maxDist b p ≡ far f h p t
+  unfolding far
+  far-of-box p t e = rw e
 
-  module _ (v : ValidRegion h o) {d : List ℕ} (table : FarTable f h o (cornerCount h) d) (t : ℕ) (below : t < h .tiles)
+  -- what is written of a tile leaves the tiles before it
+  pub keep-far : {t : ℕ} {d : List ℕ} (c v : ℕ) → t < h .tiles → FarTable f h o t d
+      → FarTable f h o t (set d (c * maxTiles + t) v)
+  keep-far {t} {d} c v l table =
+      let most = tiles-few f h dir in
+      record {
+        long = length-set d (c * maxTiles + t) v ∙ table .long;
+        at = λ i s j u. getD-set-other d (c * maxTiles + t) (i * maxTiles + s) v 0 (omega arith) ∙ table .at i s j u;
+      }
+
+  -- one more tile
+  pub next-far : {t : ℕ} {d : List ℕ} → FarTable f h o t d
+      → ((c : ℕ) → c < cornerCount h → getD d (c * maxTiles + t) 0 ≡ far f h (cornerOf o c) t)
+      → FarTable f h o (t + 1) d
+  next-far {t} {d} table new = record {
+    long = table .long;
+    at = λ c s j u. by-test (ltb s t) (λ b. table .at c s j (ltb-true s t b))
+        (λ b. let q : s ≡ t = omega (arith, ltb-false s t b) in rw q (new c j));
+  }
+
+  module _ (v : ValidRegion h o) {d : List ℕ} (table : FarTable f h o (h .tiles) d) (t : ℕ) (below : t < h .tiles)
       (nears : List ℕ) (from : NearTable f h o t nears) where
     -- far below near from each corner is closer
     tells-closer : (e : ℕ) → e < h .tiles → belowAll h d nears e

@@ -2,34 +2,33 @@
 // below near of b (plan's `closer-by-corners`), so each tile is measured once from each corner, and a pair of tiles
 // takes a comparison for each corner.
 ghost use mathlib.Core.Path.{_≡_};
-ghost use Prim.Native.Nat.{_*_, _<_};
+ghost use Prim.Native.Nat.{_+_};
 ghost use lib.ListN.{length};
-ghost use Rattle.base.specs.Over.{over};
 ghost use Rattle.base.specs.Refusal.{accepted};
 ghost use Rattle.blocks.specs.Directory.{directory};
-ghost use Rattle.blocks.specs.Layout.{maxTiles};
-ghost use Rattle.plan.specs.Inner.Seam.{TileOf, stopOf, regionOf, ValidStop, ValidRegion, cornerCount};
-ghost use Rattle.prune.specs.Inner.Tables.{farSize, fars, FarTable, NearTable};
+ghost use Rattle.plan.specs.Inner.Seam.{TileOf, regionOf, ValidRegion};
+ghost use Rattle.prune.specs.Inner.Tables.{farSize, FarTable, NearTable};
+use blocks::directory;
 use blocks::header::Header;
 use blocks::layout::MAX_TILES;
+use geometry::distance::max_dist_within;
 use plan::measure;
 use plan::region::MAX_CORNERS;
 use plan::region::Region;
-use plan::region::Stop;
 use plan::region::corner_of;
 use plan::region::corners;
 
-// Far from p to each tile, in the part of corner c.
-fn fill_far(f: &[u8], h: Header, p: Stop, c: usize, far: &mut [u64])
-    requires { ⌜ (directory (now f) ≡ accepted h) × ValidStop h (stopOf h p) ⌝ }
-    requires { ⌜ (c < cornerCount h) × (length (now far) ≡ farSize h) ⌝ }
-    ensures { λ _. ⌜ now (far .exit) ≡ over (now (far .entry)) (c * maxTiles) (fars (now (f .entry)) h (stopOf h p)) ⌝ }
+// Far from each corner to tile t. The box is read once: compiled code then squares each axis once for all corners.
+fn fill_tile(f: &[u8], h: Header, o: Region, t: usize, far: &mut [u64])
+    requires { ⌜ TileOf (now f) h t × ValidRegion h (regionOf h o) × FarTable (now f) h (regionOf h o) t (now far) ⌝ }
+    ensures { λ _. ⌜ FarTable (now (f .entry)) h (regionOf h o) (t + 1) (now (far .exit)) ⌝ }
 {
-    let first = c * MAX_TILES;
-    let mut t: usize = 0;
-    while t < h.tiles {
-        far[first + t] = measure::far(f, h, t, p);
-        t += 1;
+    let b = directory::box_at(f, h, t);
+    let n = corners(h);
+    let mut c: usize = 0;
+    while c < n {
+        far[c * MAX_TILES + t] = max_dist_within(h.axes, b, corner_of(h, o, c));
+        c += 1;
     }
 }
 
@@ -37,13 +36,12 @@ fn fill_far(f: &[u8], h: Header, p: Stop, c: usize, far: &mut [u64])
 pub fn fill_corners(f: &[u8], h: Header, o: Region, far: &mut [u64])
     requires { ⌜
         (directory (now f) ≡ accepted h) × ValidRegion h (regionOf h o) × (length (now far) ≡ farSize h) ⌝ }
-    ensures { λ _. ⌜ FarTable (now (f .entry)) h (regionOf h o) (cornerCount h) (now (far .exit)) ⌝ }
+    ensures { λ _. ⌜ FarTable (now (f .entry)) h (regionOf h o) (h .tiles) (now (far .exit)) ⌝ }
 {
-    let n = corners(h);
-    let mut c: usize = 0;
-    while c < n {
-        fill_far(f, h, corner_of(h, o, c), c, far);
-        c += 1;
+    let mut t: usize = 0;
+    while t < h.tiles {
+        fill_tile(f, h, o, t, far);
+        t += 1;
     }
 }
 

@@ -2,8 +2,7 @@
 --
 --   maxCorners   of a region, with height
 --   farSize      elements of the table of far: that of corner c and tile t stands at c * maxTiles + t
---   fars         far from a stop to each tile
---   FarTable     the parts of the first corners are filled
+--   FarTable     far from each corner to the first tiles is in
 --   NearTable    near from each corner to a tile
 --   belowAll     a tile is far below near, from each corner
 --   sumBelow     how many sites rank of those of some tiles that are
@@ -11,7 +10,7 @@
 --   few          how many tiles are tried first
 use Prim.Native.Nat.{ℕ, _+_, _*_, _<_, _≤_}
 use mathlib.Core.Bool.{Bool}
-use mathlib.Core.List.{List, map}
+use mathlib.Core.List.{List}
 use mathlib.Core.Path.{_≡_}
 use lib.Dec.{ltb}
 use lib.IntN.{ℤ}
@@ -31,12 +30,9 @@ maxCorners = 8
 abbrev pub farSize : Header → ℕ
 farSize h = cornerCount h * maxTiles
 
-abbrev pub fars : List ℕ → Header → List ℤ → List ℕ
-fars f h p = map (far f h p) (range 0 (h .tiles))
-
 pub record FarTable (f : List ℕ) (h : Header) (o : List (List ℤ)) (n : ℕ) (table : List ℕ) : Type 0 where
   pub long : length table ≡ farSize h
-  pub at : (c t : ℕ) → c < n → t < h .tiles → getD table (c * maxTiles + t) 0 ≡ far f h (cornerOf o c) t
+  pub at : (c t : ℕ) → c < cornerCount h → t < n → getD table (c * maxTiles + t) 0 ≡ far f h (cornerOf o c) t
 
 abbrev pub NearTable : List ℕ → Header → List (List ℤ) → ℕ → List ℕ → Type 0
 NearTable f h o t nears = (c : ℕ) → c < cornerCount h → getD nears c 0 ≡ near (entries f h) (cornerOf o c) t
