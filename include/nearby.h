@@ -83,7 +83,7 @@ enum {
  *   of nearby_prune and nearby_prune3, and every refusal by nearby_write and nearby_write3.
  * - NEARBY_AXES: the directory is good, and the call is not the one for this town. Do not copy the file again. Ask
  *   nearby_join3 and nearby_prune3 where nearby_validate gives three axes, nearby_join and nearby_prune where it gives
- *   two. A host that has stops without z cannot ask a town with height: it needs the plan town.
+ *   two; byte 1 of the file says it too, 3 for three axes, 1 for two. A host that has stops without z cannot ask a town with height: it needs the plan town.
  * - All others speak of the file: copy it again from where it came, the whole of it.
  *     NEARBY_LENGTH, NEARBY_TILES: cut short or too long, or something else than a town's file.
  *     NEARBY_SYNC, NEARBY_CHECK: damaged, or something else than a town's file.
@@ -158,7 +158,8 @@ struct nearby_joined nearby_join(const uint8_t *file, size_t file_len,
                                  uint32_t *cue, size_t cue_len, uint8_t *marks, size_t marks_len);
 
 /* The same in a town with height. Stop i is at (x[i], y[i], z[i]). The number of a site is tile * 40 + slot here, too,
- * though a tile has at most 30 sites. Needs, refuses and leaves the slices as nearby_join does. */
+ * though a tile has at most 30 sites. Tiles are struck as by nearby_prune3, for the smallest box around the stops over
+ * all three axes. Needs, refuses and leaves the slices as nearby_join does. */
 struct nearby_joined nearby_join3(const uint8_t *file, size_t file_len,
                                   const int32_t *x, size_t x_len, const int32_t *y, size_t y_len,
                                   const int32_t *z, size_t z_len, uint32_t k,
@@ -183,7 +184,8 @@ struct nearby_pruned nearby_prune(const uint8_t *file, size_t file_len,
                                   int32_t x0, int32_t x1, int32_t y0, int32_t y1, uint32_t k,
                                   uint8_t *marks, size_t marks_len);
 
-/* The same in a town with height, for the box x0..x1 by y0..y1 by z0..z1. */
+/* The same in a town with height, for the box x0..x1 by y0..y1 by z0..z1. Needs, refuses and leaves marks as
+ * nearby_prune does. */
 struct nearby_pruned nearby_prune3(const uint8_t *file, size_t file_len,
                                    int32_t x0, int32_t x1, int32_t y0, int32_t y1, int32_t z0, int32_t z1, uint32_t k,
                                    uint8_t *marks, size_t marks_len);

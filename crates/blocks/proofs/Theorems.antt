@@ -65,8 +65,8 @@ pub layout-plan : (entrySize 2 ≡ 20) × (entriesPerBlock 2 ≡ 24) × (siteSiz
     × (directoryKind 2 ≡ 1) × (tileKind 2 ≡ 2) × (maxLength 2 ≡ 512000)
 layout-plan = (refl, refl, refl, refl, refl, refl, refl)
 
--- and those of 02.2 on three: "entries of 28 bytes .., 17 to a block, sites of 16 bytes .., at most 30 to a tile"; "kind
--- 3 for directory and 4 for tile"; "over 520,704 bytes is 1"
+-- and those of 02.2 on three: "entries of 28 bytes .., 17 to a block, sites of 16 bytes .., at most 30 to a tile";
+-- "kind 3 for directory and 4 for tile"; "over 520,704 bytes is 1"
 pub layout-height : (entrySize 3 ≡ 28) × (entriesPerBlock 3 ≡ 17) × (siteSize 3 ≡ 16) × (maxSites 3 ≡ 30)
     × (directoryKind 3 ≡ 3) × (tileKind 3 ≡ 4) × (maxLength 3 ≡ 520704)
 layout-height = (refl, refl, refl, refl, refl, refl, refl)
@@ -89,8 +89,8 @@ axes-settled f h e =
     let g = laws.directory-good f e in
     (g .axes, λ p l. eqb-true (getD (blockAt f p) kindAt 0) (directoryKind (h .axes)) (g .blocks p l .head .due))
 
--- 02.1 leaves old directories as they were: where the last two bytes of every entry are zero, as document 01 has it,
--- the directory comes to what it comes to there, refused ones too
+-- 02.1 leaves old directories as they were: where the last two bytes of every entry are zero, the directory comes to
+-- what it comes to without 02.1, refused ones too
 pub directory-like-01 : (f : List ℕ) → EntriesZero f → directory f ≡ directory01 f
 directory-like-01 f zero = directory-like f zero
 

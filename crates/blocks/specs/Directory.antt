@@ -33,7 +33,7 @@ use Rattle.blocks.specs.declared.header.Header.{Header}
 unfoldable pub directoryBlocks : Header → ℕ
 directoryBlocks h = (h .tiles + (entriesPerBlock (h .axes) - 1)) / entriesPerBlock (h .axes)
 
--- "Each directory block but the last has 24 entries": in the last what is left of T
+-- "Each directory block but the last has 24 entries", 02.2: 17 with height; in the last what is left of T
 unfoldable pub entriesDue : Header → ℕ → ℕ
 entriesDue h p = min (entriesPerBlock (h .axes)) (h .tiles - entriesPerBlock (h .axes) * p)
 
@@ -51,7 +51,7 @@ entryBox a s i = tabulate (λ axis. entryNumber a s i axis ∷ entryNumber a s i
 unfoldable pub entryCount : ℕ → List ℕ → ℕ → ℕ
 entryCount a s i = u16At s (entryOffset a i + countOffset a)
 
--- 02.1: "Bytes 18-19 of a directory entry hold the number of muted sites"
+-- 02.1: "Bytes 18-19 of a directory entry hold the number of muted sites"; with height they are bytes 26-27
 unfoldable pub entryMuted : ℕ → List ℕ → ℕ → ℕ
 entryMuted a s i = u16At s (entryOffset a i + mutedOffset a)
 

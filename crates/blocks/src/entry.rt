@@ -26,8 +26,8 @@ fn reciprocal(axes: usize) -> usize
     }
 }
 
-// Where the entry of tile t stands: the position of its directory block, and its index there. Compiled code would divide
-// by a number that it does not know; a product is ten times as fast.
+// Where the entry of tile t stands: the position of its directory block, and its index there. By a product: compiled
+// code would else divide by a number that it does not know.
 pub fn entry_block(axes: usize, t: usize) -> usize
     requires { ⌜ KnownAxes axes × (t < 131072) ⌝ }
     ensures { λ r. ⌜ r ≡ t / entriesPerBlock axes ⌝ }

@@ -7,7 +7,7 @@ use geometry::margin::margin_within;
 use geometry::margin::valid_boxes;
 use geometry::padding::pad_box;
 
-// What `nearby_margin` gives for a bad box: no margin is so large.
+// What `nearby_margin` and `nearby_margin3` give for a bad box: no margin is so large.
 pub const BAD_BOX: i64 = 9_000_000_000_000_000_000;
 
 // 0 where the slice is a block with the right first byte and check; else 1, 2 or 3 of the table.

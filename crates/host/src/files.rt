@@ -1,5 +1,5 @@
-// The calls on files, for hosts and tests in C: each gives its answer as a report, by value. Those with a 3 are for towns
-// with height.
+// The calls on files, for hosts and tests in C: each gives its answer as a report, by value. Those with a 3 are for
+// towns with height.
 ghost use mathlib.Core.List.{[], _∷_};
 ghost use mathlib.Core.Path.{_≡_};
 ghost use lib.ListN.{length};

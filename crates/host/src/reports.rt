@@ -96,7 +96,8 @@ pub fn report_prune(answer: PruneAnswer) -> PruneReport
 }
 
 pub fn report_validate(answer: Validation) -> ValidateReport
-    requires { ⌜ ((h : Header) → validationOutcome answer ≡ accepted h → (h .tiles ≤ maxTiles) × KnownAxes (h .axes)) ⌝ }
+    requires { ⌜
+        ((h : Header) → validationOutcome answer ≡ accepted h → (h .tiles ≤ maxTiles) × KnownAxes (h .axes)) ⌝ }
     ensures { λ r. ⌜ r ≡ validateReport (validationOutcome answer) ⌝ }
 {
     match answer {

@@ -1,6 +1,6 @@
 -- The theorems for the reader: demands 2 and 3 about files, answers and the lent slices. The calls are `call::join` and
--- `call::join3`, their definition `joinEnd` (specs/Join), what is claimed `Demand2` and `Demand3` (specs/Claims). f is the file, cols the
--- stops by columns, one for each axis of the call: two or three.
+-- `call::join3`, their definition `joinEnd` (specs/Join), what is claimed `Demand2` and `Demand3` (specs/Claims). f is
+-- the file, cols the stops by columns, one for each axis of the call: two or three.
 use Prim.Native.Nat.{ℕ, suc, _+_, _*_, _<_, _≤_}
 use mathlib.Core.Bool.{true, false, _&&_}
 use mathlib.Core.List.{List, [], _∷_, map}
@@ -86,7 +86,7 @@ unfolding runFor
 only-audible f h cols k = run.never-empty (entries f h) (around cols) k (openingOf f h) (stopsOf cols)
 
 -- 02.1 leaves files without muted sites as they were: where the directory has none and the tiles that are opened have
--- no cue 0, the run is that of document 01 alone, in which every site ranks and an opening does not look at cues
+-- no cue 0, the run is that without 02.1, in which every site ranks and an opening does not look at cues
 pub run-like-01 : (f : List ℕ) (h : Header) (cols : List (List ℤ)) (k : ℕ) → Bytes f
     → ((t : ℕ) → t < h .tiles → mutedAt f h t ≡ 0) → All (NoneMuted f h) (runFor f h cols k .openings)
     → LikeDocument01 (entries f h) (around cols) k

@@ -1,5 +1,5 @@
--- Document 01, "The join", with 02.2: what the call comes to, and what it leaves in the four slices. A call has a column
--- of coordinates for each of its axes.
+-- Document 01, "The join", with 02.2: what the call comes to, and what it leaves in the four slices. A call has a
+-- column of coordinates for each of its axes.
 --
 --   Result, joinOutcome      what the answer carries
 --   runFor                   the run of the search on a file

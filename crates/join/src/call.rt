@@ -43,8 +43,8 @@ fn refused(number: u32) -> JoinAnswer
     JoinAnswer::Refused(Refusal { number, block: 0 })
 }
 
-// The run: places cleared, tiles pruned, the stops gathered as points and served, and the opened tiles counted. Of a plan
-// town the third column is the second again, and not looked at.
+// The run: places cleared, tiles pruned, the stops gathered as points and served, and the opened tiles counted. Of a
+// plan town the third column is the second again, and nothing depends on it.
 fn run(
     f: &[u8],
     h: Header,

@@ -28,8 +28,9 @@ pub fn next_below(far: &[u64], from: usize, to: usize, near: u64) -> usize
     e
 }
 
-// Whether tile e is far below near, from each of four corners: those of the low z are the first four. The last of them,
-// opposite to the first, comes first: a tile that passed the test of one mostly fails that of the other.
+// Whether tile e is far below near, from each of the corners `first` to `first` + 3: 0 to 3 have the low z, 4 to 7 the
+// high one. The last of the four, opposite to the first, comes first: a tile that passed the test of one mostly fails
+// that of the other.
 fn below_four(far: &[u64], e: usize, near: [u64; MAX_CORNERS], first: usize) -> bool
     requires { ⌜ (e < maxTiles) × ((first + 4) * maxTiles ≤ length (now far)) × (first ≤ 4) ⌝ }
     ensures { λ r. ⌜ r ≡ every (λ c. ltb (getD (now (far .entry)) ((first + c) * maxTiles + e) 0)

@@ -44,7 +44,8 @@ module _ (f : List ℕ) (h : Header) (order : List ℕ) (g : Target) (o₀ : Sli
 
   abbrev pub restWalk : List ℕ → List Place → Trace (List Place)
   restWalk keys l =
-      cutWalk (entries f h) (g .k) (openingOf f h) (stopOf h (g .stop)) (inOrder (entries f h) (living order keys) (stopOf h (g .stop))) l
+      cutWalk (entries f h) (g .k) (openingOf f h) (stopOf h (g .stop))
+      (inOrder (entries f h) (living order keys) (stopOf h (g .stop))) l
 
   -- the list as the slices hold it
   abbrev found : Slices → ℕ → List Place
@@ -62,12 +63,13 @@ module _ (f : List ℕ) (h : Header) (order : List ℕ) (g : Target) (o₀ : Sli
     pub under : over (o .marks) 0 (replicate (h .tiles) 0) ≡ over (o₀ .marks) 0 (replicate (h .tiles) 0)
 
   -- at the start: all tiles wait, with their keys
-  pub tile-starts : {keys : List ℕ} → Ready (o₀ .lists) (g .at) 0 (g .k) → Keyed (entries f h) (stopOf h (g .stop)) order keys
-      → living order keys ≡ order → OpenedOpen f h (o₀ .marks) → TileTurn keys o₀ 0
+  pub tile-starts : {keys : List ℕ} → Ready (o₀ .lists) (g .at) 0 (g .k)
+      → Keyed (entries f h) (stopOf h (g .stop)) order keys → living order keys ≡ order → OpenedOpen f h (o₀ .marks) → TileTurn keys o₀ 0
   unfolding places tabulate
   tile-starts {keys} ready keyed all opens =
       let w : restWalk keys [] ≡ wholeWalk =
-      ap (λ z. cutWalk (entries f h) (g .k) (openingOf f h) (stopOf h (g .stop)) (inOrder (entries f h) z (stopOf h (g .stop))) []) all in
+      ap (λ z. cutWalk (entries f h) (g .k) (openingOf f h) (stopOf h (g .stop))
+      (inOrder (entries f h) z (stopOf h (g .stop))) []) all in
       record {
         ready = ready;
         laid = sym (lay-self (o₀ .lists) (g .at) 0);

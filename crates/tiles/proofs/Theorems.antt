@@ -57,8 +57,8 @@ module _ (f : List ℕ) (h : Header) (t : ℕ) where
   unfolding siteAt mutedIn
   opened-muted e = laws.open-good f h t e .muted-counted
 
-  -- 16 is the last test: an opening is that of document 01 alone, then 16. "Old files with a cue 0 must be written
-  -- again": what document 01 opens is refused, at the tile's own position, where the directory has another muted number
+  -- 16 is the last test: an opening is that without 02.1, then 16. "Old files with a cue 0 must be written again":
+  -- what opens without 02.1 is refused, at the tile's own position, where the directory has another muted number
   pub opening-then-16 : openTile f h t
       ≡ andThen (openTile01 f h t) (λ n.
       require (eqb (howMany (λ slot. mutedCue (siteAt f h t slot .cue)) (countAt f h t)) (mutedAt f h t)) #muted
@@ -72,7 +72,7 @@ module _ (f : List ℕ) (h : Header) (t : ℕ) where
       let opens = andThen-accepted (openTile01 f h t) _ (sym opening-then-16 ∙ e) in
       sym (opened-muted e) ∙ how-many-none _ (countAt f h t) (λ slot l. sounds (opens .0) slot (opens .1) l)
 
-  -- one that has none by both opens as in document 01, or is refused as there
+  -- one that has none by both opens as without 02.1, or is refused as there
   pub opening-like-01 : mutedAt f h t ≡ 0 → NoneMuted f h t → openTile f h t ≡ openTile01 f h t
   opening-like-01 = document01.open-like-01 f h t
 
@@ -89,8 +89,8 @@ module _ (f : List ℕ) (h : Header) (t : ℕ) where
   unfolding sitesAt
   sites-slot d slot l = getD-tabulate (siteAt f h t) d 0 (countAt f h t) slot l ∙ ap (siteAt f h t) (zero-add slot)
 
--- 02.1 leaves old files as they were: where the last two bytes of every entry are zero and no tile that document 01
--- opens has a cue 0, the full check is that of document 01, refusals included
+-- 02.1 leaves old files as they were: where the last two bytes of every entry are zero and no tile that opens without
+-- 02.1 has a cue 0, the full check is that without 02.1, refusals included
 pub validate-like-01 : (f : List ℕ) → EntriesZero f →
     ((h : Header) (t : ℕ) → directory f ≡ accepted h → t < h .tiles → NoneMuted f h t) → validate f ≡ validate01 f
 validate-like-01 f zero sounds = document01.validate-like f zero sounds
@@ -104,7 +104,8 @@ module _ (f g : List ℕ) (h : Header) (t : ℕ) (block : blockAt g (tilePositio
   module _ (count : countAt g h t ≡ countAt f h t) where
     pub sites-depend : sitesAt g h t ≡ sitesAt f h t
     unfolding sitesAt siteAt
-    sites-depend = ap (λ s. tabulate (siteIn (h .axes) s) 0 (countAt g h t)) block ∙ ap (tabulate (siteAt f h t) 0) count
+    sites-depend =
+        ap (λ s. tabulate (siteIn (h .axes) s) 0 (countAt g h t)) block ∙ ap (tabulate (siteAt f h t) 0) count
 
     pub opening-depends : boxAt g h t ≡ boxAt f h t → mutedAt g h t ≡ mutedAt f h t → openTile g h t ≡ openTile f h t
     unfolding openTile

@@ -38,7 +38,7 @@ openAll01 f h = andThen (inTurn (openTile01 f h) 0 (h .tiles)) (λ _. accepted h
 unfoldable pub validate01 : List ℕ → Outcome Header
 validate01 f = andThen (directory01 f) (openAll01 f)
 
--- a tile that document 01 opens has no muted site; one that it refuses may hold anything
+-- a tile that opens without 02.1 has no muted site; one that is refused may hold anything
 abbrev pub NoneMuted : List ℕ → Header → ℕ → Type 0
 NoneMuted f h t = (n slot : ℕ) → openTile01 f h t ≡ accepted n → slot < countAt f h t →
     mutedCue (siteAt f h t slot .cue) ≡ false

@@ -149,7 +149,7 @@ module _ (f : List ℕ) (h : Header) where
     pub only-town : s ≡ supplyOf f h
     only-town = only-own f s (made-good s m) made-reads ∙ ap (supplyOf f) (m .header)
 
--- 02.1 leaves old files as they were: lists without a cue 0 give the bytes of document 01
+-- 02.1 leaves old files as they were: lists without a cue 0 give the bytes that they give without 02.1
 pub bytes-like-01 : (s : Supply) → ((i : ℕ) → i < siteTotal (s .counts) → mutedCue (getD (s .cues) i 0) ≡ false) →
     fileBytes s ≡ fileBytes01 s
 bytes-like-01 s sounds = file-like s sounds

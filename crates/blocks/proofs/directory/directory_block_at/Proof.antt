@@ -11,7 +11,8 @@ block-at-requires c κs = search needs
 
 directory-block-requires : tie.Need-directory-block-requires
 directory-block-requires c κs =
-    let s : tie.Start = search in (search needs, search needs, rw (s .pre .2) (axes-known (blockAt (s .args .f .now) 0)))
+    let s : tie.Start = search in
+    (search needs, search needs, rw (s .pre .2) (axes-known (blockAt (s .args .f .now) 0)))
 
 returns : tie.Need-returns
 unfolding directoryBlockAt

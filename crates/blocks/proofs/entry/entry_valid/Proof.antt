@@ -46,5 +46,5 @@ returns c =
 pub entry-valid-spec : {M : Type 1} → statement M
 entry-valid-spec =
     tie.close
-    (tie.spec entry-count-requires entry-box-requires valid-box-requires max-sites-requires both-requires entry-muted-requires
-    both-requires-2 returns)
+    (tie.spec entry-count-requires entry-box-requires valid-box-requires max-sites-requires both-requires
+    entry-muted-requires both-requires-2 returns)

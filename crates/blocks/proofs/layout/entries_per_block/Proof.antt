@@ -29,5 +29,5 @@ returns-2 : tie.Need-returns-2
 returns-2 c = let e : c .before .args .axes ≡ 2 = omega arith in rw e
 
 pub entries-per-block-spec : {M : Type 1} → statement M
-entries-per-block-spec = tie.close (tie.spec mul-result add-result div-result mul-result-2 add-result-2 div-result-2 returns
-    returns-2)
+entries-per-block-spec = tie.close (tie.spec mul-result add-result div-result mul-result-2 add-result-2 div-result-2
+    returns returns-2)

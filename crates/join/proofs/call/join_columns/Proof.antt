@@ -44,5 +44,5 @@ returns-2 c =
     rw (told directoryOutcome (d .read-directory .ensures) (r .r .given .1))
 
 pub join-columns-spec : {M : Type 1} → statement M
-join-columns-spec = tie.close (tie.spec read-directory-requires enum-known-h join-accepted-requires enum-known-r same-length
-    same-length-2 same-length-3 same-length-4 returns returns-2)
+join-columns-spec = tie.close (tie.spec read-directory-requires enum-known-h join-accepted-requires enum-known-r
+    same-length same-length-2 same-length-3 same-length-4 returns returns-2)

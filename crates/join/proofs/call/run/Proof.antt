@@ -38,7 +38,8 @@ module _ (s : tie.Start) where
   all-places : stopCount cols * s .args .k ≡ length (s .args .xs .now) * s .args .k
   all-places = ap (λ n. n * s .args .k) count
 
-  long : (length (s .args .ys .now) ≡ length (s .args .xs .now)) × (length (s .args .zs .now) ≡ length (s .args .xs .now))
+  long : (length (s .args .ys .now) ≡ length (s .args .xs .now))
+      × (length (s .args .zs .now) ≡ length (s .args .xs .now))
   long = same-columns (s .args .h .axes) (s .args .xs .now) (s .args .ys .now) (s .args .zs .now) (s .pre .0)
       (s .pre .1 .args .same)
 

@@ -1,4 +1,3 @@
-use borrow.Author.Needs.{needs}
 use Rattle.plan.proofs.sites.place_on.Statement.{statement}
 use Rattle.plan.proofs.sites.place_on.Tie as tie
 

@@ -45,7 +45,8 @@ loop-again c =
     let t = mutedCue (c .cue-in .result) in
     let b = bit-byte t in
     let m = bit-small t in
-    let e : bit t ≡ bit (mutedCue (siteIn (l .before .before .args .axes) (l .before .before .args .s .now) (l .loop .slot) .cue)) =
+    let a = l .before .before .args in
+    let e : bit t ≡ bit (mutedCue (siteIn (a .axes) (a .s .now) (l .loop .slot) .cue)) =
     ap (λ q. bit (mutedCue q)) (c .cue-in .ensures) in
     (omega arith, omega arith, rw (add-one (l .loop .slot)) (omega (arith, l .loop .inv .2)))
 

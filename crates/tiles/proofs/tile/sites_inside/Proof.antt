@@ -45,7 +45,8 @@ returns-2 : tie.Need-returns-2 Inv-loop μ-loop
 returns-2 c =
     let l = c .before in
     let a = l .before .before .args in
-    sym (every-holds (siteInside (a .axes) (take (a .axes) (a .bounds)) (a .s .now)) (a .n) (λ j h. l .loop .inv j (omega arith)))
+    sym (every-holds (siteInside (a .axes) (take (a .axes) (a .bounds)) (a .s .now)) (a .n)
+    (λ j h. l .loop .inv j (omega arith)))
 
 pub sites-inside-spec : {M : Type 1} → statement M
 sites-inside-spec = tie.close (tie.spec Inv-loop μ-loop loop-holds site-inside-requires returns add-i loop-less
