@@ -163,7 +163,7 @@ fn prune_with(f: &[u8], h: Header, far: &mut [u64], o: Region, k: usize, marks: 
     prune_all(f, h, far, o, k, marks)
 }
 
-// The same, with a table that has room for the corners of the town's regions and no more, since it is set to zero first.
+// The same, with a table that has room for the corners of the town's regions and no more: it is set to zero first.
 pub fn mark_pruned(f: &[u8], h: Header, o: Region, k: usize, marks: &mut [u8]) -> usize
     requires { ⌜ (directory (now f) ≡ accepted h) × (h .tiles ≤ length (now marks)) × ValidRegion h (regionOf h o) ⌝ }
     ensures { λ r. ⌜ (r ≡ prunedCount (entries (now (f .entry)) h) (regionOf h o) k) × (r ≤ h .tiles) ⌝ }

@@ -64,7 +64,8 @@ module _ (f : List ℕ) (h : Header) (order : List ℕ) (g : Target) (o₀ : Sli
 
   -- at the start: all tiles wait, with their keys
   pub tile-starts : {keys : List ℕ} → Ready (o₀ .lists) (g .at) 0 (g .k)
-      → Keyed (entries f h) (stopOf h (g .stop)) order keys → living order keys ≡ order → OpenedOpen f h (o₀ .marks) → TileTurn keys o₀ 0
+      → Keyed (entries f h) (stopOf h (g .stop)) order keys → living order keys ≡ order
+      → OpenedOpen f h (o₀ .marks) → TileTurn keys o₀ 0
   unfolding places tabulate
   tile-starts {keys} ready keyed all opens =
       let w : restWalk keys [] ≡ wholeWalk =
