@@ -1,6 +1,5 @@
 // The sum that prunes a tile, and the marks of all tiles.
 ghost use mathlib.Core.Path.{_≡_};
-ghost use mathlib.Core.Bool.{cond};
 ghost use Prim.Native.Nat.{_+_, _-_, _≤_, min};
 ghost use lib.Dec.{leb};
 ghost use lib.ListN.{length};
@@ -12,9 +11,8 @@ ghost use Rattle.geometry.specs.Axes.{KnownAxes};
 ghost use Rattle.plan.specs.FilePlan.{entries};
 ghost use Rattle.plan.specs.Inner.Seam.{TileOf, regionOf, ValidRegion};
 ghost use Rattle.search.specs.Lists.{bit};
-ghost use Rattle.search.specs.Plan.{slots, ranked};
 ghost use Rattle.search.specs.Pruning.{pruned, prunedCount};
-ghost use Rattle.prune.specs.Inner.Tables.{farSize, FarTable, belowAll, sumBelow, few};
+ghost use Rattle.prune.specs.Inner.Tables.{farSize, FarTable, sumBelow, few};
 ghost use Rattle.prune.specs.Prune.{pruneMarks};
 use crate::compare;
 use crate::tables;
@@ -30,20 +28,8 @@ use plan::sites;
 // How many tiles are tried first.
 const FEW: usize = 32;
 
-// How many sites of tile e rank where it is far below near from each corner, else 0.
-fn weight(f: &[u8], h: Header, far: &[u64], e: usize, near: [u64; MAX_CORNERS]) -> usize
-    requires { ⌜ TileOf (now f) h e × (length (now far) ≡ farSize h) ⌝ }
-    ensures { λ r. ⌜ (r ≡ cond (belowAll h (now (far .entry)) near e) (ranked (entries (now (f .entry)) h) e) 0)
-        × (r ≤ slots) ⌝ }
-{
-    if compare::below(h, far, e, near) {
-        return sites::ranked(f, h, e);
-    }
-    0
-}
-
-// Whether those of the tiles from `from` to `to` - 1 add up to at least k. It stops as soon as they do, and looks only
-// at tiles that pass the test of the first corner.
+// Whether the sites that rank add up to at least k, of those tiles from `from` to `to` - 1 that are far below near from
+// each corner. It stops as soon as they do, and looks only at tiles that pass the test of the first corner.
 fn reaches_among(
     f: &[u8],
     h: Header,
@@ -60,9 +46,11 @@ fn reaches_among(
     let mut sum: usize = 0;
     let mut e = compare::next_below(far, from, to, near[0]);
     while e < to {
-        sum += weight(f, h, far, e, near);
-        if k <= sum {
-            return true;
+        if compare::below(h, far, e, near) {
+            sum += sites::ranked(f, h, e);
+            if k <= sum {
+                return true;
+            }
         }
         e = compare::next_below(far, e + 1, to, near[0]);
     }

@@ -1,6 +1,7 @@
 use Prim.Native.Nat.{ℕ, _+_, _-_, _*_, _<_, _≤_}
 use mathlib.Core.Bool.{Bool, cond}
-use mathlib.Core.Path.{_≡_, ap, sym}
+use mathlib.Core.Logic.{⊎-elim}
+use mathlib.Core.Path.{_≡_, refl, ap, sym}
 use native.Mathlib.Omega.{arith}
 use lib.Dec.{leb}
 use lib.ListN.{getD}
@@ -52,10 +53,29 @@ passed s {a} {r} first =
     sum-skip (adds s) (sites s) a r (s .args .to) (first .after) (first .within)
     (λ i l u. not-below h known (s .args .far .now) (s .args .t4) i (first .none i l u))
 
--- a tile's turn
-turn : (s : tie.Start Inv-loop μ-loop) (e w : ℕ) → e < s .args .to
-    → w ≡ cond (adds s e) (sites s e) 0 → w + rest s (e + 1) ≡ rest s e
-turn s e w l q = rw q (sum-turn (adds s) (sites s) e (s .args .to) l)
+-- a tile's turn, by the answer of its test
+turn : (s : tie.Start Inv-loop μ-loop) (e n : ℕ) {b : Bool} → e < s .args .to → b ≡ adds s e →
+    n ≡ cond b (sites s e) 0 → n + rest s (e + 1) ≡ rest s e
+turn s e n l q r = rw (r, q) (sum-turn (adds s) (sites s) e (s .args .to) l)
+
+-- the sum behind a tile's turn
+summed : (c : tie.Joined1 Inv-loop μ-loop) →
+    let s : tie.Start Inv-loop μ-loop = search in
+    let l : tie.At-loop Inv-loop μ-loop = search in
+    (c .if1 .sum ≤ slots * (l .loop .e + 1)) × (c .if1 .sum + rest s (l .loop .e + 1) ≡ rest s (s .args .from))
+summed c =
+    let s : tie.Start Inv-loop μ-loop = search in
+    let l : tie.At-loop Inv-loop μ-loop = search in
+    let b : tie.After-below Inv-loop μ-loop = search in
+    let inv = l .loop .inv in
+    ⊎-elim
+    (λ w.
+    let t = turn s (l .loop .e) (w .1 .result) (search needs) (b .below .ensures) (rw (w .0 .taken) (w .1 .ensures .0)) in
+    rw (w .3) (omega (arith, inv .2, w .1 .ensures .1), omega (arith, inv .3, t)))
+    (λ w.
+    let t = turn s (l .loop .e) 0 (search needs) (b .below .ensures) (rw (w .0 .left) refl) in
+    rw (w .1) (omega (arith, inv .2), omega (arith, inv .3, t)))
+    (c .if1 .came)
 
 array-read-next-below : tie.Need-array-read-next-below Inv-loop μ-loop
 array-read-next-below c = search needs
@@ -71,24 +91,31 @@ loop-holds c =
     let q = c .next-below .ensures in
     (q .after, q .within, omega arith, omega (arith, passed s q))
 
-weight-requires : tie.Need-weight-requires Inv-loop μ-loop
-weight-requires c κs =
+below-requires : tie.Need-below-requires Inv-loop μ-loop
+below-requires c κs =
     let s : tie.Start Inv-loop μ-loop = search in
-    (record { dir = s .pre .0 .0; below = omega (arith, s .pre .1 .1) }, s .pre .0 .1)
+    (known-axes (s .args .f .now) (s .args .h) (s .pre .0 .0), omega (arith, most s, s .pre .1 .1), s .pre .0 .1)
+
+ranked-requires : tie.Need-ranked-requires Inv-loop μ-loop
+ranked-requires c κs =
+    let s : tie.Start Inv-loop μ-loop = search in
+    record { dir = s .pre .0 .0; below = omega (arith, s .pre .1 .1) }
 
 add-sum : tie.Need-add-sum Inv-loop μ-loop
 add-sum c =
     let s : tie.Start Inv-loop μ-loop = search in
     let l : tie.At-loop Inv-loop μ-loop = search in
-    omega (arith, most s, s .pre .1 .1, l .loop .inv .2, c .weight .ensures .1)
+    omega (arith, most s, s .pre .1 .1, l .loop .inv .2, c .ranked .ensures .1)
 
 returns : tie.Need-returns Inv-loop μ-loop
 returns c =
     let s : tie.Start Inv-loop μ-loop = search in
     let l : tie.At-loop Inv-loop μ-loop = search in
-    let w : tie.After-weight Inv-loop μ-loop = search in
-    let t = turn s (l .loop .e) (w .weight .result) (search needs) (w .weight .ensures .0) in
-    sym (le-leb (s .args .k) (rest s (s .args .from)) (omega (arith, l .loop .inv .3, t, c .if1 .taken)))
+    let b : tie.Then1 Inv-loop μ-loop = search in
+    let r : tie.After-ranked Inv-loop μ-loop = search in
+    let t = turn s (l .loop .e) (r .ranked .result) (search needs) (b .before .below .ensures)
+    (rw (b .if1 .taken) (r .ranked .ensures .0)) in
+    sym (le-leb (s .args .k) (rest s (s .args .from)) (omega (arith, l .loop .inv .3, t, c .if2 .taken)))
 
 add-next-below : tie.Need-add-next-below Inv-loop μ-loop
 add-next-below c = search needs
@@ -108,13 +135,12 @@ loop-again : tie.Need-loop-again Inv-loop μ-loop
 loop-again c =
     let s : tie.Start Inv-loop μ-loop = search in
     let l : tie.At-loop Inv-loop μ-loop = search in
-    let w : tie.After-weight Inv-loop μ-loop = search in
     let q = c .next-below2 .ensures in
-    let t = turn s (l .loop .e) (w .weight .result) (search needs) (w .weight .ensures .0) in (
+    let t = summed (c .before) in (
       omega (arith, l .loop .inv .0, q .after),
       q .within,
-      omega (arith, l .loop .inv .2, w .weight .ensures .1, q .after),
-      omega (arith, l .loop .inv .3, t, passed s q),
+      omega (arith, t .0, q .after),
+      omega (arith, t .1, passed s q),
     )
 
 returns-2 : tie.Need-returns-2 Inv-loop μ-loop
@@ -126,5 +152,5 @@ returns-2 c =
 
 pub reaches-among-spec : {M : Type 1} → statement M
 reaches-among-spec = tie.close (tie.spec Inv-loop μ-loop array-read-next-below next-below-requires loop-holds
-    weight-requires add-sum returns add-next-below array-read-next-below-2 next-below-requires-2 loop-less loop-again
+    below-requires ranked-requires add-sum returns add-next-below array-read-next-below-2 next-below-requires-2 loop-less loop-again
     returns-2)
