@@ -2,4 +2,5 @@ pub mod BlockLaws
 pub mod ChecksumLaws
 pub mod DirectoryLaws
 pub mod Document01
+pub mod WithoutHeight
 pub mod Theorems

@@ -2,8 +2,9 @@
 -- (specs/Directory). What it accepts: `directory-exactly` (`GoodDirectory`, specs/Accepted), `entry-of-accepted`. What
 -- it depends on: `directory-depends`, `entry-depends`, `same-directory` (`SameDirectory`, specs/Same). Of old
 -- files: `directory-like-01`, `zero-none-muted` (specs/Document01). Of the axes: `layout-plan`, `layout-height`,
--- `longest-file`, `axes-settled`. Of the check `checksum::agrees`, definition
--- `checkAgrees` (specs/Checksum): `stored-255`. f and g are files, h a header, t a tile. Assumes nothing.
+-- `longest-file`, `axes-settled`; of towns without height: `directory-on-plan`, `plan-towns` (specs/WithoutHeight). Of the
+-- check `checksum::agrees`, definition `checkAgrees` (specs/Checksum): `stored-255`. f and g are files, h a header, t a
+-- tile. Assumes nothing.
 use Prim.Native.Nat.{ℕ, min, _+_, _-_, _*_, _/_, _<_, _≤_}
 use mathlib.Core.Bool.{true}
 use mathlib.Core.List.{List}
@@ -26,14 +27,16 @@ use Rattle.blocks.specs.Checksum.{sums, checkAgrees}
 use Rattle.blocks.specs.Directory.{directoryBlocks, directoryBlockAt, lengthDue, directoryRest, directory, boxAt}
 use Rattle.blocks.specs.Directory.{countAt, mutedAt}
 use Rattle.blocks.specs.Document01.{directory01, EntriesZero}
-use Rattle.blocks.specs.Layout.{blockSize, maxLength, directoryKind, tileKind, kindAt, checkAt, entrySize}
+use Rattle.blocks.specs.Layout.{blockSize, plan, maxLength, directoryKind, tileKind, kindAt, checkAt, entrySize}
 use Rattle.blocks.specs.Layout.{entriesPerBlock, siteSize, maxSites, maxTiles}
 use Rattle.blocks.specs.Same.{SameDirectory}
+use Rattle.blocks.specs.WithoutHeight.{directoryOnPlan, PlanFile}
 use Rattle.blocks.specs.declared.header.Header.{Header}
 use Rattle.blocks.proofs.BlockLaws.{axes-known}
 use Rattle.blocks.proofs.ChecksumLaws.{sums-small}
 use Rattle.blocks.proofs.DirectoryLaws as laws
 use Rattle.blocks.proofs.Document01.{directory-like, none-muted}
+use Rattle.blocks.proofs.WithoutHeight.{on-plan, plan-exactly}
 
 -- "a stored 255 never agrees"
 pub stored-255 : (s : List ℕ) → checkAgrees s ≡ true → (getD s checkAt 0 < 255) × (getD s (checkAt + 1) 0 < 255)
@@ -88,6 +91,17 @@ unfolding kindDue
 axes-settled f h e =
     let g = laws.directory-good f e in
     (g .axes, λ p l. eqb-true (getD (blockAt f p) kindAt 0) (directoryKind (h .axes)) (g .blocks p l .head .due))
+
+-- 02.2: "plan towns keep their answers": a file of at most 512,000 bytes whose block 0 has not kind 3, damaged as it may
+-- be, is read as without 02.2
+pub directory-on-plan : (f : List ℕ) → PlanFile f → directory f ≡ directoryOnPlan f
+directory-on-plan f town = on-plan f town
+
+-- the towns without 02.2 are those with two axes, and their headers are the same
+pub plan-towns : (f : List ℕ) (h : Header) →
+    (directoryOnPlan f ≡ accepted h → (directory f ≡ accepted h) × (h .axes ≡ plan))
+    × ((directory f ≡ accepted h) × (h .axes ≡ plan) → directoryOnPlan f ≡ accepted h)
+plan-towns f h = plan-exactly f h
 
 -- 02.1 leaves old directories as they were: where the last two bytes of every entry are zero, the directory comes to
 -- what it comes to without 02.1, refused ones too

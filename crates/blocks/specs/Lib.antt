@@ -4,6 +4,7 @@ pub mod Outcome
 pub mod Block
 pub mod Directory
 pub mod Document01
+pub mod WithoutHeight
 pub mod Accepted
 pub mod Same
 pub mod Inner

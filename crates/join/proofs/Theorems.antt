@@ -15,7 +15,9 @@ use Rattle.base.specs.Lists.{All}
 use Rattle.base.specs.Refusal.{Outcome, accepted, refused}
 use Rattle.blocks.specs.Block.{blockAt}
 use Rattle.blocks.specs.Directory.{directory, mutedAt}
+use Rattle.blocks.specs.Layout.{plan}
 use Rattle.blocks.specs.Same.{SameDirectory}
+use Rattle.blocks.specs.WithoutHeight.{directoryOnPlan, PlanFile}
 use Rattle.blocks.specs.declared.header.Header.{Header}
 use Rattle.codec.specs.Number.{Bytes}
 use Rattle.geometry.specs.Around.{around}
@@ -40,10 +42,10 @@ use Rattle.stops.specs.Stops.{stopCount, stopsOf}
 use Rattle.tiles.specs.Document01.{NoneMuted}
 use Rattle.tiles.specs.Tile.{tilePosition, openTile, sitesAt}
 use Rattle.tiles.specs.Validate.{validate}
-use Rattle.base.proofs.Outcomes.{accepted-injective, accepted-refused, andThen-refused, by-outcome}
+use Rattle.base.proofs.Outcomes.{accepted-injective, accepted-refused, andThen-same, andThen-refused, by-outcome}
 use Rattle.base.proofs.Over.{getD-after}
 use Rattle.base.proofs.Tests.{both-and, clash}
-use Rattle.blocks.proofs.Theorems.{same-directory, directory-exactly}
+use Rattle.blocks.proofs.Theorems.{same-directory, directory-exactly, directory-on-plan, plan-towns}
 use Rattle.list.proofs.Laying.{lay-place, lay-after, lay-long}
 use Rattle.plan.proofs.Tables.{filled-at, filled-take}
 use Rattle.plan.proofs.Theorems.{opening-checked, join-depends, pruned-count-depends, marks-depend, used-depends}
@@ -55,7 +57,7 @@ use Rattle.search.proofs.Queue.{candidate-unpruned, candidate-some}
 use Rattle.search.proofs.Run.{join-refused}
 use Rattle.search.proofs.Theorems as run
 use Rattle.stops.specs.Inner.Good.{GoodArguments}
-use Rattle.stops.proofs.ArgumentLaws.{arguments-good}
+use Rattle.stops.proofs.ArgumentLaws.{arguments-good, arguments-on-plan}
 use Rattle.stops.proofs.StopLaws.{stops-length}
 use Rattle.tiles.proofs.Theorems.{opening-refused, opening-like-01, validate-exactly}
 use Rattle.join.specs.Claims.{fullRunFor, SameAnswer, RefusedRun, PrunesAlike, opened, slicesLeft, Agreeing}
@@ -63,6 +65,7 @@ use Rattle.join.specs.Claims.{Demand2, Demand3, SameCandidates, PastStay
 use Rattle.join.specs.Inner.Running.{RunReady}
 use Rattle.join.specs.Join.{Result, End, runFor, lengthsOf, tests, filled, resultOf, ended, runEnd, joinFrom}
 use Rattle.join.specs.Join.{joinEnd}
+use Rattle.join.specs.WithoutHeight.{testsOnPlan, joinEndOnPlan}
 use Rattle.join.proofs.Calling.{tests-pass, run-ready}
 use Rattle.join.proofs.Running.{smallest, run-lawful}
 use Rattle.join.proofs.Writes.{run-writes, answer-alike}
@@ -507,3 +510,14 @@ module _ (f : List ℕ) (cols : List (List ℤ)) (k : ℕ) (out : Slices) where
           agrees = own .directory;
         },
       )
+
+-- 02.2: "plan towns keep their answers": of a call for two axes, on a file of at most 512,000 bytes whose block 0 has not
+-- kind 3, all that the call comes to, and leaves in the slices, is as without 02.2
+pub join-on-plan : (f : List ℕ) → PlanFile f → (cols : List (List ℤ)) → length cols ≡ plan → (k : ℕ) (out : Slices) →
+    joinEnd f cols k out ≡ joinEndOnPlan f cols k out
+unfolding joinEnd joinEndOnPlan tests testsOnPlan
+join-on-plan f town cols plane k out =
+    ap (joinFrom f cols k out)
+    (rw (directory-on-plan f town)
+    (andThen-same (directoryOnPlan f) _ _
+    (λ h e. rw (arguments-on-plan h cols k (lengthsOf out) (plan-towns f h .0 e .1 ∙ sym plane)))))

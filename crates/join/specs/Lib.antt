@@ -1,3 +1,4 @@
 pub mod Join
+pub mod WithoutHeight
 pub mod Claims
 pub mod Inner

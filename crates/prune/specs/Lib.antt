@@ -1,3 +1,4 @@
 pub mod Prune
+pub mod WithoutHeight
 pub mod Claims
 pub mod Inner

@@ -23,6 +23,7 @@ use Rattle.geometry.proofs.Theorems.{columns-equal, by-axes}
 use Rattle.stops.specs.Arguments.{stopsDue, axesDue, stopsValid, room, arguments}
 use Rattle.stops.specs.Inner.Good.{GoodArguments}
 use Rattle.stops.specs.Stops.{stopCount, validStop}
+use Rattle.stops.specs.WithoutHeight.{argumentsOnPlan}
 use Rattle.stops.specs.declared.arguments.Lengths.{Lengths}
 
 pub good-k : (k : ℕ) → validK k ≡ true → (1 ≤ k) × (k ≤ maxK)
@@ -96,3 +97,9 @@ arguments-good h cols k l e =
       cue = gr .1 .1 .0;
       marks = gr .1 .1 .1;
     }
+
+-- without 02.2 the same, for a call with as many axes as the town
+pub arguments-on-plan : (h : Header) (cols : List (List ℤ)) (k : ℕ) (l : Lengths) → h .axes ≡ length cols →
+    arguments h cols k l ≡ argumentsOnPlan h cols k l
+unfolding arguments argumentsOnPlan axesDue
+arguments-on-plan h cols k l e = rw (eq-eqb (h .axes) (length cols) e)

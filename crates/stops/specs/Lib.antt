@@ -1,3 +1,4 @@
 pub mod Stops
 pub mod Arguments
+pub mod WithoutHeight
 pub mod Inner
