@@ -83,7 +83,8 @@ enum {
  *   of nearby_prune and nearby_prune3, and every refusal by nearby_write and nearby_write3.
  * - NEARBY_AXES: the directory is good, and the call is not the one for this town. Do not copy the file again. Ask
  *   nearby_join3 and nearby_prune3 where nearby_validate gives three axes, nearby_join and nearby_prune where it gives
- *   two; byte 1 of the file says it too, 3 for three axes, 1 for two. A host that has stops without z cannot ask a town with height: it needs the plan town.
+ *   two; byte 1 of the file says it too, 3 for three axes, 1 for two. A host that has stops without z cannot ask a town
+ *   with height: it needs the plan town.
  * - All others speak of the file: copy it again from where it came, the whole of it.
  *     NEARBY_LENGTH, NEARBY_TILES: cut short or too long, or something else than a town's file.
  *     NEARBY_SYNC, NEARBY_CHECK: damaged, or something else than a town's file.
@@ -139,7 +140,7 @@ struct nearby_joined {
 
 /* The k nearest sounding sites of each stop, in a plan town. Stop i is at (x[i], y[i]); place j of stop i is element
  * i * k + j of dist (squared distance), site (tile * 40 + slot) and cue, nearest first, then by tile, then by slot.
- * Places past `used` are 0.
+ * Places past `used` are 0. A squared distance is at most 8,000,000,000,000, with height 12,000,000,000,000.
  * marks has a byte for each tile: 2 opened, 1 struck as by nearby_prune for the smallest box around the stops,
  * 0 neither.
  *

@@ -2,9 +2,9 @@
 -- (specs/Directory). What it accepts: `directory-exactly` (`GoodDirectory`, specs/Accepted), `entry-of-accepted`. What
 -- it depends on: `directory-depends`, `entry-depends`, `same-directory` (`SameDirectory`, specs/Same). Of old
 -- files: `directory-like-01`, `zero-none-muted` (specs/Document01). Of the axes: `layout-plan`, `layout-height`,
--- `longest-file`, `axes-settled`; of towns without height: `directory-on-plan`, `plan-towns` (specs/WithoutHeight). Of the
--- check `checksum::agrees`, definition `checkAgrees` (specs/Checksum): `stored-255`. f and g are files, h a header, t a
--- tile. Assumes nothing.
+-- `longest-file`, `axes-settled`; of towns without height: `directory-on-plan`, `plan-towns` (specs/WithoutHeight). Of
+-- the check `checksum::agrees`, definition `checkAgrees` (specs/Checksum): `stored-255`. f and g are files, h a header,
+-- t a tile. Assumes nothing.
 use Prim.Native.Nat.{ℕ, min, _+_, _-_, _*_, _/_, _<_, _≤_}
 use mathlib.Core.Bool.{true}
 use mathlib.Core.List.{List}
@@ -92,8 +92,8 @@ axes-settled f h e =
     let g = laws.directory-good f e in
     (g .axes, λ p l. eqb-true (getD (blockAt f p) kindAt 0) (directoryKind (h .axes)) (g .blocks p l .head .due))
 
--- 02.2: "plan towns keep their answers": a file of at most 512,000 bytes whose block 0 has not kind 3, damaged as it may
--- be, is read as without 02.2
+-- 02.2: "plan towns keep their answers": a file of at most 512,000 bytes whose block 0 has not kind 3, damaged as it
+-- may be, is read as without 02.2
 pub directory-on-plan : (f : List ℕ) → PlanFile f → directory f ≡ directoryOnPlan f
 directory-on-plan f town = on-plan f town
 

@@ -12,8 +12,7 @@ use Rattle.base.specs.Refusal.{accepted, require, andThen, #length}
 use Rattle.base.proofs.InTurn.{turns-same}
 use Rattle.base.proofs.Outcomes.{require-accepted, andThen-accepted, andThen-same}
 use Rattle.base.proofs.Tests.{and-both}
-use Rattle.geometry.specs.Axes.{KnownAxes}
-use Rattle.blocks.specs.Block.{blockAt, axesIn, headerIn, kindDue, blockStart}
+use Rattle.blocks.specs.Block.{blockAt, axesIn, kindDue, blockStart}
 use Rattle.blocks.specs.Directory.{directoryBlocks, directoryBlock, directoryBlockAt, lengthDue, lengthFits}
 use Rattle.blocks.specs.Directory.{directoryRest, directory}
 use Rattle.blocks.specs.Layout.{blockSize, plan, height, maxLength, directoryKind, kindAt}
@@ -93,9 +92,9 @@ module _ (f : List ℕ) (h : Header) where
       × ((directory f ≡ accepted h) × (h .axes ≡ plan) → directoryOnPlan f ≡ accepted h)
   plan-exactly = (
     λ e. let town = town-before e in
-    let now = on-plan f town ∙ e in
-    let g = directory-good f now in
-    let here = g .blocks 0 (some-block h (g .axes) (g .tiles .least)) .header in
-    (now, ap (λ k. k .axes) (sym here) ∙ first f town),
+        let now = on-plan f town ∙ e in
+        let g = directory-good f now in
+        let here = g .blocks 0 (some-block h (g .axes) (g .tiles .least)) .header in
+        (now, ap (λ k. k .axes) (sym here) ∙ first f town),
     λ w. sym (on-plan f (town-now (w .0) (w .1))) ∙ w .0,
   )

@@ -1,10 +1,11 @@
 // Runs cases 1 to 8 of document 01 through the public calls: a line for each, `ok` where the call gives what the paper
 // says. The same cases are proved of the definitions in console's theorem `twelve-cases`; this shows the compiled
-// code.
+// code. Then cases 4 and 7 with a third axis (02.2), of which each axis adds its own.
 use geometry::distance;
 use geometry::distance::DistanceAnswer;
 use geometry::margin;
 use geometry::margin::MarginAnswer;
+use geometry::margin::MarginAnswer3;
 use libc::STDOUT_FILENO;
 
 fn margin_is(o: [[i32; 2]; 2], e: [[i32; 2]; 2], b: [[i32; 2]; 2], m: i64) -> bool {
@@ -98,7 +99,45 @@ fn say_distances() {
     );
 }
 
+// The margin of case 4 is -41 on x and 16 on y; the z axis here, like its y axis, adds 16.
+fn say_margin3() {
+    let reached = margin::margin3(
+        [[0, 10], [0, 4], [0, 4]],
+        [[20, 30], [0, 4], [0, 4]],
+        [[31, 70], [0, 4], [0, 4]],
+    );
+    let holds = match reached {
+        MarginAnswer3::Reached(r) => r.margin == -9,
+        MarginAnswer3::Refused(_) => false,
+    };
+    say(b"with height: margin -9 ", holds);
+}
+
+// To the distances of case 7 the z axis here adds 2 x 2 and 8 x 8.
+fn say_distances3() {
+    let b = [[10, 20], [0, 4], [3, 9]];
+    let p = [5, 5, 1];
+    say(
+        b"with height: near 30 ",
+        squared_is(distance::min_dist3(b, p), 30),
+    );
+    say(
+        b"with height: far 314 ",
+        squared_is(distance::max_dist3(b, p), 314),
+    );
+    say(
+        b"with height, bad box: 9 ",
+        refused_is(distance::min_dist3([[10, 20], [0, 4], [9, 3]], p), 9),
+    );
+    say(
+        b"with height, bad point: 13 ",
+        refused_is(distance::max_dist3(b, [5, 5, -1_000_001]), 13),
+    );
+}
+
 fn main() {
     say_margins();
     say_distances();
+    say_margin3();
+    say_distances3();
 }

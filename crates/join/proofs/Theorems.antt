@@ -511,8 +511,8 @@ module _ (f : List ℕ) (cols : List (List ℤ)) (k : ℕ) (out : Slices) where
         },
       )
 
--- 02.2: "plan towns keep their answers": of a call for two axes, on a file of at most 512,000 bytes whose block 0 has not
--- kind 3, all that the call comes to, and leaves in the slices, is as without 02.2
+-- 02.2: "plan towns keep their answers": of a call for two axes, on a file of at most 512,000 bytes whose block 0 has
+-- not kind 3, all that the call comes to, and leaves in the slices, is as without 02.2
 pub join-on-plan : (f : List ℕ) → PlanFile f → (cols : List (List ℤ)) → length cols ≡ plan → (k : ℕ) (out : Slices) →
     joinEnd f cols k out ≡ joinEndOnPlan f cols k out
 unfolding joinEnd joinEndOnPlan tests testsOnPlan

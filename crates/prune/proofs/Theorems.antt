@@ -96,8 +96,8 @@ module _ (f : List ℕ) (o : List (List ℤ)) (k : ℕ) (lent : List ℕ) where
         },
       )
 
--- 02.2: "plan towns keep their answers": of a call for two axes, on a file of at most 512,000 bytes whose block 0 has not
--- kind 3, the outcome is that without 02.2, refusals included; and the marks go by the same header
+-- 02.2: "plan towns keep their answers": of a call for two axes, on a file of at most 512,000 bytes whose block 0 has
+-- not kind 3, the outcome is that without 02.2, refusals included; and the marks go by the same header
 module _ (f : List ℕ) (town : PlanFile f) (o : List (List ℤ)) (plane : length o ≡ plan) (k : ℕ) (lent : List ℕ) where
   pub prune-on-plan : pruneCall f o k lent ≡ pruneCallOnPlan f o k lent
   unfolding pruneCall pruneCallOnPlan

@@ -3,8 +3,8 @@
 -- `tile::open_tile`, its definition `openTile` (specs/Tile). What it accepts and gives: `opening-exactly` (`GoodTile`,
 -- specs/Accepted), `opened-number`, `opened-inside`, `opened-muted`, `opening-refused`; what it depends on:
 -- `opening-depends`. Of old files: `opening-then-16`, `opened-none-muted`, `opening-like-01`, `validate-like-01`
--- (specs/Document01). Of towns without height: `validate-on-plan` (specs/WithoutHeight). f and g are files, h a header, t
--- a tile. Assumes nothing.
+-- (specs/Document01). Of towns without height: `validate-on-plan` (specs/WithoutHeight). f and g are files, h a header,
+-- t a tile. Assumes nothing.
 use Prim.Native.Nat.{ℕ, _<_}
 use mathlib.Core.Bool.{true}
 use mathlib.Core.List.{List}
@@ -99,8 +99,8 @@ pub validate-like-01 : (f : List ℕ) → EntriesZero f →
     ((h : Header) (t : ℕ) → directory f ≡ accepted h → t < h .tiles → NoneMuted f h t) → validate f ≡ validate01 f
 validate-like-01 f zero sounds = document01.validate-like f zero sounds
 
--- 02.2: "plan towns keep their answers": of a file of at most 512,000 bytes whose block 0 has not kind 3 the full check is
--- that without 02.2, refusals included
+-- 02.2: "plan towns keep their answers": of a file of at most 512,000 bytes whose block 0 has not kind 3 the full check
+-- is that without 02.2, refusals included
 pub validate-on-plan : (f : List ℕ) → PlanFile f → validate f ≡ validateOnPlan f
 unfolding validate validateOnPlan
 validate-on-plan f town = ap (λ o. andThen o (openAll f)) (directory-on-plan f town)

@@ -70,7 +70,8 @@ summed c =
     let inv = l .loop .inv in
     ⊎-elim
     (λ w.
-    let t = turn s (l .loop .e) (w .1 .result) (search needs) (b .below .ensures) (rw (w .0 .taken) (w .1 .ensures .0)) in
+    let t = turn s (l .loop .e) (w .1 .result) (search needs) (b .below .ensures)
+    (rw (w .0 .taken) (w .1 .ensures .0)) in
     rw (w .3) (omega (arith, inv .2, w .1 .ensures .1), omega (arith, inv .3, t)))
     (λ w.
     let t = turn s (l .loop .e) 0 (search needs) (b .below .ensures) (rw (w .0 .left) refl) in
@@ -152,5 +153,5 @@ returns-2 c =
 
 pub reaches-among-spec : {M : Type 1} → statement M
 reaches-among-spec = tie.close (tie.spec Inv-loop μ-loop array-read-next-below next-below-requires loop-holds
-    below-requires ranked-requires add-sum returns add-next-below array-read-next-below-2 next-below-requires-2 loop-less loop-again
-    returns-2)
+    below-requires ranked-requires add-sum returns add-next-below array-read-next-below-2 next-below-requires-2 loop-less
+    loop-again returns-2)
