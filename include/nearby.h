@@ -19,7 +19,8 @@
  *   town, 3 in one with height. A file is one slice, whole, and must not change during the call. It may be mapped:
  *   nearby_join and nearby_join3 read the directory and the blocks of the tiles that they have to open, nearby_prune
  *   and nearby_prune3 the directory alone.
- * - A coordinate is a whole number of centimetres from -1,000,000 to 1,000,000. Distances are squared.
+ * - A coordinate is a whole number of centimetres from -1,000,000 to 1,000,000. Distances are squared: at most
+ *   8,000,000,000,000 on two axes and 12,000,000,000,000 on three.
  * - A site with cue 0 is muted: it keeps its slot in the tile and takes no place in a list. The others are sounding.
  *   The directory has, for each tile, the number of its sites and how many of them are muted.
  */
@@ -140,7 +141,7 @@ struct nearby_joined {
 
 /* The k nearest sounding sites of each stop, in a plan town. Stop i is at (x[i], y[i]); place j of stop i is element
  * i * k + j of dist (squared distance), site (tile * 40 + slot) and cue, nearest first, then by tile, then by slot.
- * Places past `used` are 0. A squared distance is at most 8,000,000,000,000, with height 12,000,000,000,000.
+ * Places past `used` are 0.
  * marks has a byte for each tile: 2 opened, 1 struck as by nearby_prune for the smallest box around the stops,
  * 0 neither.
  *

@@ -2,9 +2,9 @@
 -- (specs/Directory). What it accepts: `directory-exactly` (`GoodDirectory`, specs/Accepted), `entry-of-accepted`. What
 -- it depends on: `directory-depends`, `entry-depends`, `same-directory` (`SameDirectory`, specs/Same). Of old
 -- files: `directory-like-01`, `zero-none-muted` (specs/Document01). Of the axes: `layout-plan`, `layout-height`,
--- `longest-file`, `axes-settled`; of towns without height: `directory-on-plan`, `plan-towns` (specs/WithoutHeight). Of
--- the check `checksum::agrees`, definition `checkAgrees` (specs/Checksum): `stored-255`. f and g are files, h a header,
--- t a tile. Assumes nothing.
+-- `longest-file`, `axes-settled`; of towns without height: `directory-on-plan`, `plan-towns`, `entries-on-plan`
+-- (specs/WithoutHeight). Of the check `checksum::agrees`, definition `checkAgrees` (specs/Checksum): `stored-255`. f
+-- and g are files, h a header, t a tile. Assumes nothing.
 use Prim.Native.Nat.{ℕ, min, _+_, _-_, _*_, _/_, _<_, _≤_}
 use mathlib.Core.Bool.{true}
 use mathlib.Core.List.{List}
@@ -28,15 +28,17 @@ use Rattle.blocks.specs.Directory.{directoryBlocks, directoryBlockAt, le
 use Rattle.blocks.specs.Directory.{countAt, mutedAt}
 use Rattle.blocks.specs.Document01.{directory01, EntriesZero}
 use Rattle.blocks.specs.Layout.{blockSize, plan, maxLength, directoryKind, tileKind, kindAt, checkAt, entrySize}
-use Rattle.blocks.specs.Layout.{entriesPerBlock, siteSize, maxSites, maxTiles}
+use Rattle.blocks.specs.Layout.{countOffset, mutedOffset, entriesPerBlock, siteSize, cueOffset, maxSites}
+use Rattle.blocks.specs.Layout.{maxTiles}
 use Rattle.blocks.specs.Same.{SameDirectory}
-use Rattle.blocks.specs.WithoutHeight.{directoryOnPlan, PlanFile}
+use Rattle.blocks.specs.WithoutHeight.{directoryBlocksOnPlan, directoryOnPlan, boxOnPlan, countOnPlan}
+use Rattle.blocks.specs.WithoutHeight.{mutedOnPlan, PlanFile}
 use Rattle.blocks.specs.declared.header.Header.{Header}
 use Rattle.blocks.proofs.BlockLaws.{axes-known}
 use Rattle.blocks.proofs.ChecksumLaws.{sums-small}
 use Rattle.blocks.proofs.DirectoryLaws as laws
 use Rattle.blocks.proofs.Document01.{directory-like, none-muted}
-use Rattle.blocks.proofs.WithoutHeight.{on-plan, plan-exactly}
+use Rattle.blocks.proofs.WithoutHeight.{blocks-on-plan, on-plan, tile-on-plan, plan-exactly}
 
 -- "a stored 255 never agrees"
 pub stored-255 : (s : List ℕ) → checkAgrees s ≡ true → (getD s checkAt 0 < 255) × (getD s (checkAt + 1) 0 < 255)
@@ -62,17 +64,19 @@ pub entry-of-accepted : (f : List ℕ) (h : Header) (t : ℕ) → directory f �
 entry-of-accepted f h t e l =
     let g = laws.directory-good f e in (laws.box-valid g t l, laws.count-small g t l, laws.muted-few g t l)
 
--- the layout's formulas give the numbers of document 01 on two axes: 20 bytes, 24 to a block, 12 bytes, 40 to a tile,
--- kinds 1 and 2, 512,000 bytes
-pub layout-plan : (entrySize 2 ≡ 20) × (entriesPerBlock 2 ≡ 24) × (siteSize 2 ≡ 12) × (maxSites 2 ≡ 40)
+-- the layout's formulas give the numbers of document 01 on two axes: 20 bytes, 24 to a block, the count at 16 (02.1:
+-- the muted number at 18), 12 bytes, 40 to a tile, the cue at 8, kinds 1 and 2, 512,000 bytes
+pub layout-plan : (entrySize 2 ≡ 20) × (entriesPerBlock 2 ≡ 24) × (countOffset 2 ≡ 16) × (mutedOffset 2 ≡ 18)
+    × (siteSize 2 ≡ 12) × (maxSites 2 ≡ 40) × (cueOffset 2 ≡ 8)
     × (directoryKind 2 ≡ 1) × (tileKind 2 ≡ 2) × (maxLength 2 ≡ 512000)
-layout-plan = (refl, refl, refl, refl, refl, refl, refl)
+layout-plan = (refl, refl, refl, refl, refl, refl, refl, refl, refl, refl)
 
 -- and those of 02.2 on three: "entries of 28 bytes .., 17 to a block, sites of 16 bytes .., at most 30 to a tile";
 -- "kind 3 for directory and 4 for tile"; "over 520,704 bytes is 1"
-pub layout-height : (entrySize 3 ≡ 28) × (entriesPerBlock 3 ≡ 17) × (siteSize 3 ≡ 16) × (maxSites 3 ≡ 30)
+pub layout-height : (entrySize 3 ≡ 28) × (entriesPerBlock 3 ≡ 17) × (countOffset 3 ≡ 24) × (mutedOffset 3 ≡ 26)
+    × (siteSize 3 ≡ 16) × (maxSites 3 ≡ 30) × (cueOffset 3 ≡ 12)
     × (directoryKind 3 ≡ 3) × (tileKind 3 ≡ 4) × (maxLength 3 ≡ 520704)
-layout-height = (refl, refl, refl, refl, refl, refl, refl)
+layout-height = (refl, refl, refl, refl, refl, refl, refl, refl, refl, refl)
 
 -- 02.2: "T stays at most 960, so such a file may have 1,017 blocks": the longest file has d + T blocks for T = 960, on
 -- either number of axes
@@ -92,16 +96,22 @@ axes-settled f h e =
     let g = laws.directory-good f e in
     (g .axes, λ p l. eqb-true (getD (blockAt f p) kindAt 0) (directoryKind (h .axes)) (g .blocks p l .head .due))
 
--- 02.2: "plan towns keep their answers": a file of at most 512,000 bytes whose block 0 has not kind 3, damaged as it
--- may be, is read as without 02.2
+-- 02.2: "plan towns keep their answers": a file of at most 512,000 bytes whose block 0 is not of kind 3, however
+-- damaged, is read as without 02.2
 pub directory-on-plan : (f : List ℕ) → PlanFile f → directory f ≡ directoryOnPlan f
 directory-on-plan f town = on-plan f town
 
--- the towns without 02.2 are those with two axes, and their headers are the same
+-- the directories accepted without 02.2 are just those accepted with two axes, with the same header
 pub plan-towns : (f : List ℕ) (h : Header) →
     (directoryOnPlan f ≡ accepted h → (directory f ≡ accepted h) × (h .axes ≡ plan))
     × ((directory f ≡ accepted h) × (h .axes ≡ plan) → directoryOnPlan f ≡ accepted h)
 plan-towns f h = plan-exactly f h
+
+-- and their number and their entries are those by the numbers of document 01
+pub entries-on-plan : (f : List ℕ) (h : Header) (t : ℕ) → h .axes ≡ plan →
+    (directoryBlocks h ≡ directoryBlocksOnPlan (h .tiles))
+    × (boxAt f h t ≡ boxOnPlan f t) × (countAt f h t ≡ countOnPlan f t) × (mutedAt f h t ≡ mutedOnPlan f t)
+entries-on-plan f h t e = let k = tile-on-plan f h t e in (blocks-on-plan h e, k .0, k .1, k .2)
 
 -- 02.1 leaves old directories as they were: where the last two bytes of every entry are zero, the directory comes to
 -- what it comes to without 02.1, refused ones too

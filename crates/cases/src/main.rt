@@ -1,6 +1,6 @@
 // Runs cases 1 to 8 of document 01 through the public calls: a line for each, `ok` where the call gives what the paper
 // says. The same cases are proved of the definitions in console's theorem `twelve-cases`; this shows the compiled
-// code. Then cases 4 and 7 with a third axis (02.2), of which each axis adds its own.
+// code. Then cases 3 and 7 with a third axis (02.2), which adds its own term, and a bad box and a bad point.
 use geometry::distance;
 use geometry::distance::DistanceAnswer;
 use geometry::margin;
@@ -99,21 +99,21 @@ fn say_distances() {
     );
 }
 
-// The margin of case 4 is -41 on x and 16 on y; the z axis here, like its y axis, adds 16.
+// The margin of case 3, -41, with E 6 above O and B: z adds 6 x 6.
 fn say_margin3() {
     let reached = margin::margin3(
-        [[0, 10], [0, 4], [0, 4]],
-        [[20, 30], [0, 4], [0, 4]],
-        [[31, 70], [0, 4], [0, 4]],
+        [[0, 10], [0, 0], [0, 0]],
+        [[20, 30], [0, 0], [6, 6]],
+        [[31, 70], [0, 0], [0, 0]],
     );
     let holds = match reached {
-        MarginAnswer3::Reached(r) => r.margin == -9,
+        MarginAnswer3::Reached(r) => r.margin == -5,
         MarginAnswer3::Refused(_) => false,
     };
-    say(b"with height: margin -9 ", holds);
+    say(b"with height: margin -5 ", holds);
 }
 
-// To the distances of case 7 the z axis here adds 2 x 2 and 8 x 8.
+// The distances of case 7, 26 and 250: z adds 2 x 2 and 8 x 8.
 fn say_distances3() {
     let b = [[10, 20], [0, 4], [3, 9]];
     let p = [5, 5, 1];

@@ -1,6 +1,7 @@
 -- The theorems for the reader: demands 2 and 3 about files, answers and the lent slices. The calls are `call::join` and
 -- `call::join3`, their definition `joinEnd` (specs/Join), what is claimed `Demand2` and `Demand3` (specs/Claims). f is
--- the file, cols the stops by columns, one for each axis of the call: two or three.
+-- the file, cols the stops by columns, one for each axis of the call: two or three. Of towns without height:
+-- `join-on-plan` (specs/WithoutHeight).
 use Prim.Native.Nat.{ℕ, suc, _+_, _*_, _<_, _≤_}
 use mathlib.Core.Bool.{true, false, _&&_}
 use mathlib.Core.List.{List, [], _∷_, map}
@@ -511,8 +512,10 @@ module _ (f : List ℕ) (cols : List (List ℤ)) (k : ℕ) (out : Slices) where
         },
       )
 
--- 02.2: "plan towns keep their answers": of a call for two axes, on a file of at most 512,000 bytes whose block 0 has
--- not kind 3, all that the call comes to, and leaves in the slices, is as without 02.2
+-- 02.2: "plan towns keep their answers": of a call for two axes, on a file of at most 512,000 bytes whose block 0 is
+-- not of kind 3, the tests are those without 02.2, and what the call comes to, and leaves in the slices, follows from
+-- the same header. The entries and the openings that a run then has are by the numbers of document 01
+-- (`entries-on-plan` of `blocks`, `opening-on-plan` and `sites-on-plan` of `tiles`)
 pub join-on-plan : (f : List ℕ) → PlanFile f → (cols : List (List ℤ)) → length cols ≡ plan → (k : ℕ) (out : Slices) →
     joinEnd f cols k out ≡ joinEndOnPlan f cols k out
 unfolding joinEnd joinEndOnPlan tests testsOnPlan

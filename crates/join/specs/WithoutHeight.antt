@@ -1,4 +1,7 @@
--- The join without 02.2.
+-- The join without 02.2: no test for 17.
+--
+--   testsOnPlan     tests 1 to 14
+--   joinEndOnPlan   what the call comes to, and the slices at its end
 use Prim.Native.Nat.{ℕ}
 use mathlib.Core.List.{List}
 use lib.IntN.{ℤ}

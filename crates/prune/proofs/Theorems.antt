@@ -1,6 +1,6 @@
--- The theorem of this crate for the reader: a call that answers, its marks and the number struck. The call is
--- `call::prune`, or `call::prune3` for a town with height, its definitions `pruneCall` and `marksAfter` (specs/Prune),
--- what is claimed `PrunesExactly` (specs/Claims). Of towns without height: `prune-on-plan`, `marks-on-plan`
+-- The theorems of this crate for the reader. Of a call that answers, its marks and the number struck: `prunes-exactly`,
+-- what is claimed `PrunesExactly` (specs/Claims). The call is `call::prune`, or `call::prune3` for a town with height,
+-- its definitions `pruneCall` and `marksAfter` (specs/Prune). Of towns without height: `prune-on-plan`, `marks-on-plan`
 -- (specs/WithoutHeight). f is the file, o the box O.
 use Prim.Native.Nat.{ℕ, _≤_}
 use mathlib.Core.List.{List, [], map}
@@ -11,7 +11,7 @@ use lib.IntN.{ℤ}
 use lib.ListN.{length}
 use borrow.Author.Tests.{leb-true, eq-eqb}
 use Rattle.base.specs.Over.{over}
-use Rattle.base.specs.Refusal.{accepted, #k, #axes, #box, #short}
+use Rattle.base.specs.Refusal.{Outcome, accepted, refused, #k, #axes, #box, #short}
 use Rattle.blocks.specs.Directory.{directory}
 use Rattle.blocks.specs.Layout.{plan}
 use Rattle.blocks.specs.WithoutHeight.{directoryOnPlan, PlanFile}
@@ -22,7 +22,7 @@ use Rattle.search.specs.Limits.{validK}
 use Rattle.search.specs.Lists.{range, bit, member}
 use Rattle.search.specs.Pruning.{pruned, prunedCount}
 use Rattle.search.specs.Run.{mark, marks}
-use Rattle.base.proofs.Outcomes.{accepted-injective, require-accepted, andThen-accepted, andThen-same}
+use Rattle.base.proofs.Outcomes.{accepted-injective, require-accepted, andThen-accepted, andThen-same, by-outcome}
 use Rattle.base.proofs.Over.{getD-after}
 use Rattle.base.proofs.Tests.{by-test}
 use Rattle.blocks.proofs.Theorems.{directory-on-plan, plan-towns}
@@ -32,7 +32,7 @@ use Rattle.search.proofs.Marks.{mark-pruned, mark-neither, marks-pruned}
 use Rattle.search.proofs.SameEntries.{map-same}
 use Rattle.prune.specs.Claims.{PrunesExactly}
 use Rattle.prune.specs.Prune.{Counts, pruneCall, pruneMarks, marksAfter}
-use Rattle.prune.specs.WithoutHeight.{pruneCallOnPlan}
+use Rattle.prune.specs.WithoutHeight.{pruneCallOnPlan, marksAfterOnPlan}
 
 -- the marks are those of a join that has opened nothing
 marks-are : (f : List ℕ) (h : Header) (o : List (List ℤ)) (k : ℕ) → pruneMarks f h o k ≡ marks (entries f h) o k []
@@ -96,17 +96,24 @@ module _ (f : List ℕ) (o : List (List ℤ)) (k : ℕ) (lent : List ℕ) where
         },
       )
 
--- 02.2: "plan towns keep their answers": of a call for two axes, on a file of at most 512,000 bytes whose block 0 has
--- not kind 3, the outcome is that without 02.2, refusals included; and the marks go by the same header
-module _ (f : List ℕ) (town : PlanFile f) (o : List (List ℤ)) (plane : length o ≡ plan) (k : ℕ) (lent : List ℕ) where
-  pub prune-on-plan : pruneCall f o k lent ≡ pruneCallOnPlan f o k lent
+-- 02.2: "plan towns keep their answers": of a call for two axes, on a file of at most 512,000 bytes whose block 0 is
+-- not of kind 3, the outcome is that without 02.2, and so are the marks at its end; refusals included
+module _ (f : List ℕ) (town : PlanFile f) (o : List (List ℤ)) (k : ℕ) (lent : List ℕ) where
+  pub prune-on-plan : length o ≡ plan → pruneCall f o k lent ≡ pruneCallOnPlan f o k lent
   unfolding pruneCall pruneCallOnPlan
-  prune-on-plan =
+  prune-on-plan plane =
       rw (directory-on-plan f town)
       (andThen-same (directoryOnPlan f) _ _
       (λ h e. rw (eq-eqb (h .axes) (length o) (plan-towns f h .0 e .1 ∙ sym plane))))
 
-  pub marks-on-plan : (h : Header) (c : Counts) → directoryOnPlan f ≡ accepted h →
-      marksAfter f o k lent (accepted c) ≡ over lent 0 (pruneMarks f h o k)
-  unfolding marksAfter
-  marks-on-plan h c e = rw (plan-towns f h .0 e .0)
+  -- by the outcome, and by that of the directory
+  left-on-plan : (c : Outcome Counts) → marksAfter f o k lent c ≡ marksAfterOnPlan f o k lent c
+  unfolding marksAfter marksAfterOnPlan
+  left-on-plan (accepted c) =
+      rw (directory-on-plan f town)
+      (by-outcome (directoryOnPlan f) (λ h e. rw e) (λ number block e. rw e))
+  left-on-plan (refused number block) = refl
+
+  pub marks-on-plan : length o ≡ plan →
+      marksAfter f o k lent (pruneCall f o k lent) ≡ marksAfterOnPlan f o k lent (pruneCallOnPlan f o k lent)
+  marks-on-plan plane = ap (marksAfter f o k lent) (prune-on-plan plane) ∙ left-on-plan (pruneCallOnPlan f o k lent)

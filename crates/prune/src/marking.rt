@@ -28,8 +28,8 @@ use plan::sites;
 // How many tiles are tried first.
 const FEW: usize = 32;
 
-// Whether the sites that rank add up to at least k, of those tiles from `from` to `to` - 1 that are far below near from
-// each corner. It stops as soon as they do, and looks only at tiles that pass the test of the first corner.
+// Whether the tiles from `from` to `to` - 1 that are far below near, from each corner, have together at least k sites
+// that rank. It stops as soon as they do, and looks only at tiles that pass the test of the first corner.
 fn reaches_among(
     f: &[u8],
     h: Header,
@@ -65,8 +65,8 @@ fn few_after(t: usize, h: Header) -> usize
     if h.tiles - t < FEW { h.tiles } else { t + FEW }
 }
 
-// Whether those of all tiles add up to at least k. A few tiles from `middle` on, which lie about O, are tried first:
-// against a tile far from O they mostly do it.
+// Whether all tiles that are far below near, from each corner, have together at least k sites that rank. A few tiles
+// from `middle` on, which lie about O, are tried first: against a tile far from O they mostly do it.
 fn reaches(
     f: &[u8],
     h: Header,

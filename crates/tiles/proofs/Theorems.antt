@@ -3,8 +3,8 @@
 -- `tile::open_tile`, its definition `openTile` (specs/Tile). What it accepts and gives: `opening-exactly` (`GoodTile`,
 -- specs/Accepted), `opened-number`, `opened-inside`, `opened-muted`, `opening-refused`; what it depends on:
 -- `opening-depends`. Of old files: `opening-then-16`, `opened-none-muted`, `opening-like-01`, `validate-like-01`
--- (specs/Document01). Of towns without height: `validate-on-plan` (specs/WithoutHeight). f and g are files, h a header,
--- t a tile. Assumes nothing.
+-- (specs/Document01). Of towns without height: `opening-on-plan`, `sites-on-plan`, `validate-on-plan`
+-- (specs/WithoutHeight). f and g are files, h a header, t a tile. Assumes nothing.
 use Prim.Native.Nat.{ℕ, _<_}
 use mathlib.Core.Bool.{true}
 use mathlib.Core.List.{List}
@@ -18,21 +18,22 @@ use Rattle.base.specs.Tabulate.{tabulate}
 use Rattle.blocks.specs.Block.{blockAt}
 use Rattle.blocks.specs.Directory.{directory, boxAt, countAt, mutedAt}
 use Rattle.blocks.specs.Document01.{EntriesZero}
+use Rattle.blocks.specs.Layout.{plan}
 use Rattle.blocks.specs.WithoutHeight.{PlanFile}
 use Rattle.blocks.specs.declared.header.Header.{Header}
 use Rattle.geometry.specs.Box.{inside}
 use Rattle.base.proofs.HowMany.{how-many-none}
 use Rattle.base.proofs.Outcomes.{accepted-injective, andThen-accepted}
 use Rattle.base.proofs.Tabulate.{length-tabulate, getD-tabulate}
-use Rattle.blocks.proofs.Theorems.{directory-on-plan}
 use Rattle.tiles.specs.Accepted.{GoodTile, GoodFile}
 use Rattle.tiles.specs.Document01.{openTile01, validate01, NoneMuted}
 use Rattle.tiles.specs.Tile.{Site, siteIn, mutedCue, mutedIn, tilePosition, openTile}
 use Rattle.tiles.specs.Tile.{siteAt, sitesAt}
-use Rattle.tiles.specs.Validate.{openAll, validate}
-use Rattle.tiles.specs.WithoutHeight.{validateOnPlan}
+use Rattle.tiles.specs.Validate.{validate}
+use Rattle.tiles.specs.WithoutHeight.{openTileOnPlan, sitesOnPlan, validateOnPlan}
 use Rattle.tiles.proofs.Document01 as document01
 use Rattle.tiles.proofs.TileLaws as laws
+use Rattle.tiles.proofs.WithoutHeight as height
 
 -- a file passes the full check, with the header h, exactly when its directory and all its tiles are good
 pub validate-exactly : (f : List ℕ) (h : Header) →
@@ -99,11 +100,19 @@ pub validate-like-01 : (f : List ℕ) → EntriesZero f →
     ((h : Header) (t : ℕ) → directory f ≡ accepted h → t < h .tiles → NoneMuted f h t) → validate f ≡ validate01 f
 validate-like-01 f zero sounds = document01.validate-like f zero sounds
 
--- 02.2: "plan towns keep their answers": of a file of at most 512,000 bytes whose block 0 has not kind 3 the full check
--- is that without 02.2, refusals included
+-- 02.2: "plan towns keep their answers": with a header of two axes, openings and sites are those without 02.2, by the
+-- numbers of document 01
+module _ (f : List ℕ) (h : Header) (t : ℕ) (plane : h .axes ≡ plan) where
+  pub opening-on-plan : openTile f h t ≡ openTileOnPlan f (h .tiles) t
+  opening-on-plan = height.open-on-plan f h t plane
+
+  pub sites-on-plan : sitesAt f h t ≡ sitesOnPlan f (h .tiles) t
+  sites-on-plan = height.sites-on-plan f h t plane
+
+-- and of a file of at most 512,000 bytes whose block 0 is not of kind 3, the full check is that without 02.2, refusals
+-- included
 pub validate-on-plan : (f : List ℕ) → PlanFile f → validate f ≡ validateOnPlan f
-unfolding validate validateOnPlan
-validate-on-plan f town = ap (λ o. andThen o (openAll f)) (directory-on-plan f town)
+validate-on-plan f town = height.check-on-plan f town
 
 -- what an opening comes to, and the tile's sites, depend on its own block, its entry and the header alone
 module _ (f g : List ℕ) (h : Header) (t : ℕ) (block : blockAt g (tilePosition h t) ≡ blockAt f (tilePosition h t)) where

@@ -153,5 +153,5 @@ returns-2 c =
 
 pub reaches-among-spec : {M : Type 1} → statement M
 reaches-among-spec = tie.close (tie.spec Inv-loop μ-loop array-read-next-below next-below-requires loop-holds
-    below-requires ranked-requires add-sum returns add-next-below array-read-next-below-2 next-below-requires-2 loop-less
-    loop-again returns-2)
+    below-requires ranked-requires add-sum returns add-next-below array-read-next-below-2 next-below-requires-2
+    loop-less loop-again returns-2)
