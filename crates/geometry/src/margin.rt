@@ -14,7 +14,6 @@ use crate::padding::HEIGHT;
 use crate::padding::PLAN;
 use crate::padding::pad_box;
 use base::Refusal;
-use base::both;
 
 pub fn margin_within(axes: usize, o: [[i32; 2]; 3], e: [[i32; 2]; 3], b: [[i32; 2]; 3]) -> i64
     requires { ⌜ KnownAxes axes × ValidBoxes (take axes o) (take axes e) (take axes b) ⌝ }
@@ -103,15 +102,19 @@ fn margin_points(axes: usize, o: [[i32; 2]; 3], e: [[i32; 2]; 3], b: [[i32; 2]; 
     }
 }
 
-// Whether all three boxes are valid.
+// Whether all three boxes are valid, one tested after the other: compiled code gathers the tests of three boxes of three
+// axes in vectors if it may, which takes longer.
 pub fn valid_boxes(axes: usize, o: [[i32; 2]; 3], e: [[i32; 2]; 3], b: [[i32; 2]; 3]) -> bool
     requires { ⌜ KnownAxes axes ⌝ }
     ensures { λ r. ⌜ r ≡ ((validBox (take axes o) && validBox (take axes e)) && validBox (take axes b)) ⌝ }
 {
-    both(
-        both(limits::valid_box(axes, o), limits::valid_box(axes, e)),
-        limits::valid_box(axes, b),
-    )
+    if !limits::valid_box(axes, o) {
+        return false;
+    }
+    if !limits::valid_box(axes, e) {
+        return false;
+    }
+    limits::valid_box(axes, b)
 }
 
 fn bad_box() -> Refusal

@@ -1,30 +1,37 @@
 use borrow.Author.Needs.{needs}
+use Rattle.base.proofs.Tests.{passed, failed}
 use Rattle.geometry.proofs.margin.valid_boxes.Statement.{statement}
 use Rattle.geometry.proofs.margin.valid_boxes.Tie as tie
 
 valid-box-requires : tie.Need-valid-box-requires
 valid-box-requires c κs = search needs
 
+returns : tie.Need-returns
+returns c = rw (failed (c .before .valid-box .ensures) (c .if1 .taken))
+
 valid-box-requires-2 : tie.Need-valid-box-requires-2
 valid-box-requires-2 c κs = search needs
 
-both-requires : tie.Need-both-requires
-both-requires c κs = search needs
+returns-2 : tie.Need-returns-2
+returns-2 c =
+    let o : tie.Else1 = search in
+    rw (
+      passed (o .before .valid-box .ensures) (o .if1 .left),
+      failed (c .before .valid-box2 .ensures) (c .if2 .taken),
+    )
 
 valid-box-requires-3 : tie.Need-valid-box-requires-3
 valid-box-requires-3 c κs = search needs
 
-both-requires-2 : tie.Need-both-requires-2
-both-requires-2 c κs = search needs
-
-returns : tie.Need-returns
-returns c =
-    let o : tie.After-valid-box = search in
-    let e : tie.After-valid-box2 = search in
-    let oe : tie.After-both = search in
-    let b : tie.After-valid-box3 = search in
-    simp (c .both2 .ensures, b .valid-box3 .ensures, oe .both .ensures, e .valid-box2 .ensures, o .valid-box .ensures)
+returns-3 : tie.Need-returns-3
+returns-3 c =
+    let o : tie.Else1 = search in
+    let e : tie.Else2 = search in
+    rw (
+      passed (o .before .valid-box .ensures) (o .if1 .left),
+      passed (e .before .valid-box2 .ensures) (e .if2 .left),
+    ) (c .valid-box3 .ensures)
 
 pub valid-boxes-spec : {M : Type 1} → statement M
-valid-boxes-spec = tie.close (tie.spec valid-box-requires valid-box-requires-2 both-requires valid-box-requires-3
-    both-requires-2 returns)
+valid-boxes-spec = tie.close (tie.spec valid-box-requires returns valid-box-requires-2 returns-2 valid-box-requires-3
+    returns-3)
