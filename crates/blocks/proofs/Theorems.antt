@@ -107,7 +107,7 @@ pub plan-towns : (f : List ℕ) (h : Header) →
     × ((directory f ≡ accepted h) × (h .axes ≡ plan) → directoryOnPlan f ≡ accepted h)
 plan-towns f h = plan-exactly f h
 
--- and their number and their entries are those by the numbers of document 01
+-- and how many blocks they have, and their entries, are by the numbers of document 01
 pub entries-on-plan : (f : List ℕ) (h : Header) (t : ℕ) → h .axes ≡ plan →
     (directoryBlocks h ≡ directoryBlocksOnPlan (h .tiles))
     × (boxAt f h t ≡ boxOnPlan f t) × (countAt f h t ≡ countOnPlan f t) × (mutedAt f h t ≡ mutedOnPlan f t)

@@ -102,8 +102,8 @@ fn margin_points(axes: usize, o: [[i32; 2]; 3], e: [[i32; 2]; 3], b: [[i32; 2]; 
     }
 }
 
-// Whether all three boxes are valid, one tested after the other: compiled code gathers the tests of three boxes of three
-// axes in vectors if it may, which takes longer.
+// Whether all three boxes are valid, one tested after the other: if it may, compiled code gathers the tests of three
+// boxes of three axes in vectors, which takes longer.
 pub fn valid_boxes(axes: usize, o: [[i32; 2]; 3], e: [[i32; 2]; 3], b: [[i32; 2]; 3]) -> bool
     requires { ⌜ KnownAxes axes ⌝ }
     ensures { λ r. ⌜ r ≡ ((validBox (take axes o) && validBox (take axes e)) && validBox (take axes b)) ⌝ }
