@@ -14,7 +14,8 @@ unfoldable pub sumsFrom : ℕ → ℕ → List ℕ → Sums
 sumsFrom a c [] = record { a = a; c = c }
 sumsFrom a c (byte ∷ bytes) = sumsFrom ((a + byte) % 255) ((c + (a + byte) % 255) % 255) bytes
 
--- "a and c, 64-bit numbers, start at 0"; the bytes are 1 to 509
+-- "a and c, 64-bit numbers, start at 0"; the bytes are 1 to 509. 02.3: "the 16-bit form is cheaper, and the sums never
+-- need more": the numbers here have no width; that is the code's
 unfoldable pub sums : List ℕ → Sums
 sums s = sumsFrom 0 0 (slice 1 checkAt s)
 

@@ -6,4 +6,5 @@ pub mod checksum;
 pub mod directory;
 pub mod entry;
 pub mod header;
+pub mod lanes;
 pub mod layout;

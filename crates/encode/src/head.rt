@@ -23,7 +23,7 @@ pub fn put_head(d: &mut [u8], at: usize, kind: u8, p: usize, n: usize, t: usize)
 }
 
 // A sum, as the byte that holds it.
-fn low(n: u64) -> u8
+fn low(n: u16) -> u8
     requires { ⌜ n < 256 ⌝ }
     ensures { λ r. ⌜ r ≡ n ⌝ }
 {
