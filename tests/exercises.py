@@ -420,6 +420,25 @@ def check(engine, document):
     same("the copied block of exercise 5", (5, 2, 0),
          (*refusal(engine.validate, copied), engine.block_check(copied[2 * BLOCK:3 * BLOCK])))
 
+    def late(start):
+        """The most bytes of 255 that c takes from there in 16 bits, and c with them and with one more."""
+        a = c = start
+        for n in range(510):
+            if c + a + 255 >= 1 << 16:
+                return n, c, c + a + 255
+            a, c = a + 255, c + a + 255
+
+    (n, fits, over), (more, fits_0, over_0) = late(254), late(0)
+    document.says(heading, f"That is {fits:,} for n = {n} and {over:,} for n = {n + 1}: so {n} bytes fit, whatever they"
+                  f" are, and {n + 1} need not. From 0 it is {fits_0:,} for n = {more} and {over_0:,} for"
+                  f" n = {more + 1}: one byte more.")
+    same("one byte more from 0, exercise 5", n + 1, more)
+    same("c by the formula of exercise 5", fits, 254 + 254 * n + 255 * n * (n + 1) // 2)
+    for file, words in (("src/lanes.rt", f"const MAX_ADDED: usize = {n};"), ("proofs/ChecksumLaws.antt", "within-room"),
+                        ("must-fail/reduced_one_byte_too_late.edit", f"MAX_ADDED: usize = {n + 1};")):
+        if words not in (ROOT / "crates/blocks" / file).read_text(encoding="utf-8"):
+            raise Wrong(f"exercise 5: `{words}` is not in crates/blocks/{file}")
+
 
 def errors_stand(lines):
     """The number of errors shown. Each stands in the declaration that it names."""

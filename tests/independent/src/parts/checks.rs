@@ -1,4 +1,5 @@
-//! nearby_block_check: lengths, good blocks, every byte position changed, checks repaired and not, stored 255.
+//! nearby_block_check: lengths, large sums, good blocks, every byte position changed, checks repaired and not, stored
+//! 255.
 
 use super::count;
 use crate::compare::Failure;
@@ -77,9 +78,49 @@ fn cases_of_the_paper(checks: &mut Checks) -> Result<(), Failure> {
     Ok(())
 }
 
+/// 02.3: "the sums never need more" than 16 bits. Blocks on which sums that are reduced late, or kept in parts, get
+/// large: 255 or 254 in a run from any byte to any other, and in every n-th byte from any on; random bytes of at least
+/// 0, 128, 240, 250 and 253.
+fn large_sums(checks: &mut Checks, rng: &mut Rng) -> Result<(), Failure> {
+    let mut summed = |mut block: Vec<u8>| {
+        block[0] = SYNC;
+        repair(&mut block);
+        checks.gives(&block, 0)?;
+        for stored in [510, 511] {
+            let right = block[stored];
+            block[stored] = (right + 1) % 255;
+            checks.gives(&block, 3)?;
+            block[stored] = right;
+        }
+        Ok(())
+    };
+    for value in [254, 255] {
+        for from in 1..510 {
+            for to in from..510 {
+                let mut block = vec![0; SIZE];
+                block[from..=to].fill(value);
+                summed(block)?;
+            }
+            for step in 2..=64 {
+                let mut block = vec![0; SIZE];
+                block[from..510].iter_mut().step_by(step).for_each(|byte| *byte = value);
+                summed(block)?;
+            }
+        }
+    }
+    for least in [0, 128, 240, 250, 253] {
+        for _ in 0..10_000 {
+            summed((0..SIZE).map(|_| (least + rng.below(256 - least)) as u8).collect())?;
+        }
+    }
+    Ok(())
+}
+
 pub fn run(rng: &mut Rng, tally: &mut Tally) -> Result<String, Failure> {
     let mut checks = Checks { tried: 0, tally };
     cases_of_the_paper(&mut checks)?;
+    large_sums(&mut checks, rng)?;
+    let large = checks.tried;
     // "1 (not 512 bytes)", whatever the bytes.
     for length in 0..=1100 {
         let mut random = rng.bytes(length);
@@ -92,7 +133,7 @@ pub fn run(rng: &mut Rng, tally: &mut Tally) -> Result<String, Failure> {
         twice.truncate(length);
         checks.agrees(&twice)?;
     }
-    let lengths = checks.tried;
+    let lengths = checks.tried - large;
     for block in blocks(rng) {
         checks.gives(&block, 0)?;
         for at in 0..SIZE {
@@ -129,9 +170,10 @@ pub fn run(rng: &mut Rng, tally: &mut Tally) -> Result<String, Failure> {
     }
     assert_eq!(good, 1);
     Ok(format!(
-        "{} slices of 0 to 1,100 bytes, {} blocks with every byte position changed and with all \
-         65,536 stored pairs, cases 9 to 11",
+        "cases 9 to 11 and large sums in {} blocks, {} slices of 0 to 1,100 bytes, {} blocks with every byte position \
+         changed and with all 65,536 stored pairs",
+        count(large),
         count(lengths),
-        count(checks.tried - lengths)
+        count(checks.tried - large - lengths)
     ))
 }
