@@ -175,11 +175,11 @@ void measure_inputs(const Town<2> &town, const Town<3> &high)
         measure_town(t, "track");
     measure_town(high, "track");
     measure_town(high, "spread");
-    header("Peers with the late check");
+    header("Peers with the quickest check");
     for (const char *stops : {"track", "spread"})
-        measure_cell("late", town, stops, 256, 8, c_block_check_late);
+        measure_cell("quick", town, stops, 256, 8, c_block_check_lanes);
     for (const char *stops : {"track", "spread"})
-        measure_cell("late", high, stops, 256, 8, c_block_check_late);
+        measure_cell("quick", high, stops, 256, 8, c_block_check_lanes);
 }
 
 template <size_t A> void try_cell(const Town<A> &town, const char *stops, size_t n, uint32_t k, BlockCheck check)
@@ -200,7 +200,7 @@ template <size_t A> void rehearse(const std::vector<Town<A>> &few)
     for (const char *stops : {"track", "spread"})
         for (size_t n : {1, 100})
             for (uint32_t k : {1, 2, 8, 64})
-                for (BlockCheck check : {c_block_check, c_block_check_late})
+                for (BlockCheck check : {c_block_check, c_block_check_lanes})
                     try_cell(town, stops, n, k, check);
     for (const Town<A> &t : few)
         try_cell(t, "track", 10, 64, c_block_check);
@@ -262,12 +262,18 @@ void measure_check(const Town<2> &town)
     Bytes bad = f;
     for (size_t i = 0; i < bad.size(); i += 777)
         bad[i] ^= 1 << i % 8;
-    for (const Bytes *file : {&f, static_cast<const Bytes *>(&bad)})
+    Bytes large(f.size(), 0xFF); // the sums get as large as they can; FF and 00 are alike, so the check is 0, 0
+    for (size_t b = 0; b < blocks; b++) {
+        large[b * BLOCK] = f[0];
+        large[b * BLOCK + 510] = large[b * BLOCK + 511] = b % 2;
+    }
+    for (const Bytes *file : {&f, static_cast<const Bytes *>(&bad), static_cast<const Bytes *>(&large)})
         for (size_t b = 0; b < blocks; b++) {
             const uint8_t *p = &(*file)[b * BLOCK];
             uint32_t want = nearby_block_check(p, BLOCK);
-            if (c_block_check(p, BLOCK) != want || c_block_check_late(p, BLOCK) != want)
-                fail("block checks differ");
+            for (BlockCheck check : {c_block_check, c_block_check_16, c_block_check_late, c_block_check_lanes})
+                if (check(p, BLOCK) != want)
+                    fail("block checks differ");
         }
     volatile uint64_t sink = 0;
     auto over_blocks = [&](BlockCheck check) {
@@ -280,7 +286,9 @@ void measure_check(const Town<2> &town)
     };
     std::vector<Runner> checks{{"proved", over_blocks(nearby_block_check)},
                                {"c", over_blocks(c_block_check)},
-                               {"c-late", over_blocks(c_block_check_late)}};
+                               {"c-16", over_blocks(c_block_check_16)},
+                               {"c-late", over_blocks(c_block_check_late)},
+                               {"c-lanes", over_blocks(c_block_check_lanes)}};
     write_ns("block check", checks, blocks);
 }
 
@@ -324,7 +332,7 @@ template <size_t A, class F> void measure_margin(const Town<A> &town, const std:
 template <size_t A> void measure_reading(const Town<A> &town)
 {
     std::vector<Runner> r{{"paper's check", [&] { read_sites<A>(town.file, c_block_check); }},
-                          {"late check", [&] { read_sites<A>(town.file, c_block_check_late); }}};
+                          {"quickest check", [&] { read_sites<A>(town.file, c_block_check_lanes); }}};
     measure(r);
     std::printf("\nReading all of %s:", town.name.c_str());
     for (Runner &x : r) {
