@@ -3,36 +3,26 @@
 
 #include <string.h>
 
-/* 1 or 2 of the table, or 0. */
-static uint32_t head_refused(const uint8_t *block, size_t block_len)
-{
-    return block_len != 512 ? 1 : block[0] != 0xD6 ? 2 : 0;
-}
-
-/* What is stored beside sums that are reduced here: 3 of the table, or 0. */
-static uint32_t sums_refused(const uint8_t *block, uint32_t a, uint32_t c)
-{
-    return block[510] == a % 255 && block[511] == c % 255 ? 0 : 3;
-}
-
 uint32_t c_block_check(const uint8_t *block, size_t block_len)
 {
-    uint32_t refused = head_refused(block, block_len);
-    if (refused)
-        return refused;
+    if (block_len != 512)
+        return 1;
+    if (block[0] != 0xD6)
+        return 2;
     uint64_t a = 0, c = 0;
     for (int i = 1; i < 510; i++) {
         a = (a + block[i]) % 255;
         c = (c + a) % 255;
     }
-    return sums_refused(block, a, c);
+    return block[510] == a && block[511] == c ? 0 : 3;
 }
 
 uint32_t c_block_check_16(const uint8_t *block, size_t block_len)
 {
-    uint32_t refused = head_refused(block, block_len);
-    if (refused)
-        return refused;
+    if (block_len != 512)
+        return 1;
+    if (block[0] != 0xD6)
+        return 2;
     uint16_t a = 0, c = 0;
     const uint8_t *p = block + 1;
     for (int turn = 0; turn < 24; turn++) {
@@ -47,20 +37,21 @@ uint32_t c_block_check_16(const uint8_t *block, size_t block_len)
         a += *p++;
         c += a;
     }
-    return sums_refused(block, a, c);
+    return block[510] == a % 255 && block[511] == c % 255 ? 0 : 3;
 }
 
 uint32_t c_block_check_late(const uint8_t *block, size_t block_len)
 {
-    uint32_t refused = head_refused(block, block_len);
-    if (refused)
-        return refused;
+    if (block_len != 512)
+        return 1;
+    if (block[0] != 0xD6)
+        return 2;
     uint32_t a = 0, c = 0;
     for (uint32_t i = 1; i < 510; i++) {
         a += block[i];
         c += (510 - i) * block[i];
     }
-    return sums_refused(block, a, c);
+    return block[510] == a % 255 && block[511] == c % 255 ? 0 : 3;
 }
 
 /* Eight numbers in one register: gcc's own vectors. */
@@ -76,9 +67,10 @@ static Lanes row_at(const uint8_t *p)
 
 uint32_t c_block_check_lanes(const uint8_t *block, size_t block_len)
 {
-    uint32_t refused = head_refused(block, block_len);
-    if (refused)
-        return refused;
+    if (block_len != 512)
+        return 1;
+    if (block[0] != 0xD6)
+        return 2;
     Lanes x = {0}, y = {0};
     size_t i = 1;
     while (i < 505) {
@@ -98,7 +90,7 @@ uint32_t c_block_check_lanes(const uint8_t *block, size_t block_len)
         a += block[i];
         c += a;
     }
-    return sums_refused(block, a, c);
+    return block[510] == a % 255 && block[511] == c % 255 ? 0 : 3;
 }
 
 static int valid(int64_t low, int64_t high)
