@@ -100,7 +100,7 @@ fn moment(x: [u16; LANES]) -> u16
 }
 
 // The block's sums of all that is in the lanes. 14,280 = 8 × 7 × 255: no moment is larger, and it changes no remainder.
-// `total` and `moment` have a loop each: with both in one, the compiler does not keep the lanes in registers.
+// Other ways to put the lanes together were tried, and lost the registers: docs/DECISIONS.md.
 pub fn whole(l: Lanes) -> Sums
     requires { ⌜ Reduced l ⌝ }
     ensures { λ r. ⌜ (r .a ≡ wholeA l % 255) × (r .c ≡ wholeC l % 255) ⌝ }
