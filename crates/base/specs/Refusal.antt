@@ -1,7 +1,7 @@
 -- Document 01, "Numbers given to bad input": the table's numbers under its words, those of document 02 after them, and
 -- what a call comes to.
 --
---   #length .. #axes             the numbers 1 to 15 of the table in its order, then 16 of 02.1 and 17 of 02.2
+--   #length .. #reach            the numbers 1 to 15 of the table in its order, then 16 of 02.1, 17 of 02.2, 18 of 02.4
 --   Outcome, accepted, refused   what a call comes to
 --   require                      one row of the table
 --   andThen                      one call after another
@@ -61,6 +61,10 @@ abbrev pub #muted : ℕ
 -- 02.2
 abbrev pub #axes : ℕ
 #axes = 17
+
+-- 02.4
+abbrev pub #reach : ℕ
+#reach = 18
 
 -- What a call comes to: its values, or a refusal with its number and the block position.
 pub data Outcome (A : Type 0) : Type 0 where

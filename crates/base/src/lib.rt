@@ -1,4 +1,4 @@
-// What every layer shares: the refusal with its numbers (document 01, "Numbers given to bad input"; 02.1, 02.2),
+// What every layer shares: the refusal with its numbers (document 01, "Numbers given to bad input"; 02.1, 02.2, 02.4),
 // and a test of two tests.
 ghost use mathlib.Core.Path.{_≡_};
 ghost use mathlib.Core.Bool.{_&&_};
@@ -41,6 +41,8 @@ pub const SUPPLY: u32 = 15;
 pub const MUTED: u32 = 16;
 
 pub const AXES: u32 = 17;
+
+pub const REACH: u32 = 18;
 
 // Both tests, without a branch.
 pub fn both(a: bool, b: bool) -> bool

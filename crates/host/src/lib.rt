@@ -2,4 +2,5 @@
 // can pass in breaks a promise: no exported call has a `requires`.
 pub mod cab;
 pub mod files;
+pub mod mixer;
 pub mod reports;

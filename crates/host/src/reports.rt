@@ -6,11 +6,13 @@ ghost use Rattle.blocks.specs.Layout.{maxTiles};
 ghost use Rattle.blocks.specs.declared.header.Header.{Header};
 ghost use Rattle.geometry.specs.Axes.{KnownAxes};
 ghost use Rattle.join.specs.Join.{joinOutcome};
+ghost use Rattle.level.specs.Call.{levelOutcome};
 ghost use Rattle.prune.specs.Prune.{pruneOutcome};
 ghost use Rattle.tiles.specs.Outcome.{validationOutcome};
 ghost use Rattle.writer.specs.Write.{writeOutcome};
-ghost use Rattle.host.specs.Reports.{joinReport, pruneReport, validateReport, writeReport};
+ghost use Rattle.host.specs.Reports.{joinReport, pruneReport, validateReport, writeReport, levelReport};
 use join::call::JoinAnswer;
+use level::call::LevelAnswer;
 use prune::call::PruneAnswer;
 use tiles::validate::Validation;
 use writer::write::WriteAnswer;
@@ -46,6 +48,14 @@ pub struct WriteReport {
     pub number: u32,
     pub block: u32,
     pub length: usize,
+}
+
+// A level looks at no file, so no block goes with its refusal; silence has a word of its own.
+#[repr(C)]
+pub struct LevelReport {
+    pub number: u32,
+    pub silent: u32,
+    pub level: f64,
 }
 
 pub fn report_join(answer: JoinAnswer) -> JoinReport
@@ -129,6 +139,28 @@ pub fn report_write(answer: WriteAnswer) -> WriteReport
             number: r.number,
             block: r.block,
             length: 0,
+        },
+    }
+}
+
+pub fn report_level(answer: LevelAnswer) -> LevelReport
+    ensures { λ r. ⌜ r ≡ levelReport (levelOutcome answer) ⌝ }
+{
+    match answer {
+        LevelAnswer::Silent => LevelReport {
+            number: 0,
+            silent: 1,
+            level: 0.0,
+        },
+        LevelAnswer::Level(level) => LevelReport {
+            number: 0,
+            silent: 0,
+            level,
+        },
+        LevelAnswer::Refused(r) => LevelReport {
+            number: r.number,
+            silent: 0,
+            level: 0.0,
         },
     }
 }

@@ -1,0 +1,9 @@
+mod Closest
+mod Kept
+mod Units
+mod Nearest
+mod Strict
+mod Whole
+mod CallLaws
+mod LevelLaws
+pub mod Theorems

@@ -1,0 +1,4 @@
+pub mod Level
+pub mod Call
+pub mod Claims
+pub mod Cases
