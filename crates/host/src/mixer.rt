@@ -1,6 +1,6 @@
 // The level of a place, for the mixer (02.4).
 ghost use mathlib.Core.Path.{_≡_};
-ghost use Rattle.level.specs.Call.{levelCall};
+ghost use Rattle.level.specs.Level.{levelCall};
 ghost use Rattle.host.specs.Reports.{levelReport};
 use crate::reports;
 use crate::reports::LevelReport;

@@ -6,7 +6,7 @@ ghost use Rattle.blocks.specs.Layout.{maxTiles};
 ghost use Rattle.blocks.specs.declared.header.Header.{Header};
 ghost use Rattle.geometry.specs.Axes.{KnownAxes};
 ghost use Rattle.join.specs.Join.{joinOutcome};
-ghost use Rattle.level.specs.Call.{levelOutcome};
+ghost use Rattle.level.specs.Level.{levelOutcome};
 ghost use Rattle.prune.specs.Prune.{pruneOutcome};
 ghost use Rattle.tiles.specs.Outcome.{validationOutcome};
 ghost use Rattle.writer.specs.Write.{writeOutcome};

@@ -10,7 +10,6 @@
 --   rises-with-reach                       a greater reach is no less loud
 use Prim.Native.Nat.{ℕ, _+_, _*_, _≤_, _<_}
 use mathlib.Core.Bool.{true, false}
-use mathlib.Core.List.{map}
 use mathlib.Core.Path.{_≡_, refl, sym, ap, _∙_}
 use native.Mathlib.Nat.{mul-le-mul, le-antisymm, le-of-suc-le-suc, lt-of-not-le, lt-irrefl}
 use native.Mathlib.Omega.{arith}
@@ -20,18 +19,17 @@ use lib.Ieee.{Float, nan, inf, fin, binary64, up, down, round, div, ofInt, ofBit
 use Rattle.base.proofs.Outcomes.{require-accepted, accepted-injective}
 use Rattle.base.proofs.Tests.{by-test}
 use Rattle.base.specs.Refusal.{accepted, #reach}
-use Rattle.level.specs.Call.{levelCall}
-use Rattle.level.specs.Cases.{table}
+use Rattle.level.specs.Cases.{levels, ends, refusals, AllSay}
 use Rattle.level.specs.Claims.{half, one, leastLevel, Sounds, NoLouder}
 use Rattle.level.specs.Level.{validReach, lastHeard, isSilent, quotient, levelOf}
-use Rattle.level.specs.Level.{Loudness, silent, level, loudness}
+use Rattle.level.specs.Level.{Loudness, silent, level, loudness, levelCall}
 use Rattle.level.proofs.CallLaws.{reach-limits}
 use Rattle.level.proofs.LevelLaws.{Within, level-at, sounds, falls, rises, falls-strict}
 use Rattle.level.proofs.LevelLaws.{one-rounded, half-rounded, least-rounded}
 
-pub cases-say : map (λ c. levelCall (c .reach) (c .dist)) table ≡ map (λ c. c .due) table
+pub cases-say : AllSay levels × AllSay ends × AllSay refusals
 unfolding levelCall validReach quotient div ofInt ofBits
-cases-say = refl
+cases-say = (refl, refl, refl)
 
 -- ---- what an answer shows
 record Answered (r d : ℕ) (a : Loudness) : Type 0 where

@@ -3,12 +3,14 @@
 --
 --   Case, row                      a reach, a squared distance, and the answer due
 --   sounds, silence, outOfLimits   answers: a level by its bits, silence, 18
---   table                          the cases
+--   levels, ends, refusals         the cases
+--   AllSay                         what a row of cases says
 use Prim.Native.Nat.{ℕ}
-use mathlib.Core.List.{List, [], _∷_}
+use mathlib.Core.List.{List, [], _∷_, map}
+use mathlib.Core.Path.{_≡_}
 use lib.Ieee.{binary64, ofBits}
 use Rattle.base.specs.Refusal.{Outcome, accepted, refused, #reach}
-use Rattle.level.specs.Level.{Loudness, silent, level}
+use Rattle.level.specs.Level.{Loudness, silent, level, levelCall}
 
 pub record Case : Type 0 where
   pub reach : ℕ
@@ -27,21 +29,23 @@ silence = accepted silent
 abbrev pub outOfLimits : Outcome Loudness
 outOfLimits = refused #reach 0
 
-abbrev pub table : List Case
-table =
+abbrev pub levels : List Case
+levels =
     row 1_000 1_000_000 (sounds 0x3fe0_0000_0000_0000)
     ∷ row 1_000 0 (sounds 0x3ff0_0000_0000_0000)
     ∷ row 1 2 (sounds 0x3fd5_5555_5555_5555)
     ∷ row 3 1 (sounds 0x3fec_cccc_cccc_cccd)
     ∷ row 247_515 907_540_756_988 (sounds 0x3fb0_3042_3bb3_b8cb)
     ∷ row 756_251 33_695_719_494_313 (sounds 0x3f91_1718_e667_50eb)
-    ∷ row 162_501 292_444_753_747 (sounds 0x3fb5_338c_9d82_7d5e)
-    ∷ row 20_780 36_084_558_646 (sounds 0x3f88_37bd_4e85_8dbc)
     -- a greater reach may give the same level
     ∷ row 999_999 1 (sounds 0x3fef_ffff_ffff_dcd1)
     ∷ row 1_000_000 1 (sounds 0x3fef_ffff_ffff_dcd1)
-    -- the last that is not silent, and the first that is
-    ∷ row 1 100 (sounds 0x3f84_46f8_6562_d9fb)
+    ∷ []
+
+-- the last that is not silent, and the first that is
+abbrev pub ends : List Case
+ends =
+    row 1 100 (sounds 0x3f84_46f8_6562_d9fb)
     ∷ row 1 101 silence
     ∷ row 1_000 100_000_000 (sounds 0x3f84_46f8_6562_d9fb)
     ∷ row 1_000 100_000_001 silence
@@ -49,10 +53,17 @@ table =
     ∷ row 1_000_000 100_000_000_000_000 (sounds 0x3f84_46f8_6562_d9fb)
     ∷ row 1_000_000 100_000_000_000_001 silence
     ∷ row 1_000_000 18_446_744_073_709_551_615 silence
-    -- reaches outside the limits
-    ∷ row 0 0 outOfLimits
+    ∷ []
+
+abbrev pub refusals : List Case
+refusals =
+    row 0 0 outOfLimits
     ∷ row 0 18_446_744_073_709_551_615 outOfLimits
     ∷ row 1_000_001 0 outOfLimits
     ∷ row 1_000_001 18_446_744_073_709_551_615 outOfLimits
     ∷ row 4_294_967_295 1 outOfLimits
     ∷ []
+
+-- the call gives what is due in every row
+abbrev pub AllSay : List Case → Type 0
+AllSay rows = map (λ c. levelCall (c .reach) (c .dist)) rows ≡ map (λ c. c .due) rows

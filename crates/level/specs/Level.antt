@@ -6,11 +6,15 @@
 --   levelOf                     the level of a place that is not silent
 --   Loudness, silent, level     what the mixer is told: silence, or a level
 --   loudness                    of a place
+--   levelOutcome, levelCall     the answer as an outcome; what the call comes to, for all inputs
 use Prim.Native.Nat.{ℕ, _+_, _*_}
 use mathlib.Core.Bool.{Bool, cond, _&&_}
 use lib.Dec.{leb, ltb}
 use lib.IntN.{pos}
 use lib.Ieee.{Float, binary64, div, ofInt}
+use Rattle.base.specs.Refusal.{Outcome, accepted, refused, require, #reach}
+use Rattle.level.specs.declared.call.LevelAnswer.{LevelAnswer}
+use Rattle.level.specs.declared.call.LevelAnswer.the-variants as answer
 
 -- "a reach r in whole centimetres, 1 to 1,000,000"
 abbrev pub maxReach : ℕ
@@ -44,3 +48,12 @@ pub data Loudness : Type 0 where
 
 abbrev pub loudness : ℕ → ℕ → Loudness
 loudness r d = cond (isSilent r d) silent (level (levelOf r d))
+
+abbrev pub levelOutcome : LevelAnswer → Outcome Loudness
+levelOutcome answer.Silent = accepted silent
+levelOutcome (answer.Level x) = accepted (level x)
+levelOutcome (answer.Refused r) = refused (r .number) (r .block)
+
+-- "18 when r is outside its limits, before anything else is looked at"
+unfoldable pub levelCall : ℕ → ℕ → Outcome Loudness
+levelCall r d = require (validReach r) #reach 0 (accepted (loudness r d))

@@ -1,4 +1,3 @@
 pub mod Level
-pub mod Call
 pub mod Claims
 pub mod Cases

@@ -1,8 +1,7 @@
 // The level call: refused, silent, or a level as a 64-bit float.
 ghost use mathlib.Core.Path.{_≡_};
 ghost use Prim.Native.Nat.{_+_, _≤_};
-ghost use Rattle.level.specs.Level.{validReach, quotient};
-ghost use Rattle.level.specs.Call.{levelOutcome, levelCall};
+ghost use Rattle.level.specs.Level.{validReach, quotient, levelOutcome, levelCall};
 use base::Refusal;
 use base::both;
 

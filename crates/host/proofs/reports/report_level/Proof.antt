@@ -1,7 +1,7 @@
 use mathlib.Core.Path.{sym, ap}
 use borrow.Author.Needs.{needs}
 use lib.Ieee.{ofBits}
-use Rattle.level.specs.Call.{levelOutcome}
+use Rattle.level.specs.Level.{levelOutcome}
 use Rattle.host.specs.Reports.{levelReport}
 use Rattle.host.proofs.reports.report_level.Statement.{statement}
 use Rattle.host.proofs.reports.report_level.Tie as tie

@@ -1,13 +1,12 @@
 use mathlib.Core.Bool.{true}
-use mathlib.Core.Path.{_≡_, ap}
+use mathlib.Core.Path.{_≡_, refl, ap}
 use Prim.Native.Nat.{_*_, _≤_}
 use native.Mathlib.Omega.{arith}
 use borrow.Author.Needs.{needs}
 use borrow.Author.Tests.{le-ltb, lt-ltb}
 use Rattle.base.specs.Refusal.{accepted}
 use Rattle.base.proofs.Tests.{passed, failed}
-use Rattle.level.specs.Call.{levelCall}
-use Rattle.level.specs.Level.{validReach, level, lastHeard}
+use Rattle.level.specs.Level.{maxReach, validReach, lastHeard, level, levelCall}
 use Rattle.level.proofs.CallLaws.{reach-limits, square-most}
 use Rattle.level.proofs.call.level.Statement.{statement}
 use Rattle.level.proofs.call.level.Tie as tie
@@ -19,16 +18,17 @@ returns : tie.Need-returns
 unfolding levelCall
 returns c =
     let t : tie.Then1 = search in
-    rw (failed (t .before .valid-reach .ensures) (t .if1 .taken))
+    rw (failed (t .before .valid-reach .ensures) (t .if1 .taken)) refl
 
 -- what test 18 left
 reach-valid : (c : tie.Else1) → let s : tie.Start = search in validReach (s .args .reach) ≡ true
 reach-valid c = passed (c .before .valid-reach .ensures) (c .if1 .left)
 
+reach-small : (c : tie.Else1) → let s : tie.Start = search in s .args .reach ≤ maxReach
+reach-small c = let s : tie.Start = search in reach-limits (s .args .reach) (reach-valid c) .1
+
 square-small : (c : tie.Else1) → let s : tie.Start = search in s .args .reach * s .args .reach ≤ 1_000_000_000_000
-square-small c =
-    let s : tie.Start = search in
-    square-most (s .args .reach) (reach-limits (s .args .reach) (reach-valid c) .1)
+square-small c = let s : tie.Start = search in square-most (s .args .reach) (reach-small c)
 
 mul-square : tie.Need-mul-square
 mul-square c = omega (arith, square-small search)
@@ -40,10 +40,13 @@ returns-2 : tie.Need-returns-2
 unfolding levelCall
 returns-2 c =
     let s : tie.Start = search in
-    rw (reach-valid search, lt-ltb (lastHeard (s .args .reach)) (s .args .d) (omega arith))
+    rw (reach-valid search, lt-ltb (lastHeard (s .args .reach)) (s .args .d) (omega arith)) refl
 
 quotient-of-requires : tie.Need-quotient-of-requires
-quotient-of-requires c κs = (square-small search, omega (arith, square-small search))
+quotient-of-requires c κs =
+    let r = reach-small search in
+    let s = square-small search in
+    (omega arith, omega arith)
 
 returns-3 : tie.Need-returns-3
 unfolding levelCall
