@@ -5,12 +5,14 @@
 // The clock runs from the file's bytes in memory to the filled lists. The output slices are made before.
 #include "../include/nearby.h"
 #include "checks.h"
+#include "levels.h"
 #include "measure.hpp"
 #include "peers.hpp"
 #include "stack.hpp"
 #include "town.hpp"
 #include <cstdio>
 #include <cstdlib>
+#include <cstring>
 #include <random>
 
 namespace {
@@ -206,7 +208,7 @@ template <size_t A> void rehearse(const std::vector<Town<A>> &few)
         try_cell(t, "track", 10, 64, c_block_check);
 }
 
-// The block check and the margin, against C.
+// The block check, the margin and the level, against C.
 
 template <size_t A> struct Triple {
     int32_t v[6 * A];
@@ -328,6 +330,62 @@ template <size_t A, class F> void measure_margin(const Town<A> &town, const std:
     }
 }
 
+struct Pair {
+    uint32_t reach;
+    uint64_t dist;
+};
+
+// The quotient and nothing else: no call, no tests, for a place that is not silent.
+inline double bare_level(const Pair &p)
+{
+    int64_t square = int64_t(p.reach) * p.reach;
+    return double(square) / double(square + int64_t(p.dist));
+}
+
+bool same_bits(double a, double b)
+{
+    return std::memcmp(&a, &b, sizeof a) == 0;
+}
+
+bool same_level(const Pair &p)
+{
+    nearby_leveled a = nearby_level(p.reach, p.dist), b = c_level(p.reach, p.dist);
+    return a.number == b.number && a.silent == b.silent && same_bits(a.level, b.level);
+}
+
+void measure_level()
+{
+    std::mt19937_64 rng(11);
+    std::vector<Pair> pairs(4096);
+    for (Pair &p : pairs) {
+        p.reach = 1 + uint32_t(rng() % NEARBY_MAX_REACH);
+        uint64_t limit = 100 * uint64_t(p.reach) * p.reach;
+        p.dist = rng() % (limit + 1);
+        nearby_leveled level = nearby_level(p.reach, p.dist);
+        if (level.number != NEARBY_OK || level.silent || !same_bits(level.level, bare_level(p)))
+            fail("the level is not the quotient");
+        // The same place; the last that is not silent, and the next; any; a reach beyond the limits.
+        for (const Pair &q : {p, Pair{p.reach, limit}, Pair{p.reach, limit + 1}, Pair{p.reach, rng()},
+                              Pair{0, p.dist}, Pair{p.reach + NEARBY_MAX_REACH, p.dist}})
+            if (!same_level(q))
+                fail("levels differ");
+    }
+    volatile double sink = 0;
+    auto over_pairs = [&](auto level) {
+        return [&, level] {
+            double sum = 0;
+            for (const Pair &p : pairs)
+                sum += level(p);
+            sink = sink + sum;
+        };
+    };
+    std::vector<Runner> levels{
+        {"proved", over_pairs([](const Pair &p) { return nearby_level(p.reach, p.dist).level; })},
+        {"c", over_pairs([](const Pair &p) { return c_level(p.reach, p.dist).level; })},
+        {"bare", over_pairs([](const Pair &p) { return bare_level(p); })}};
+    write_ns("level", levels, pairs.size());
+}
+
 // Reading alone: every block checked and decoded, as (b), (c), (d) do first.
 template <size_t A> void measure_reading(const Town<A> &town)
 {
@@ -390,6 +448,7 @@ void measure_stack(const Town<2> &town, const Town<3> &high)
         {"nearby_block_check", [&] { nearby_block_check(f.data(), BLOCK); }},
         {"nearby_margin", [&] { nearby_margin(0, 1, 0, 1, 2, 3, 2, 3, 4, 5, 4, 5); }},
         {"nearby_margin3", [&] { nearby_margin3(0, 1, 0, 1, 0, 1, 2, 3, 2, 3, 2, 3, 4, 5, 4, 5, 4, 5); }},
+        {"nearby_level", [&] { nearby_level(1000, 1234567); }},
     };
     std::printf("\nStack written, in bytes, frames of the measure included\n");
     for (auto &[name, call] : calls) {
@@ -449,10 +508,11 @@ int main(int c, char **v)
         measure_inputs(town, high);
         measure_reading(town);
         measure_reading(high);
-        std::printf("\nBlock check and margin alone\n");
+        std::printf("\nBlock check, margin and level alone\n");
         measure_check(town);
         measure_margin(town, "margin", nearby_margin, c_margin);
         measure_margin(high, "margin with height", nearby_margin3, c_margin3);
+        measure_level();
         measure_growth();
     }
     measure_stack(town, high);

@@ -18,6 +18,9 @@ STACK_LIMIT = 512 * 1024
 CHECKS = {'proved': 'proved: 16-bit sums in eight lanes', 'c': 'C as the paper says it, a remainder for each byte',
           'c-16': 'C, 16-bit sums, reduced after 21 bytes', 'c-late': 'C, 32-bit sums, reduced at the end',
           'c-lanes': 'C, 16-bit sums in eight lanes'}
+LEVELS = {'proved': 'proved', 'c': 'C, a call with the same tests',
+          'bare': 'C, the quotient alone, inlined and without a test: a lower bound'}
+ALONE = {'block check': CHECKS, 'level': LEVELS}  # the others are margins
 
 
 # The figures.
@@ -228,15 +231,15 @@ def quick_table(run):
     return table(['town', 'stops', 'n', 'k', 'a', 'b', 'c', 'd', 'e', 'f', 'b/a', 'c/a', 'd/a', 'e/a', 'f/a'], rows)
 
 
-def check_table(run):
-    v = run.ns['block check']
-    return table(['block check', 'ns', '/ proved'], [[words, three(v[c]), ratio(v[c] / v['proved'])]
-                                                      for c, words in CHECKS.items()])
+def alone_table(run, what):
+    v = run.ns[what]
+    return table([what, 'ns', '/ proved'], [[words, three(v[c]), ratio(v[c] / v['proved'])]
+                                            for c, words in ALONE[what].items()])
 
 
 def margin_table(run):
     rows = [[what, three(v['proved']), three(v['c']), ratio(v['c'] / v['proved'])]
-            for what, v in run.ns.items() if what != 'block check']
+            for what, v in run.ns.items() if what not in ALONE]
     return table(['', 'proved', 'C', 'C / proved'], rows)
 
 
@@ -306,7 +309,7 @@ def slower(run):
     for what, v in run.ns.items():
         for c in v:
             if v[c] < v['proved']:
-                words = CHECKS[c] if what == 'block check' else 'C'
+                words = ALONE[what][c] if what in ALONE else 'C'
                 lines.append(f"- {what[0].upper()}{what[1:]}: {three(v[c])} ns ({words}), the proved one "
                              f"{three(v['proved'])} ns.")
     return '\n'.join(lines)
@@ -417,16 +420,19 @@ of the town with height {three(high["paper's check"])} µs and {three(high['quic
 
 {quick_table(run)}
 
-## Block check and margin alone
+## Block check, margin and level alone
 
 Nanoseconds for one call, over the 1,000 blocks of the 960 x 40 grid and over 4,096 triples of valid boxes: \
 O around the track
 with every 15th tile as E and as B; random boxes; one triple again and again. With height the tiles are those of \
 {HIGH_TARGET[0]}.
+Of levels, over 4,096 random pairs of a reach and a D that is not silent, with the levels added up.
 
-{check_table(run)}
+{alone_table(run, 'block check')}
 
 {margin_table(run)}
+
+{alone_table(run, 'level')}
 
 ## Growth
 

@@ -31,8 +31,11 @@ for f in bench/*.cpp; do
     fi
     objects="$objects $o"
 done
-gcc -std=c11 $flags -c bench/checks.c -o "$out/checks.c.o"
-g++ $objects "$out/checks.c.o" target/staticlib/libhost.a -o "$out/bench" -pthread
+for name in checks levels; do
+    gcc -std=c11 $flags -c "bench/$name.c" -o "$out/$name.c.o"
+    objects="$objects $out/$name.c.o"
+done
+g++ $objects target/staticlib/libhost.a -o "$out/bench" -pthread
 
 nm -u target/staticlib/libhost.a 2>/dev/null | sed -n 's/^ *U //p' | sort -u >"$out/undefined"
 objdump -d target/staticlib/libhost.a | grep -cw -e syscall -e sysenter -e int >"$out/syscalls" || true

@@ -63,13 +63,16 @@ enum {
     /* Of a file again. */
     NEARBY_MUTED = 16,   /* sites of the tile with cue 0; due: as many as the directory has for the tile */
     /* Of question and file together. */
-    NEARBY_AXES = 17     /* of the town; due: two for nearby_join and nearby_prune, three for nearby_join3 and
+    NEARBY_AXES = 17,    /* of the town; due: two for nearby_join and nearby_prune, three for nearby_join3 and
                             nearby_prune3 */
+    /* Of a level. */
+    NEARBY_REACH = 18    /* due: a reach from 1 to 1,000,000 */
 };
 
 /* Where. With the number goes a block: the position in the file of the block refused, from 0. It is 0 for
  * NEARBY_LENGTH, for NEARBY_K to NEARBY_SUPPLY, for NEARBY_AXES, for the box of nearby_prune and nearby_prune3, and for
- * every refusal by nearby_write and nearby_write3; and it is 0 when the number is NEARBY_OK.
+ * every refusal by nearby_write and nearby_write3; and it is 0 when the number is NEARBY_OK. NEARBY_REACH has none:
+ * nearby_level looks at no file.
  * A refusal does not say T, but the file says d. Block 0 belongs to the directory in any case. If a later block is
  * refused, block 0 has passed its tests: then d is (file_len / 512 + 24) / 25 in whole numbers where byte 1 of the file
  * is 1, a plan town, and (file_len / 512 + 17) / 18 where it is 3, a town with height. A block below d belongs to the
@@ -80,8 +83,8 @@ enum {
  * and all entries have passed their tests.
  *
  * What to do.
- * - The caller's mistake, and the same call would be refused again: NEARBY_K to NEARBY_SUPPLY, NEARBY_BOX for the box
- *   of nearby_prune and nearby_prune3, and every refusal by nearby_write and nearby_write3.
+ * - The caller's mistake, and the same call would be refused again: NEARBY_K to NEARBY_SUPPLY, NEARBY_REACH, NEARBY_BOX
+ *   for the box of nearby_prune and nearby_prune3, and every refusal by nearby_write and nearby_write3.
  * - NEARBY_AXES: the directory is good, and the call is not the one for this town. Do not copy the file again. Ask
  *   nearby_join3 and nearby_prune3 where nearby_validate gives three axes, nearby_join and nearby_prune where it gives
  *   two; byte 1 of the file says it too, 3 for three axes, 1 for two. A host that has stops without z cannot ask a town
@@ -107,6 +110,7 @@ enum {
     NEARBY_MAX_SITES_3 = 30, /* in a tile of a town with height */
     NEARBY_MAX_STOPS = 256, /* the program `nearby` takes 128 */
     NEARBY_MAX_K = 64,
+    NEARBY_MAX_REACH = 1000000, /* centimetres */
     NEARBY_MAX_FILE = 512000, /* bytes, of a plan town */
     NEARBY_MAX_FILE_3 = 520704 /* bytes, of a town with height: room for any file */
 };
@@ -229,6 +233,26 @@ struct nearby_written nearby_write3(const int32_t *boxes, size_t boxes_len, cons
                                     const int32_t *x, size_t x_len, const int32_t *y, size_t y_len,
                                     const int32_t *z, size_t z_len, const uint32_t *cues, size_t cues_len,
                                     uint8_t *out, size_t out_len);
+
+struct nearby_leveled {
+    uint32_t number; /* NEARBY_OK, or NEARBY_REACH; then silent and level are 0 */
+    uint32_t silent; /* 1: the place is too far to be heard, and level is 0; 0: level has its level */
+    double level;    /* above 0 and at most 1, where number and silent are 0 */
+};
+
+/* How loud a place is, for the mixer: from a reach, 1 to 1,000,000 centimetres, and the place's squared distance dist,
+ * as nearby_join and nearby_join3 give it; any numbers may be passed. A reach outside its limits is refused with
+ * NEARBY_REACH, whatever dist is. Silent if dist is above 100 * reach * reach: beyond ten times the reach. Else the
+ * level is the double nearest to the fraction of whole numbers
+ *
+ *     reach * reach / (reach * reach + dist)
+ *
+ * It is 1 exactly when dist is 0; 0.5 when dist is reach * reach, at the reach itself; never below the double nearest
+ * to 1/101. For one reach, a greater dist always gives a smaller level. For one dist, a greater reach never gives a
+ * smaller level.
+ * The calling thread must have the default rounding mode, to nearest (fegetround() is FE_TONEAREST), which no contract
+ * can promise: in another one the last bits may differ. */
+struct nearby_leveled nearby_level(uint32_t reach, uint64_t dist);
 
 #ifdef __cplusplus
 }

@@ -5,7 +5,7 @@ set -euo pipefail
 cd "$(dirname "$0")/.."
 built=target/examples
 mkdir -p "$built"
-for name in town host viaduct; do
+for name in town host viaduct mixer; do
     gcc -std=c11 -O2 -Wall -Wextra -Werror -Iinclude "examples/$name.c" target/lib/libnearby.a -o "$built/$name"
 done
 gcc -std=c11 -O2 -Wall -Wextra -Werror examples/reader.c -o "$built/reader"
@@ -28,6 +28,25 @@ ask() { python3 examples/ask.py "$@" | target/bin/nearby; }
 compare samples/riverside.town text_to_town samples/riverside.txt
 compare samples/riverside.host "$built/host" samples/riverside.town
 compare samples/riverside.answer ask samples/riverside.town 3 1200,3000 2600,3100 4100,3200 5600,3200
+
+# The mixer, with the least reach and the greatest too: all places are silent, and all are as loud as can be printed.
+compare samples/riverside.levels "$built/mixer" samples/riverside.town 100
+compare <(sed -E 's/at [0-9.]+/silent/g' samples/riverside.levels) "$built/mixer" samples/riverside.town 1
+compare <(sed -E 's/at [0-9.]+|silent/at 1.0000/g' samples/riverside.levels) \
+    "$built/mixer" samples/riverside.town 1000000
+# A reach is refused before the file is looked at. What is no decimal number of 32 bits does not get so far.
+for reach in 0 1000001 4294967295; do
+    for file in samples/riverside.town samples/viaduct.town /dev/null; do
+        compare <(printf '%s\n' "refused 18: a reach is 1 to 1000000 centimetres" "status 2") \
+            "$built/mixer" "$file" "$reach"
+    done
+done
+for reach in "" x 100x x100 -100 +100 " 100" 1e2 0x64 100.0 4294967296 18446744073709551716; do
+    compare <(printf '%s\n' "mixer FILE REACH, a whole number of centimetres" "status 1") \
+        "$built/mixer" samples/riverside.town "$reach"
+done
+compare <(printf '%s\n' "refused 17: a town with height, and the points have none" "status 2") \
+    "$built/mixer" samples/viaduct.town 100
 
 # A town with height: by its text, and by the program that has it. The reader gives back a text without its comments.
 compare samples/viaduct.town text_to_town samples/viaduct.txt
@@ -121,6 +140,12 @@ says 9 0 "block 0 of the directory" "$built/muted-5.town"
 says 16 21 "block 21, tile 20" "$built/cue.town" ", or make it again from its town"
 says 16 21 "block 21, tile 20" "$built/muted-1.town" ", or make it again from its town"
 says 1 0 "the length" /dev/null
+# The mixer says less.
+bad_file() { compare <(printf '%s\n' "refused $1, block $2: the file is bad" "status 1") "$built/mixer" "$3" 100; }
+bad_file 1 0 "$built/cut.town"
+bad_file 3 21 "$built/one.town"
+bad_file 7 0 "$built/entries.town"
+bad_file 1 0 /dev/null
 # With 384 tiles the directory has 16 blocks.
 printf 'tile 0 0 1 1 # %s\n' {1..384} | "$built/town" >"$built/384.town"
 recount "$built/384.town" 12 4 23 >"$built/384-12.town"
@@ -191,4 +216,4 @@ fails "line 2: not as many axes as the first tile, which has 3" 'tile 0 0 0 1 1 
 fails "line 961: more than 960 tiles" "$(yes 'tile 0 0 1 1\n' | head -n 961 | tr -d '\n')"
 fails "line 1: longer than 254 characters" "# $(yes long | head -n 60 | xargs)\n"
 fails "there is no tile" '# nothing\n'
-echo "examples: 4 C programs built without a warning, $runs runs compared"
+echo "examples: 5 C programs built without a warning, $runs runs compared"

@@ -13,6 +13,7 @@ use: exercises.py [--gate] [DOCUMENT]
 """
 import re
 import sys
+from fractions import Fraction
 from pathlib import Path
 
 ROOT = Path(__file__).resolve().parent.parent
@@ -440,6 +441,35 @@ def check(engine, document):
             raise Wrong(f"exercise 5: `{words}` is not in crates/blocks/{file}")
 
 
+def levels(engine, document):
+    heading, reach = "Answer 7", 3
+    [rows] = document.tables(heading)
+    square = reach * reach
+
+    def heard(d, value, last=100 * square):
+        return "silent" if d > last else repr(value)
+
+    found = []
+    for d in (0, 1, 9, 27, 891, 900, 901):
+        level, under = engine.level(reach, d), square + d
+        exact = level is not None and Fraction(level) == Fraction(square, under)
+        found.append([str(d), f"{square}/{under}", "" if level is None else yes(exact),
+                      "silent" if level is None else repr(level), heard(d, 1 / (1 + d / square)),
+                      heard(d, reach / (reach + d)), heard(d, square / under, 100 * square - 1)])
+    same("the levels of exercise 7", rows, found)
+    document.says("7. A level by hand", "for D = 0, 1, 9, 27, 891, 900 and 901.")
+    same("a reach of 0, exercise 7", (18, 0), refusal(engine.level, 0, 5))
+    least = next(r for r in range(1, 1_000_000) if r * r / (r * r + 1) == (r + 1) ** 2 / ((r + 1) ** 2 + 1))
+    same("two reaches with the same level, exercise 7", engine.level(least, 1), engine.level(least + 1, 1))
+    same("the reaches before them, exercise 7", True, all(
+        engine.level(r, 1) < engine.level(r + 1, 1) for r in range(least - 1000, least)))
+    document.says(heading, f"for D = 1 the least r is {least:,}.")
+    theorems = (ROOT / "crates/level/proofs/Theorems.antt").read_text(encoding="utf-8")
+    for name in ("falls-strictly", "rises-with-reach"):
+        if f"pub {name} :" not in theorems or f"`{name}`" not in " ".join(document.lines(heading)):
+            raise Wrong(f"exercise 7: `{name}` is no theorem of level, or is not named")
+
+
 def errors_stand(lines):
     """The number of errors shown. Each stands in the declaration that it names."""
     errors = [error.groups() for line in lines if (error := re.match(r"(\S+):(\d+):\d+: error: `([^`]+)`", line))]
@@ -537,7 +567,7 @@ def main(words):
     try:
         document = Document(Path(words[0]) if words else ROOT / "docs/EXERCISES.md")
         engine = Asked(LIBRARY)
-        parts = (margins, one_stop, changes, mistakes, check)
+        parts = (margins, one_stop, changes, mistakes, check, levels)
         for part in parts:
             part(engine, document)
         wrong_program(document, gate)

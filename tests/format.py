@@ -280,7 +280,7 @@ def dumped(lines):
 def header_names():
     text = (ROOT / "include/nearby.h").read_text()
     return {int(value): name.lower() for name, value in re.findall(r"NEARBY_(\w+) = (\d+),? +/\* ", text)
-            if 1 <= int(value) <= 17}
+            if 1 <= int(value) <= 18}
 
 
 # What the document says of numbers, sizes and sums
@@ -362,7 +362,8 @@ def check_words(document):
             "**9 box**: the box O of the call, at block 0.", "and never refuses with 17.",
             "- For every refusal by the writer: 0,", "- For 9, when the box O of the strike call is bad: 0.",
             "If a later block is refused, block 0 was good, so byte 1 says the family,",
-            "**17 speaks of the call and the file together.**",
+            "**17 speaks of the call and the file together.**", "- For 18: none is given,",
+            "**11 to 14, 18, and 9 for O, speak of the call.**",
             # part 8
             f"the {plan.site} or {height.site} bytes of the site, and the check.",
             "give all its boxes and sites z 0 and make the file with `nearby_write3`.",
@@ -1017,6 +1018,12 @@ def check_orders_of_calls(document, engine, family):
         (1, 1, {"cut": 1}), (2, 2, {"sync": 1}), (3, 3, {"check": 1})],
         lambda cut=0, sync=0, check=0: engine.block_check(
             put(put(file, 0, [0]) if sync else file, 511, [255] if check else [])[:BLOCK - cut]))
+    level = engine.calls.nearby_level
+    first_of("level", document.steps("Order of tests: the level, `nearby_level`"), [(18, 18, {"reach": 0})],
+             lambda reach=1, dist=2 ** 64 - 1: level(reach, dist).number)
+    expect("the reach of a level", [level(reach, dist).number for dist in (0, 2 ** 64 - 1)
+                                    for reach in (0, 1, 1_000_000, 1_000_001, 2 ** 32 - 1)], [18, 0, 0, 18, 18] * 2)
+    expect("silence is no refusal", [level(1, dist).silent for dist in (100, 101, 2 ** 64 - 1)], [0, 1, 1])
     good, margin = (0, 1) * axes, {2: engine.calls.nearby_margin, 3: engine.calls.nearby_margin3}[axes]
     for axis, ends in itertools.product(range(axes), ((1, 0), (-1_000_001, 0), (0, 1_000_001))):
         bad = good[:2 * axis] + ends + good[2 * axis + 2:]
@@ -1031,19 +1038,20 @@ def check_orders_of_calls(document, engine, family):
 
 def check_refusals(document):
     numbers = [int(row[0]) for row in document.table("No.", "Name", "Refused when")]
-    expect("numbers of the refusals", numbers, list(range(1, 18)))
-    expect("numbers of the refusals in words", f"a number from 1 to {numbers[-1]} and" in document.running(), True)
+    expect("numbers of the refusals", numbers, list(range(1, 19)))
+    expect("numbers of the refusals in words", "a number from 1 to 17 and the position" in document.running(), True)
     causes = [int(row[0].split()[0]) for row in document.table("No.", "Usual cause", "What to look at")]
     expect("numbers of the causes", causes, [1, 2, 3, 4, 5, 6, 7, 7, 8, 9, 10, 16])
     header = (ROOT / "include/nearby.h").read_text()
     constants = dict(re.findall(r"NEARBY_(\w+) = (\d+)", header))
-    block, tiles, sites, sites_3, stops, k, file, file_3 = (int(constants[name]) for name in (
-        "BLOCK_SIZE", "MAX_TILES", "MAX_SITES", "MAX_SITES_3", "MAX_STOPS", "MAX_K", "MAX_FILE", "MAX_FILE_3"))
+    block, tiles, sites, sites_3, stops, k, file, file_3, reach = (int(constants[name]) for name in (
+        "BLOCK_SIZE", "MAX_TILES", "MAX_SITES", "MAX_SITES_3", "MAX_STOPS", "MAX_K", "MAX_FILE", "MAX_FILE_3",
+        "MAX_REACH"))
     expect("sites and files in the header", (sites, sites_3, file, file_3),
            (PLAN.sites, HEIGHT.sites, PLAN.bytes, HEIGHT.bytes))
     numbers = {1: [0, block, file_3, file, block, 2 * block, 6], 3: [510, 511, 1, 509], 4: [1, 1, 2, 3, 4],
                6: [0, tiles, 0], 9: [sites, sites_3, 1], 11: [0, k, 1, k], 12: [stops, 1, stops],
-               13: [-1_000_000, 1_000_000], 15: [4, 6], 17: []}
+               13: [-1_000_000, 1_000_000], 15: [4, 6], 17: [], 18: [0, reach, 1, reach]}
     for row in document.table("No.", "Name", "Refused when"):
         expect(f"name of {row[0]}", row[1], NAMES.get(int(row[0])))
         said = [number(text) for text in re.findall(r"-?\b\d[\d,]*\b", " ".join(row[2:]))]
@@ -1052,7 +1060,7 @@ def check_refusals(document):
     rows = document.table("Plan town", "With height", "Name here")
     expect("the calls of the table", {cell.strip("`") for row in rows for cell in row[:2]}, set(calls))
     expect("calls with height", [row[1] for row in rows[:4]], [row[0][:-1] + "3`" for row in rows[:4]])
-    expect("how many calls", (len(calls), "Seven of the ten calls give" in document.running()), (10, True))
+    expect("how many calls", (len(calls), "Seven of the eleven calls give" in document.running()), (11, True))
     named = " ".join(document.parts["Which block is named"])
     expect("numbers with block 0", "- For 1, for 11 to 15, and for 17: 0." in named, True)
     # the header's way from a length to d

@@ -10,6 +10,7 @@ import shutil
 import struct
 import subprocess
 import sys
+from fractions import Fraction
 from pathlib import Path
 
 ROOT = Path(__file__).resolve().parent.parent
@@ -775,6 +776,41 @@ def asked_with_height():
                                                 "  there: byte 0 is 00\n"), "one that is opened")
 
 
+def leveled(engine, rng, axes):
+    """What `levels` prints: the lists of a full search, each place with its quotient."""
+    held, silent = WORK / "levels.town", 0
+    for _ in range(25):
+        span, tiles = drawn(rng, most=12, axes=axes)
+        held.write_bytes(engine.write(tiles))
+        stops = spots(rng, span, rng.choice([1, 2, 5]), axes)
+        k, reach = rng.choice([1, 3, 64]), rng.choice([1, 2, max(1, span // 30), span, 1_000_000])
+        lines = [f"reach {reach}, k {k}, stops {len(stops)}"]
+        for i, stop in enumerate(stops):
+            places = full_search(tiles, stop, k)
+            lines.append(f"stop {i} at {','.join(map(str, stop))}:" + ("" if places else " no sounding site"))
+            for dist, _, cue in places:
+                heard = dist <= 100 * reach * reach
+                level = Fraction(reach * reach, reach * reach + dist)
+                lines.append(f"  cue {cue}, D {dist}: " + (f"level {float(level):.4f}" if heard else "silent"))
+                silent += not heard
+        same(run("levels", held, reach, k, *(",".join(map(str, stop)) for stop in stops)),
+             (0, "\n".join(lines) + "\n", ""), "levels")
+    holds(silent > 0, "a silent place was drawn")
+
+
+def refused_levels():
+    for reach in (0, -1, 1_000_001, 10**20):
+        due = f"refused 18 (reach)\n  due: a reach from 1 to 1000000\n  there: the reach is {reach}\n"
+        # before the file, k and the stops are looked at
+        for arguments in ([3, "0,0"], [65, "0,0"], [3], [3, "0,0,0"], [3, "0,9999999"]):
+            same(run("levels", SAMPLE, reach, *arguments), (1, "", due), f"a reach of {reach}")
+    same(run("levels", SAMPLE, 9, 65, "0,0"), (1, "", "refused 11 (k)\n  due: k from 1 to 64\n  there: k is 65\n"),
+         "levels with a bad k")
+    same(run("levels", SAMPLE, 9, 3), (1, "", "refused 12 (stops)\n  due: 1 to 256 stops\n  there: there are 0\n"),
+         "levels without a stop")
+    same(run("levels", WORK / "none.town", 9, 3, "0,0")[0], 1, "levels of no file")
+
+
 def refused_questions():
     coordinates = "  due: coordinates from -1000000 to 1000000\n"
     for arguments, due in [
@@ -807,7 +843,7 @@ def refused_questions():
 def usage():
     same(run("--help")[0], 0, "help")
     holds(run("--help")[1].startswith("town: the tool for towns\n"), "the help's first line")
-    for name in ("make", "show", "check", "ask", "draw", "renew"):
+    for name in ("make", "show", "check", "ask", "levels", "draw", "renew"):
         status, said, _ = run(name, "--help")
         holds(status == 0 and said.startswith(f"town {name} "), f"help of {name}")
         holds(max(map(len, said.splitlines())) <= 132, f"help of {name} is not wide")
@@ -817,7 +853,9 @@ def usage():
                       ["ask", SAMPLE, "3", "1,2,"], ["ask", SAMPLE, "3", "1,1", "1,2,3"],
                       ["ask", SAMPLE, "3", "1,2,3", "1,1"], ["draw", SAMPLE, "3", "1,1", "2,2,2", "page"],
                       ["draw", SAMPLE, "3", "1,1,1", "2,2,2"], ["ask", SAMPLE, "3", "1.5,2"],
-                      ["draw", SAMPLE, "3", "page"],
+                      ["draw", SAMPLE, "3", "page"], ["levels", SAMPLE, "3"], ["levels", SAMPLE, "x", "3", "1,1"],
+                      ["levels", SAMPLE, "", "3", "1,1"], ["levels", SAMPLE, "1.5", "3", "1,1"],
+                      ["levels", SAMPLE, "9", "1,1", "1,1"], ["levels", SAMPLE, "9", "3", "1"],
                       ["draw", SAMPLE, "3", "1;1", "page"], ["draw", SAMPLE, "3", "1,1", "2,-2"]):
         status, said, wrong = run(*arguments)
         holds(status == 2 and not said and wrong.startswith("town: "), f"usage: {arguments}: {status} {wrong}")
@@ -977,6 +1015,9 @@ def main():
     questions(engine, random.Random(9), 3)
     asked()
     asked_with_height()
+    leveled(engine, random.Random(11), 2)
+    leveled(engine, random.Random(12), 3)
+    refused_levels()
     refused_questions()
     usage()
     places()

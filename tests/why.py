@@ -13,20 +13,21 @@ import itertools
 import pathlib
 import re
 import sys
+from fractions import Fraction
 
 ROOT = pathlib.Path(__file__).resolve().parent.parent
 sys.dont_write_bytecode = True
 sys.path.insert(0, str(ROOT / "tools"))
 
 from towns import text  # noqa: E402
-from towns.engine import Engine, refusal  # noqa: E402
+from towns.engine import MAX_REACH, Engine, refusal  # noqa: E402
 
 SHARED = ROOT / "target" / "lib" / "libnearby.so"
 if not SHARED.exists():
     sys.exit(f"{SHARED.relative_to(ROOT)} is not there: run make lib")
 ENGINE = Engine(SHARED)
 far, near, margin, strike = ENGINE.far, ENGINE.near, ENGINE.margin, ENGINE.strike
-join, write = ENGINE.join, ENGINE.write
+join, write, level = ENGINE.join, ENGINE.write, ENGINE.level
 
 PAGE = ROOT / "docs" / "WHY.md"
 TILES, FILE = text.make(ENGINE, (ROOT / "samples" / "crossing.txt").read_text())
@@ -229,6 +230,18 @@ def other_k():
     return table(["k", "Places used", "Opened", "Struck", "Stop 0 ends", "Stop 1 ends"], *rows)
 
 
+REACH = 3
+
+
+def levels():
+    rows = []
+    for stop, places in enumerate(LISTS):
+        for p in places:
+            over, under = REACH**2, REACH**2 + p[0]
+            rows.append([stop, place(p), f"{over}/{under}", f"{level(REACH, p[0])!r}"])
+    return table(["Stop", "Place", "Fraction", "Level"], *rows)
+
+
 TABLES = {
     "town": town,
     "near and far": near_and_far,
@@ -240,6 +253,7 @@ TABLES = {
     "marks": final_marks,
     "fillings": fillings,
     "other k": other_k,
+    "levels": levels,
 }
 
 
@@ -290,6 +304,27 @@ def middle():
 def raised(z):
     """The margin on one axis of the page, with E at this height."""
     return margin((0, 0, 0, 10, 0, 0), (20, 0, z, 30, 0, z), (31, 0, 0, 70, 0, 0))
+
+
+def of_levels():
+    """What step 9 says of levels."""
+    most = MAX_REACH**2 + 100 * MAX_REACH**2
+    over, d = REACH**2, LISTS[0][0][0]
+    for r in (1, 3, MAX_REACH):
+        assert [level(r, n * r * r) for n in (0, 1, 100)] == [1, 0.5, 1 / 101] and level(r, 100 * r * r + 1) is None
+    assert level(MAX_REACH - 1, 1) == level(MAX_REACH, 1)
+    a, b = (Fraction(r * r, r * r + 1) for r in (MAX_REACH - 1, MAX_REACH))
+    assert round((b - a) / b * 10**18) == 2
+    # the parts that two roundings take away, of the least difference of two fractions
+    assert 2 * (most + 1) / 2**53 < 1 / 40
+    assert refusal(level, 0, 2**64 - 1) == refusal(level, MAX_REACH + 1, 2**64 - 1) == (18, 0)
+    return [
+        f"r × r + D is at most {most:,}. Up to 2⁵³, which is {2**53:,}, every whole number is a float.",
+        f"For r = {REACH} and D = {d} the first gives {level(REACH, d)!r}, the second {1 / (1 + d / over)!r}.",
+        f"at least by one in {most + 1:,}.",
+        f"for D = 1, the reaches {MAX_REACH - 1:,} and {MAX_REACH:,} do.",
+        "there the fraction is 1/101",
+    ]
 
 
 def sentences():
@@ -354,6 +389,7 @@ def sentences():
         f"the sites (2,1) of tile 1 and (10,3) of tile 2 are both at {both_at((6, 2), (2, 1), (10, 3))}",
         f"The least D that the site of tile 3 can have from stop 0 is {near_of((0, 0), 3)}, at (-3,-2), and there it"
         f" ranks behind {place(LISTS[0][1])}. From stop 1 its least D is {near_of((6, 2), 3)}.",
+        *of_levels(),
         f"For the site of tile 4 it is {near_of((0, 0), 4)} from stop 0 and {near_of((6, 2), 4)} from stop 1, for that"
         f" of tile 5 it is {near_of((0, 0), 5)} and {near_of((6, 2), 5)}.",
     ]  # fmt: skip

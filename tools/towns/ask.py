@@ -13,10 +13,15 @@ class Answer(NamedTuple):
     opened_for: dict
 
 
+def within_32_bits(number):
+    """A number in the 32 bits that the engine takes. One that does not fit is refused as well at their ends."""
+    return min(max(number, 0), 2**32 - 1)
+
+
 def _as_taken(stops, k):
     """The question in the 32 bits that the engine takes. What does not fit is refused as well at their ends."""
     low, high = -2**31, 2**31 - 1
-    return [tuple(min(max(end, low), high) for end in stop) for stop in stops], min(max(k, 0), 2**32 - 1)
+    return [tuple(min(max(end, low), high) for end in stop) for stop in stops], within_32_bits(k)
 
 
 def ask(engine, content, stops, k):
@@ -71,4 +76,17 @@ def report(engine, content, stops, k):
         lines.append(f"stop {i} at {stop_words(stop)}:" + ("" if places else " no sounding site"))
         for dist, site, cue in places:
             lines.append(f"  D {dist}, site {site} (tile {site // MAX_SITES} slot {site % MAX_SITES}), cue {cue}")
+    return lines
+
+
+def levels(engine, content, reach, stops, k):
+    """The lists with how loud each place is, as lines. The reach is refused before the file is asked."""
+    engine.level(within_32_bits(reach), 0)
+    joined = engine.join(content, *_as_taken(stops, k))
+    lines = [f"reach {reach}, k {k}, stops {len(stops)}"]
+    for i, (stop, places) in enumerate(zip(stops, joined.lists)):
+        lines.append(f"stop {i} at {stop_words(stop)}:" + ("" if places else " no sounding site"))
+        for dist, _, cue in places:
+            level = engine.level(reach, dist)
+            lines.append(f"  cue {cue}, D {dist}: " + ("silent" if level is None else f"level {level:.4f}"))
     return lines

@@ -9,12 +9,13 @@ from .engine import BLOCK_SIZE, MAX_FILE_3, Engine, NoLibrary, Refused
 USAGE = """\
 town: the tool for towns
 
-  town make TEXT FILE           makes the file of a town from text
-  town show FILE                prints a file as that text
-  town check FILE               the full check; says of a refusal what was due and what stood there
-  town ask FILE K X,Y ..        the K nearest sounding sites of each stop, and which tiles were opened, struck, neither
-  town draw FILE K X,Y .. PAGE  the same as one page of HTML, to look at in a browser
-  town renew OLD FILE           writes again a file from before muted sites were counted
+  town make TEXT FILE              makes the file of a town from text
+  town show FILE                   prints a file as that text
+  town check FILE                  the full check; says of a refusal what was due and what stood there
+  town ask FILE K X,Y ..           the K nearest sounding sites of each stop, and what became of each tile
+  town levels FILE REACH K X,Y ..  how loud these sites are, for a reach
+  town draw FILE K X,Y .. PAGE     question and answer as one page of HTML, to look at in a browser
+  town renew OLD FILE              writes again a file from before muted sites were counted
 
 town COMMAND --help says more of a command. Coordinates are whole centimetres from -1000000 to 1000000.
 In a town with height a stop is X,Y,Z.
@@ -67,6 +68,14 @@ Before them: O, the smallest box around the stops; the tiles opened for each sto
 the tiles struck; and those
 neither opened nor struck. K is 1 to 64; there are 1 to 256 stops. \
 An opened tile is named at the first stop that needs it.
+In a town with height a stop is X,Y,Z.
+""",
+    "levels": """\
+town levels FILE REACH K X,Y ..
+
+Prints for each stop X,Y the cues of its K nearest sounding sites, nearest first, with D (the squared distance) and how
+loud each is for a reach of REACH centimetres, 1 to 1000000: the level, REACH x REACH / (REACH x REACH + D), to four
+places, or silent where D is above 100 x REACH x REACH.
 In a town with height a stop is X,Y,Z.
 """,
     "draw": """\
@@ -129,8 +138,8 @@ def _save(name, content):
         raise Wrong(f"{name}: {error.strerror}") from None
 
 
-def _refused(name, content, refused, stops=(), k=0):
-    head, *rest = words.refusal(content, refused, stops, k)
+def _refused(name, content, refused, stops=(), k=0, reach=0):
+    head, *rest = words.refusal(content, refused, stops, k, reach)
     return Wrong(f"{name}: {head}" if words.of_file(refused.number) else head, *rest)
 
 
@@ -235,6 +244,17 @@ def ask_(arguments):
         raise _refused(name, content, refused, stops, k) from None
 
 
+def levels(arguments):
+    name, reach, *question = arguments
+    if not re.fullmatch(NUMBER, reach):
+        raise Usage(f"REACH is a whole number, not `{reach}`")
+    (k, stops), content = _question(question), _content(name)
+    try:
+        print("\n".join(ask.levels(Engine(), content, int(reach), stops, k)))
+    except Refused as refused:
+        raise _refused(name, content, refused, stops, k, int(reach)) from None
+
+
 def draw(arguments):
     name, *question, target = arguments
     k, stops = _question(question)
@@ -256,18 +276,18 @@ def draw(arguments):
 
 # For each command: what does it, and the least and the largest number of its arguments.
 COMMANDS = {"make": (make, 2, 2), "show": (show, 1, 1), "check": (check, 1, 1), "ask": (ask_, 2, None),
-            "draw": (draw, 4, None), "renew": (renew, 2, 2)}
+            "levels": (levels, 3, None), "draw": (draw, 4, None), "renew": (renew, 2, 2)}
 
 
 def _run(arguments):
     if not arguments:
-        raise Usage("which command? make, show, check, ask, draw or renew")
+        raise Usage("which command? make, show, check, ask, levels, draw or renew")
     name, *rest = arguments
     if name in ("--help", "-h", "help"):
         sys.stdout.write(USAGE)
         return
     if name not in COMMANDS:
-        raise Usage(f"there is no command `{name}`; there are make, show, check, ask, draw and renew")
+        raise Usage(f"there is no command `{name}`; there are make, show, check, ask, levels, draw and renew")
     if rest and rest[0] in ("--help", "-h"):
         sys.stdout.write(HELP[name])
         return

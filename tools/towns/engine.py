@@ -2,7 +2,7 @@
 ask."""
 import ctypes
 import os
-from ctypes import POINTER, Structure, c_int32, c_int64, c_size_t, c_uint8, c_uint32, c_uint64
+from ctypes import POINTER, Structure, c_double, c_int32, c_int64, c_size_t, c_uint8, c_uint32, c_uint64
 from pathlib import Path
 from typing import NamedTuple
 
@@ -12,6 +12,7 @@ MAX_SITES = 40  # in a tile; a site's number has it for all towns
 MAX_SITES_3 = 30  # in a tile of a town with height
 MAX_STOPS = 256
 MAX_K = 64
+MAX_REACH = 1_000_000
 MAX_FILE = 512_000
 MAX_FILE_3 = 520_704  # of a town with height
 LIMIT = 1_000_000
@@ -20,6 +21,7 @@ BAD_BOX = 9_000_000_000_000_000_000
 NAMES = {
     1: "length", 2: "sync", 3: "check", 4: "kind", 5: "position", 6: "tiles", 7: "entries", 8: "padding", 9: "box",
     10: "stray", 11: "k", 12: "stops", 13: "spot", 14: "short", 15: "supply", 16: "muted", 17: "axes",
+    18: "reach",
 }
 
 
@@ -59,6 +61,10 @@ class _Validated(Structure):
 
 class _Written(Structure):
     _fields_ = [("number", c_uint32), ("block", c_uint32), ("length", c_size_t)]
+
+
+class _Leveled(Structure):
+    _fields_ = [("number", c_uint32), ("silent", c_uint32), ("level", c_double)]
 
 
 def library():
@@ -115,6 +121,8 @@ class Engine:
         lib.nearby_block_check.restype = c_uint32
         lib.nearby_validate.argtypes = [data, c_size_t]
         lib.nearby_validate.restype = _Validated
+        lib.nearby_level.argtypes = [c_uint32, c_uint64]
+        lib.nearby_level.restype = _Leveled
         # The calls for two axes and those for three, by the number of axes.
         self._margin = {2: lib.nearby_margin, 3: lib.nearby_margin3}
         self._join = {2: lib.nearby_join, 3: lib.nearby_join3}
@@ -189,6 +197,13 @@ class Engine:
         if r.number:
             raise Refused(r.number, r.block)
         return r.tiles
+
+    def level(self, reach, dist):
+        """How loud a place at a squared distance is, for a reach: its level, None if silent. Raises Refused."""
+        r = self.calls.nearby_level(reach, dist)
+        if r.number:
+            raise Refused(r.number, 0)
+        return None if r.silent else r.level
 
     def write(self, tiles):
         """The file of a town, given as a list of (box, sites) with sites (x, y, cue), or with boxes of six numbers and

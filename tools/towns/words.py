@@ -2,7 +2,7 @@
 
 The engine says the number and the block; the bytes say the rest.
 """
-from .engine import BLOCK_SIZE, LIMIT, MAX_K, MAX_STOPS, MAX_TILES, NAMES
+from .engine import BLOCK_SIZE, LIMIT, MAX_K, MAX_REACH, MAX_STOPS, MAX_TILES, NAMES
 from .text import outside
 from .town import (HEIGHT, PAYLOAD, PLAN, block, end_names, ends, entry, is_muted, layout, muted_slots, none_muted,
                    several, sites, stop_words, two_bytes)
@@ -189,7 +189,9 @@ def _axes(content, stops):
     return "stops X,Y, as the town has no height", there, "leave out the z of each stop, or ask a town with height"
 
 
-def _of_question(content, number, stops, k):
+def _of_question(content, number, stops, k, reach):
+    if number == 18:
+        return f"a reach from 1 to {MAX_REACH}", f"the reach is {reach}"
     if number == 11:
         return f"k from 1 to {MAX_K}", f"k is {k}"
     if number == 12:
@@ -203,7 +205,7 @@ def _of_question(content, number, stops, k):
     return None
 
 
-def refusal(content, refused, stops=(), k=0):
+def refusal(content, refused, stops=(), k=0, reach=0):
     """A refusal as lines: number, name and block; what was due; what stood there; of 16 and 17, what may help."""
     number, position = refused.number, refused.block
     head = f"refused {number} ({NAMES[number]})"
@@ -214,6 +216,6 @@ def refusal(content, refused, stops=(), k=0):
         head += f", block {position}, {file.name(position)}"
         said = OF_BLOCKS[number](file, position)
     else:
-        said = _of_question(content, number, stops, k)
+        said = _of_question(content, number, stops, k, reach)
     due, there, *more = said or ("?", "?")
     return [head, f"  due: {due}", f"  there: {there}", *(f"  {line}" for line in more)]

@@ -1,5 +1,5 @@
 //! The interface of include/nearby.h: the functions of the static library behind safe calls on slices, each over the
-//! number of axes.
+//! number of axes, and nearby_level, which has none.
 
 use crate::paper::search::{Joined, Pruned};
 use crate::paper::writer::Supply;
@@ -50,6 +50,21 @@ pub struct Written {
     pub length: usize,
 }
 
+#[repr(C)]
+struct CLeveled {
+    number: u32,
+    silent: u32,
+    level: f64,
+}
+
+/// What nearby_level gives. The level is taken by its bits: 0.0 is not -0.0.
+#[derive(Clone, Copy, Debug, PartialEq, Eq)]
+pub struct Leveled {
+    pub number: u32,
+    pub silent: u32,
+    pub bits: u64,
+}
+
 #[rustfmt::skip]
 extern "C" {
     fn nearby_block_check(block: *const u8, block_len: usize) -> u32;
@@ -96,6 +111,7 @@ extern "C" {
         x: *const i32, x_len: usize, y: *const i32, y_len: usize, z: *const i32, z_len: usize,
         cues: *const u32, cues_len: usize, out: *mut u8, out_len: usize,
     ) -> Written;
+    fn nearby_level(reach: u32, dist: u64) -> CLeveled;
 }
 
 pub fn block_check(block: &[u8]) -> u32 {
@@ -195,4 +211,9 @@ pub fn write<const A: usize>(supply: &Supply<A>, out: &mut [u8]) -> Written {
             _ => unreachable!("no writer for {A} axes"),
         }
     }
+}
+
+pub fn level(reach: u32, dist: u64) -> Leveled {
+    let c = unsafe { nearby_level(reach, dist) };
+    Leveled { number: c.number, silent: c.silent, bits: c.level.to_bits() }
 }

@@ -11,6 +11,7 @@
 
 mod compare;
 mod damage;
+mod divide;
 mod fillings;
 mod host;
 mod paper;
@@ -99,6 +100,7 @@ fn main() -> ExitCode {
         ("numbers", Box::new(|_, tally| tally.verdict().map_err(Failure::new))),
         ("program", Box::new(|rng, _| parts::programs::run(&program, rng))),
         ("recorded", Box::new(|_, _| parts::recorded::run())),
+        ("levels", Box::new(|rng, _| parts::levels::run(rng))),
     ];
     let height: Vec<Part> = vec![
         ("heights", Box::new(parts::heights::run)),

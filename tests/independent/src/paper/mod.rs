@@ -1,10 +1,12 @@
 //! Document 01 with the requests of document 02 that have landed, written out as plainly as they read. Nothing here is
-//! meant to be fast. A quotation with '02.1' before it is from request 1, one with '02.2' from request 2; the others
-//! are from document 01. What hangs on the number of axes is written over it, and called A.
+//! meant to be fast. A quotation with '02.1' before it is from request 1, one with '02.2' from request 2, one with
+//! '02.4' from request 4; the others are from document 01. What hangs on the number of axes is written over it, and
+//! called A.
 
 pub mod blocks;
 pub mod boxes;
 pub mod directory;
+pub mod level;
 pub mod program;
 pub mod search;
 pub mod writer;

@@ -6,6 +6,7 @@ mod expected;
 pub mod faults;
 pub mod heights;
 pub mod joins;
+pub mod levels;
 pub mod margins;
 pub mod mismatches;
 pub mod muted;
