@@ -257,9 +257,44 @@ def crossing():
     return svg(285, parts)
 
 
+def levels():
+    """The level by the distance, in reaches: D is the square of the distance."""
+    reach, left, top, bottom = 100, 70, 30, 250
+    across = lambda distance: left + (WIDTH - left - 40) * distance / (12 * reach)
+    up = lambda level: bottom - (bottom - top) * level
+    heard = [(x, engine.level(reach, x * x)) for x in range(0, 12 * reach + 1, 5)]
+    curve = [(x, level) for x, level in heard if level is not None]
+    last = curve[-1]
+    assert last[0] == 10 * reach and engine.level(reach, last[0] ** 2 + 1) is None
+    parts = [line(left, bottom, WIDTH - 40, bottom, SOFT), line(left, top, left, bottom, SOFT)]
+    for level in (0.5, 1):
+        parts.append(text(left - 10, up(level) + 5, f"{level:g}", SOFT, 13, "end"))
+        parts.append(line(left - 4, up(level), left, up(level), SOFT))
+    for times in (1, 2, 3, 10):
+        x, level = times * reach, engine.level(reach, (times * reach) ** 2)
+        parts.append(line(across(x), bottom, across(x), up(level), SOFT, 1, "3 3"))
+        parts.append(text(across(x), bottom + 18, f"{times if times > 1 else ''} r".strip(), INK, 13))
+    for (x, level), (x_2, level_2) in zip(curve, curve[1:]):
+        parts.append(line(across(x), up(level), across(x_2), up(level_2), O_COLOUR, 2))
+    parts.append(line(across(last[0]), bottom, WIDTH - 40, bottom, B_COLOUR, 3))
+    marked = [(0, "1", 10, -8), (1, "1/2", 12, -4), (2, "1/5", 12, -4), (3, "1/10", 10, -6), (10, "1/101", 0, -12)]
+    for times, words, right, over in marked:
+        x = times * reach
+        over_1, under = map(int, (words + "/1").split("/")[:2])
+        assert engine.level(reach, x * x) == over_1 / under
+        parts.append(dot(across(x), up(engine.level(reach, x * x)), O_COLOUR))
+        parts.append(text(across(x) + right, up(engine.level(reach, x * x)) + over, words, INK, 13,
+                          "start" if right else "middle", True))
+    parts.append(text(across(11 * reach), bottom - 10, "silent", B_COLOUR, 13))
+    caption = "the level by the distance: a half at the reach r, silence beyond ten of it"
+    parts.append(text(WIDTH / 2, bottom + 45, caption))
+    return svg(310, parts)
+
+
 FIGURES = {
     "crossing.svg": crossing,
     "far-against-near.svg": far_against_near,
+    "levels.svg": levels,
     "middle-only.svg": middle_only,
     "stop-at-k.svg": stop_at_k,
     "zero-is-not-nearer.svg": zero_is_not_nearer,
