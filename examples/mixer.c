@@ -5,8 +5,8 @@
  * centimetres, at which a level is 0.5; past ten times as far a place is silent. One nearby_join gives the places of
  * all points, and nearby_level the level of each from its squared distance.
  *
- * The thread that calls nearby_level must have the default rounding mode, to nearest, as every thread has from its
- * start: here nothing changes it.
+ * The thread that calls nearby_level must have the default rounding mode, to nearest, as a program has from its start:
+ * here nothing changes it.
  *
  *     gcc examples/mixer.c $(pkg-config --cflags --libs nearby) -o mixer        after make install
  *     gcc -Iinclude examples/mixer.c target/lib/libnearby.a -o mixer            after make lib */

@@ -71,8 +71,8 @@ enum {
 
 /* Where. With the number goes a block: the position in the file of the block refused, from 0. It is 0 for
  * NEARBY_LENGTH, for NEARBY_K to NEARBY_SUPPLY, for NEARBY_AXES, for the box of nearby_prune and nearby_prune3, and for
- * every refusal by nearby_write and nearby_write3; and it is 0 when the number is NEARBY_OK. NEARBY_REACH has none:
- * nearby_level looks at no file.
+ * every refusal by nearby_write and nearby_write3; and it is 0 when the number is NEARBY_OK. For NEARBY_REACH it would
+ * be 0, too: nearby_level looks at no file, and leaves it out.
  * A refusal does not say T, but the file says d. Block 0 belongs to the directory in any case. If a later block is
  * refused, block 0 has passed its tests: then d is (file_len / 512 + 24) / 25 in whole numbers where byte 1 of the file
  * is 1, a plan town, and (file_len / 512 + 17) / 18 where it is 3, a town with height. A block below d belongs to the
@@ -236,22 +236,24 @@ struct nearby_written nearby_write3(const int32_t *boxes, size_t boxes_len, cons
 
 struct nearby_leveled {
     uint32_t number; /* NEARBY_OK, or NEARBY_REACH; then silent and level are 0 */
-    uint32_t silent; /* 1: the place is too far to be heard, and level is 0; 0: level has its level */
-    double level;    /* above 0 and at most 1, where number and silent are 0 */
+    uint32_t silent; /* 1: the place is silent, and level is 0 */
+    double level;    /* where number and silent are 0: above 0 and at most 1 */
 };
 
 /* How loud a place is, for the mixer: from a reach, 1 to 1,000,000 centimetres, and the place's squared distance dist,
- * as nearby_join and nearby_join3 give it; any numbers may be passed. A reach outside its limits is refused with
- * NEARBY_REACH, whatever dist is. Silent if dist is above 100 * reach * reach: beyond ten times the reach. Else the
- * level is the double nearest to the fraction of whole numbers
+ * as nearby_join and nearby_join3 give it; any reach of 32 bits and any dist of 64 may be passed. A reach outside its
+ * limits is refused with NEARBY_REACH, whatever dist is. Silent if dist is above 100 * reach * reach: beyond ten times
+ * the reach. Else the level is the double nearest to the fraction of whole numbers
  *
  *     reach * reach / (reach * reach + dist)
  *
- * It is 1 exactly when dist is 0; 0.5 when dist is reach * reach, at the reach itself; never below the double nearest
- * to 1/101. For one reach, a greater dist always gives a smaller level. For one dist, a greater reach never gives a
- * smaller level.
- * The calling thread must have the default rounding mode, to nearest (fegetround() is FE_TONEAREST), which no contract
- * can promise: in another one the last bits may differ. */
+ * It is 1 exactly when dist is 0; 0.5 when dist is reach * reach, as far away as the reach; never below the double
+ * nearest to 1/101. For one reach, of two places that are not silent the one with the greater dist has the smaller
+ * level. For one dist, a greater reach never gives a smaller level, nor silence for a level.
+ *
+ * The calling thread must have the default rounding mode, to nearest (fegetround() is FE_TONEAREST), and no exception
+ * of floating point enabled that stops it: no contract can promise that. In another mode the level may be the double
+ * next to it. A level that is not exact sets the thread's flag FE_INEXACT. */
 struct nearby_leveled nearby_level(uint32_t reach, uint64_t dist);
 
 #ifdef __cplusplus

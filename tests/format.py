@@ -362,7 +362,7 @@ def check_words(document):
             "**9 box**: the box O of the call, at block 0.", "and never refuses with 17.",
             "- For every refusal by the writer: 0,", "- For 9, when the box O of the strike call is bad: 0.",
             "If a later block is refused, block 0 was good, so byte 1 says the family,",
-            "**17 speaks of the call and the file together.**", "- For 18: none is given,",
+            "**17 speaks of the call and the file together.**", "- For 18: 0.",
             "**11 to 14, 18, and 9 for O, speak of the call.**",
             # part 8
             f"the {plan.site} or {height.site} bytes of the site, and the check.",

@@ -316,14 +316,14 @@ def of_levels():
     a, b = (Fraction(r * r, r * r + 1) for r in (MAX_REACH - 1, MAX_REACH))
     assert round((b - a) / b * 10**18) == 2
     # the parts that two roundings take away, of the least difference of two fractions
-    assert 2 * (most + 1) / 2**53 < 1 / 40
+    assert 2 * most / 2**53 < 1 / 40
     assert refusal(level, 0, 2**64 - 1) == refusal(level, MAX_REACH + 1, 2**64 - 1) == (18, 0)
     return [
         f"r × r + D is at most {most:,}. Up to 2⁵³, which is {2**53:,}, every whole number is a float.",
         f"For r = {REACH} and D = {d} the first gives {level(REACH, d)!r}, the second {1 / (1 + d / over)!r}.",
-        f"at least by one in {most + 1:,}.",
+        f"at least by one in {most:,}.",
         f"for D = 1, the reaches {MAX_REACH - 1:,} and {MAX_REACH:,} do.",
-        "there the fraction is 1/101",
+        f"r × r has at most {(MAX_REACH**2).bit_length()} digits.",
     ]
 
 

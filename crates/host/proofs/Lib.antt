@@ -1,1 +1,2 @@
 mod MarginLaws
+pub mod Theorems

@@ -1,4 +1,5 @@
 -- What C gets of an outcome: the number 0 and the call's values, or the refusal's number and block, and every value 0.
+-- Of a level the block, which is always 0, is left out.
 use Prim.Native.Nat.{ℕ}
 use lib.Ieee.{fin}
 use lib.IntN.{pos}

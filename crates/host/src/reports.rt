@@ -1,4 +1,5 @@
 // The answers as C gets them, by value: the number 0 and the values, or the number and block of the refusal and zeros.
+// Of a level the block, which is always 0, is left out.
 ghost use mathlib.Core.Path.{_≡_};
 ghost use Prim.Native.Nat.{_≤_};
 ghost use Rattle.base.specs.Refusal.{accepted};
@@ -50,7 +51,7 @@ pub struct WriteReport {
     pub length: usize,
 }
 
-// A level looks at no file, so no block goes with its refusal; silence has a word of its own.
+// `silent` is 1 for silence, which is no level.
 #[repr(C)]
 pub struct LevelReport {
     pub number: u32,

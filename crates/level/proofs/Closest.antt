@@ -16,7 +16,7 @@ use lib.Arith.{lt-of-le-ne}
 use lib.Dec.{T, isLe, isEq, eqb, eqb-refl, leb→le, nleb→lt, eqb→eq}
 use lib.Ieee.{nearest}
 use lib.Ieee.Nearest.{closest}
-use Rattle.level.specs.Claims.{dist}
+use Rattle.level.specs.Claims.{gap}
 
 abbrev Cmp : Ordering → ℕ → ℕ → Type 0
 Cmp Ordering·lt a b = a < b
@@ -54,9 +54,9 @@ beside z w u = go (compare z w) (cmp z w)
     go Ordering·gt h = at-next (compare z (suc w)) (cmp z (suc w)) h
 
 abbrev pub Closest : ℕ → ℕ → ℕ → ℕ → Type 0
-Closest q n u z = (dist (q * u) n ≤ dist (z * u) n) × (dist (q * u) n ≡ dist (z * u) n → (q ≡ z) ⊎ (q % 2 ≡ 0))
+Closest q n u z = (gap (q * u) n ≤ gap (z * u) n) × (gap (q * u) n ≡ gap (z * u) n → (q ≡ z) ⊎ (q % 2 ≡ 0))
 
-closer : (q n u z : ℕ) → dist (q * u) n < dist (z * u) n → Closest q n u z
+closer : (q n u z : ℕ) → gap (q * u) n < gap (z * u) n → Closest q n u z
 closer q n u z h = (omega arith, λ e. absurd (omega arith))
 
 itself : (q n u z : ℕ) → q ≡ z → Closest q n u z
@@ -65,15 +65,15 @@ itself q n u z h = rw h (omega arith, λ e. inl refl)
 even-tie : (w : ℕ) → (w + w % 2) % 2 ≡ 0
 even-tie w = omega arith
 
-tie-away : (w r u n b : ℕ) → w * u + r ≡ n → r * 2 ≡ u → b < 2 → dist ((w + b) * u) n ≡ r
+tie-away : (w r u n b : ℕ) → w * u + r ≡ n → r * 2 ≡ u → b < 2 → gap ((w + b) * u) n ≡ r
 tie-away w r u n zero e c l = omega arith
 tie-away w r u n (suc zero) e c l = omega arith
 tie-away w r u n (suc (suc b)) e c l = absurd (omega arith)
 
-at-tie : (w r u n : ℕ) → w * u + r ≡ n → r * 2 ≡ u → dist ((w + w % 2) * u) n ≡ r
+at-tie : (w r u n : ℕ) → w * u + r ≡ n → r * 2 ≡ u → gap ((w + w % 2) * u) n ≡ r
 at-tie w r u n e c = tie-away w r u n (w % 2) e c (mod-lt w (zero-lt-suc 1))
 
-tied : (w r u n z : ℕ) → w * u + r ≡ n → r * 2 ≡ u → r ≤ dist (z * u) n → Closest (w + w % 2) n u z
+tied : (w r u n z : ℕ) → w * u + r ≡ n → r * 2 ≡ u → r ≤ gap (z * u) n → Closest (w + w % 2) n u z
 tied w r u n z e c h = (rw (at-tie w r u n e c) h, λ _. inr (even-tie w))
 
 at : (w r u n z : ℕ) (o : Ordering) → w * u + r ≡ n → r < u → Cmp o (r * 2) u → Beside z w u
@@ -91,7 +91,7 @@ at w r u n z Ordering·gt e l c (under h) = closer (suc w) n u z (omega arith)
 at w r u n z Ordering·gt e l c (next h k) = itself (suc w) n u z (sym h)
 at w r u n z Ordering·gt e l c (over h) = closer (suc w) n u z (omega arith)
 
-half : (w r u n : ℕ) (o : Ordering) → w * u + r ≡ n → r < u → Cmp o (r * 2) u → dist (nearest w o * u) n * 2 ≤ u
+half : (w r u n : ℕ) (o : Ordering) → w * u + r ≡ n → r < u → Cmp o (r * 2) u → gap (nearest w o * u) n * 2 ≤ u
 half w r u n Ordering·lt e l c = omega arith
 half w r u n Ordering·eq e l c = rw (at-tie w r u n e c) (omega arith)
 half w r u n Ordering·gt e l c = omega arith
@@ -102,6 +102,6 @@ module _ (n u : ℕ) (U : 0 < u) where
       at (n / u) (n % u) u n z (compare (n % u * 2) u) (div-add-mod' n u) (mod-lt n U) (cmp (n % u * 2) u)
       (beside z (n / u) u)
 
-  pub half-unit : dist (closest n u * u) n * 2 ≤ u
+  pub half-unit : gap (closest n u * u) n * 2 ≤ u
   half-unit =
       half (n / u) (n % u) u n (compare (n % u * 2) u) (div-add-mod' n u) (mod-lt n U) (cmp (n % u * 2) u)

@@ -17,7 +17,7 @@ use lib.Ieee.Digits.{size-reaches, back}
 use lib.Ieee.Fits.{nearest-le, kept-lt}
 use lib.Ieee.Order.{drop, kept}
 use lib.Pow.{pow-add, pow-pos, pow-mono, shl-lt}
-use Rattle.level.specs.Claims.{dist}
+use Rattle.level.specs.Claims.{gap}
 use Rattle.level.proofs.Closest.{Closest, closest-all, half-unit}
 
 pub kept-le : (p n c : ℕ) → kept p n c ≤ 2 ^ p
@@ -36,8 +36,8 @@ module _ (p n c : ℕ) (P : 2 ≤ p) (C : 0 < c) where
 
   -- h is no nearer to n / c, and where it is as near, it is the same or digits is even
   abbrev Near : ℕ → Type 0
-  Near h = (dist (digits * 2 ^ places * c) n ≤ dist (h * c) n)
-      × (dist (digits * 2 ^ places * c) n ≡ dist (h * c) n → (digits * 2 ^ places ≡ h) ⊎ (digits % 2 ≡ 0))
+  Near h = (gap (digits * 2 ^ places * c) n ≤ gap (h * c) n)
+      × (gap (digits * 2 ^ places * c) n ≡ gap (h * c) n → (digits * 2 ^ places ≡ h) ⊎ (digits % 2 ≡ 0))
 
   turn : (x t : ℕ) → x * t * c ≡ x * (c * t)
   turn x t = omega arith
@@ -64,7 +64,7 @@ module _ (p n c : ℕ) (P : 2 ≤ p) (C : 0 < c) where
       used : (z : ℕ) → 0 < z - p → p - 1 + (z - p) < z
       used z K = omega arith
 
-  apart : (g b h : ℕ) → dist (g * c) n ≤ dist (b * c) n → b * c ≤ n → h < b → dist (g * c) n < dist (h * c) n
+  apart : (g b h : ℕ) → gap (g * c) n ≤ gap (b * c) n → b * c ≤ n → h < b → gap (g * c) n < gap (h * c) n
   apart g b h a l s =
       let t : h * c < b * c = mul-lt-mul-of-pos-right s C in
       omega arith
@@ -76,7 +76,7 @@ module _ (p n c : ℕ) (P : 2 ≤ p) (C : 0 < c) where
       let a = apart (digits * 2 ^ places) b (m * 2 ^ j) (near-multiple (2 ^ (p - 1)) .0)
       (reached (lt-of-le-of-lt zero-le l)) h in (
         le-of-lt a,
-        λ e. absurd (lt-irrefl _ (subst (λ (x : ℕ). dist (digits * 2 ^ places * c) n < x) (sym e) a)),
+        λ e. absurd (lt-irrefl _ (subst (λ (x : ℕ). gap (digits * 2 ^ places * c) n < x) (sym e) a)),
       )
 
   pub kept-nearest : (m j : ℕ) → m < 2 ^ p → Near (m * 2 ^ j)
@@ -92,7 +92,7 @@ module _ (p n c : ℕ) (P : 2 ≤ p) (C : 0 < c) where
       go false a b = subst Near (split (b tt)) (near-multiple (m * 2 ^ (j - places)))
 
   -- half a unit is 2 ^ p times in n / c
-  pub kept-relative : 0 < places → dist (digits * 2 ^ places * c) n * 2 ^ p ≤ n
+  pub kept-relative : 0 < places → gap (digits * 2 ^ places * c) n * 2 ^ p ≤ n
   kept-relative K =
       let e : 2 ^ p ≡ 2 ^ (p - 1) * 2 = ap (λ (x : ℕ). 2 ^ x) (up-one p P) ∙ pow-suc 2 (p - 1) in
       let h = half-unit n (c * 2 ^ places) (mul-pos C (pow-pos places)) in

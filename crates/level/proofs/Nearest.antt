@@ -13,7 +13,7 @@ use lib.Ieee.Fits.{down-pos, round-fits, two}
 use lib.Ieee.Order.{drop, kept}
 use lib.Ieee.Scale.{finite, grid, overflow, round-val}
 use lib.Pow.{pow-pos}
-use Rattle.level.specs.Claims.{dist, away, part, Nearest}
+use Rattle.level.specs.Claims.{gap, away, part, Nearest}
 use Rattle.level.proofs.Kept.{kept-le, kept-nearest}
 use Rattle.level.proofs.Units.{Units, in-units, awayUnits, away-units, order, equal, bits-of, same-units, parity}
 
@@ -30,7 +30,7 @@ no-digits zero k h = refl
 no-digits (suc q) k h =
     absurd (lt-irrefl 0 (subst (λ (z : ℕ). 0 < z) h (mul-pos (zero-lt-suc q) (pow-pos k))))
 
-from-zero : (n : ℕ) → dist 0 n ≡ n
+from-zero : (n : ℕ) → gap 0 n ≡ n
 from-zero n = omega arith
 
 beyond : (o h n : ℕ) → o ≤ n → o ≤ h + n
@@ -63,11 +63,11 @@ module _ (f : Format) (a c : ℕ) (C : 0 < c) (small : grid f a c < overflow f) 
       (w .0, λ e. ⊎-elim (λ h. inl (refl, h)) (λ h. inr h) (w .1 e))
   told true m j M =
       let w = kept-nearest (prec f) n c (two f) C 0 0 (pow-pos (prec f)) in
-      let z : dist (0 * 2 ^ 0 * c) n ≡ n = ap (λ (x : ℕ). dist x n) (zero-mul c) ∙ from-zero n in
-      let b : dist (g * c) n ≤ n = le-trans (w .0) (le-of-eq z) in (
-        beyond (dist (g * c) n) (m * 2 ^ j * c) n b,
+      let z : gap (0 * 2 ^ 0 * c) n ≡ n = ap (λ (x : ℕ). gap x n) (zero-mul c) ∙ from-zero n in
+      let b : gap (g * c) n ≤ n = le-trans (w .0) (le-of-eq z) in (
+        beyond (gap (g * c) n) (m * 2 ^ j * c) n b,
         λ e. inr (⊎-elim (no-digits (kept (prec f) n c) (drop (prec f) n c)) (λ h. h)
-            (w .1 (only (dist (g * c) n) (m * 2 ^ j * c) n b e ∙ sym z))),
+            (w .1 (only (gap (g * c) n) (m * 2 ^ j * c) n b e ∙ sym z))),
       )
 
   -- against one float y of the format

@@ -14,7 +14,7 @@ use lib.Ieee.Fits.{down-pos, two}
 use lib.Ieee.Order.{transfer}
 use lib.Ieee.Scale.{grid, overflow, round-val}
 use lib.Pow.{pow-pos, pow-mono}
-use Rattle.level.specs.Claims.{dist}
+use Rattle.level.specs.Claims.{gap}
 use Rattle.level.proofs.Kept.{kept-relative}
 
 -- two values that are not negative, by the fractions that they equal
@@ -39,14 +39,14 @@ part-above v w z w' P h k =
     omega arith
 
 -- v is n but for its P th part
-least : (v n P : ℕ) → dist v n * P ≤ n → n * P ≤ v * P + n
-least v n P h = part-above n v (dist v n) n P (omega arith) h
+least : (v n P : ℕ) → gap v n * P ≤ n → n * P ≤ v * P + n
+least v n P h = part-above n v (gap v n) n P (omega arith) h
 
-most : (v n P : ℕ) → dist v n * P ≤ n → v * P ≤ n * P + n
-most v n P h = part-above v n (dist v n) n P (omega arith) h
+most : (v n P : ℕ) → gap v n * P ≤ n → v * P ≤ n * P + n
+most v n P h = part-above v n (gap v n) n P (omega arith) h
 
 -- g is n / c and h is m / e, each but for its P th part, and n / c is larger than m / e by more than both
-above : (g h c e n m P : ℕ) → dist (g * c) n * P ≤ n → dist (h * e) m * P ≤ m → m * c * P + m * c + n * e < n * e * P
+above : (g h c e n m P : ℕ) → gap (g * c) n * P ≤ n → gap (h * e) m * P ≤ m → m * c * P + m * c + n * e < n * e * P
     → h < g
 above g h c e n m P x y far = lt-of-not-le clash
   where
@@ -68,7 +68,7 @@ dropped p z h = spare (lt-of-not-le (λ l. not-le-of-lt h (pow-mono l)))
     spare h = omega arith
 
 relative : (f : Format) (a c : ℕ) → 0 < c → Large f a c
-    → dist (grid f a c * c) (a * 2 ^ low f) * 2 ^ prec f ≤ a * 2 ^ low f
+    → gap (grid f a c * c) (a * 2 ^ low f) * 2 ^ prec f ≤ a * 2 ^ low f
 relative f a c C l =
     let n = a * 2 ^ low f in
     kept-relative (prec f) n c (two f) C

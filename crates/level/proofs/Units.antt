@@ -23,7 +23,7 @@ use lib.Ieee.Exact.{HasValue}
 use lib.Ieee.Fits.{and-l, and-r, down-pos, two}
 use lib.Ieee.Scale.{finite}
 use lib.Pow.{pow-add, pow-pos, pow-lt, shl-lt}
-use Rattle.level.specs.Claims.{dist, away, part}
+use Rattle.level.specs.Claims.{gap, away, part}
 
 abbrev pub Units : Format → Float → Type 0
 Units f y = (s : Bool) × (m : ℕ) × (j : ℕ) × (m < 2 ^ prec f) × HasValue y s (m * 2 ^ j) (2 ^ low f)
@@ -82,14 +82,14 @@ in-units f (fin s (suc m) e) t g =
     (leb→le (down e) (2 ^ low f) (and-r (A && B) D x))
 
 -- ---- distances
-dist-mul : (a b c : ℕ) → dist a b * c ≡ dist (a * c) (b * c)
-dist-mul a b c =
+gap-mul : (a b c : ℕ) → gap a b * c ≡ gap (a * c) (b * c)
+gap-mul a b c =
     let x : (a - b) * c ≡ a * c - b * c = mul-comm (a - b) c ∙ mul-sub c a b ∙ rw (mul-comm c a, mul-comm c b) in
     let y : (b - a) * c ≡ b * c - a * c = mul-comm (b - a) c ∙ mul-sub c b a ∙ rw (mul-comm c a, mul-comm c b) in
     add-mul (a - b) (b - a) c ∙ rw (x, y)
 
 abbrev pub awayUnits : Bool → ℕ → ℕ → ℕ → ℕ
-awayUnits s h c n = cond s (h * c + n) (dist (h * c) n)
+awayUnits s h c n = cond s (h * c + n) (gap (h * c) n)
 
 pub away-units : (y : Float) (s : Bool) (h l a c : ℕ) → HasValue y s h l
     → away y a c * l ≡ awayUnits s h c (a * l) * part y
@@ -103,12 +103,12 @@ away-units (fin t m e) s h l a c v = rw (v .0) (go s)
     far-side : a * down e * l ≡ a * l * down e
     far-side = mul-right-comm a (down e) l
 
-    go : (s : Bool) → cond s (m * up e * c + a * down e) (dist (m * up e * c) (a * down e)) * l
+    go : (s : Bool) → cond s (m * up e * c + a * down e) (gap (m * up e * c) (a * down e)) * l
         ≡ awayUnits s h c (a * l) * down e
     go true =
         add-mul (m * up e * c) (a * down e) l ∙ rw (near-side, far-side) (sym (add-mul (h * c) (a * l) (down e)))
     go false =
-        dist-mul (m * up e * c) (a * down e) l ∙ rw (near-side, far-side) (sym (dist-mul (h * c) (a * l) (down e)))
+        gap-mul (m * up e * c) (a * down e) l ∙ rw (near-side, far-side) (sym (gap-mul (h * c) (a * l) (down e)))
 
 -- u / p is x / l, and v / r is y / l
 module _ (u v p r l x y : ℕ) (L : 0 < l) (e : u * l ≡ x * p) (g : v * l ≡ y * r) where

@@ -1,6 +1,7 @@
 -- What is shown of levels. That a float is nearest to a fraction is said by what a format holds (`fits`) and by its bit
 -- patterns (`toBits`), and by nothing of how the library rounds.
 --
+--   gap                  the difference of two whole numbers
 --   away, part           how far a float is from a fraction
 --   Nearest              a float is the value of its format nearest to a fraction, a tie to the even one
 --   Is                   a float is a whole number, exactly
@@ -20,21 +21,23 @@ use lib.Ieee.Scale.{finite}
 use Rattle.level.specs.Level.{float, Loudness, silent, level}
 
 -- the difference of two whole numbers
-abbrev pub dist : ℕ → ℕ → ℕ
-dist a b = (a - b) + (b - a)
+abbrev pub gap : ℕ → ℕ → ℕ
+gap a b = (a - b) + (b - a)
 
--- How far a finite float x, which is m × 2 ^ e, is from the fraction a / c: `away x a c` over c × `part x`.
+-- How far a finite float x, which is m × 2 ^ e, below 0 where s is true, is from the fraction a / c: `away x a c` over
+-- c × `part x`. Of the others nothing is asked.
 abbrev pub away : Float → ℕ → ℕ → ℕ
 away nan a c = 0
 away (inf s) a c = 0
-away (fin s m e) a c = cond s (m * up e * c + a * down e) (dist (m * up e * c) (a * down e))
+away (fin s m e) a c = cond s (m * up e * c + a * down e) (gap (m * up e * c) (a * down e))
 
 abbrev pub part : Float → ℕ
 part nan = 1
 part (inf s) = 1
 part (fin s m e) = down e
 
--- x is the value of the format f that is nearest to a / c; where another is as near, the last bit of x is 0
+-- x is the value of the format f that is nearest to a / c, with c above 0; where another is as near, the last bit of x
+-- is 0
 pub record Nearest (f : Format) (x : Float) (a c : ℕ) : Type 0 where
   pub holds : T (fits f x)
   pub is-finite : T (finite x)
