@@ -20,7 +20,7 @@ CHECKS = {'proved': 'proved: 16-bit sums in eight lanes', 'c': 'C as the paper s
           'c-lanes': 'C, 16-bit sums in eight lanes'}
 LEVELS = {'proved': 'proved', 'c': 'C, a call with the same tests',
           'bare': 'C, the quotient alone, inlined and without a test: a lower bound'}
-ALONE = {'block check': CHECKS, 'level': LEVELS}  # the others are margins
+ALONE = {'block check': CHECKS, 'level': LEVELS, 'level, added up': LEVELS}  # the others are margins
 
 
 # The figures.
@@ -426,13 +426,21 @@ Nanoseconds for one call, over the 1,000 blocks of the 960 x 40 grid and over 4,
 O around the track
 with every 15th tile as E and as B; random boxes; one triple again and again. With height the tiles are those of \
 {HIGH_TARGET[0]}.
-Of levels, over 4,096 random pairs of a reach and a D that is not silent, with the levels added up.
+Of levels, over 4,096 random pairs of a reach and a D that is not silent, with each level kept in an array, as a mixer \
+keeps them;
+and with the levels added up by the caller, in one sum.
 
 {alone_table(run, 'block check')}
 
 {margin_table(run)}
 
 {alone_table(run, 'level')}
+
+{alone_table(run, 'level, added up')}
+
+The compiler of the proved library turns D into a float by an instruction that writes half of a register, and so has to \
+wait for
+what the caller left there. If that is a sum of levels, each call waits for the one before.
 
 ## Growth
 
