@@ -6,4 +6,5 @@ mod Strict
 mod Whole
 mod CallLaws
 mod LevelLaws
+mod Answers
 pub mod Theorems

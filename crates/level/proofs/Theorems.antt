@@ -8,78 +8,29 @@
 --   falls-with-distance, falls-strictly    a greater distance is no louder; a level is less loud
 --   level-tells                            a level tells its distance
 --   rises-with-reach                       a greater reach is no less loud
-use Prim.Native.Nat.{ℕ, _+_, _*_, _≤_, _<_}
-use mathlib.Core.Bool.{true, false}
-use mathlib.Core.Path.{_≡_, refl, sym, ap, _∙_}
-use native.Mathlib.Nat.{mul-le-mul, le-antisymm, le-of-suc-le-suc, lt-of-not-le, lt-irrefl}
+use Prim.Native.Nat.{ℕ, _*_, _≤_, _<_}
+use mathlib.Core.Bool.{true}
+use mathlib.Core.Path.{_≡_, refl, sym}
+use native.Mathlib.Nat.{mul-le-mul, le-antisymm, le-of-suc-le-suc, lt-of-not-le}
 use native.Mathlib.Omega.{arith}
-use borrow.Author.Tests.{le-ltb}
-use lib.Dec.{T, lit<, ltb→lt, nltb→le}
-use lib.Ieee.{Float, nan, inf, fin, binary64, up, down, round, div, ofInt, ofBits, lt}
-use Rattle.base.proofs.Outcomes.{require-accepted, accepted-injective}
+use lib.Dec.{T, lit<}
+use lib.Ieee.{Float, div, ofInt, ofBits, lt}
 use Rattle.base.proofs.Tests.{by-test}
-use Rattle.base.specs.Refusal.{accepted, #reach}
+use Rattle.base.specs.Refusal.{accepted}
 use Rattle.level.specs.Cases.{levels, ends, refusals, AllSay}
 use Rattle.level.specs.Claims.{half, one, leastLevel, Sounds, NoLouder}
-use Rattle.level.specs.Level.{validReach, lastHeard, isSilent, quotient, levelOf}
-use Rattle.level.specs.Level.{Loudness, silent, level, loudness, levelCall}
-use Rattle.level.proofs.CallLaws.{reach-limits}
-use Rattle.level.proofs.LevelLaws.{Within, level-at, sounds, falls, rises, falls-strict}
-use Rattle.level.proofs.LevelLaws.{one-rounded, half-rounded, least-rounded}
+use Rattle.level.specs.Level.{validReach, lastHeard, isSilent, quotient, Loudness, level, loudness, levelCall}
+use Rattle.level.proofs.Answers.{answered, within, heard, not-silent, level-of, answer-at, not-below}
+use Rattle.level.proofs.LevelLaws.{sounds, falls, rises, falls-strict, one-rounded, half-rounded, least-rounded}
 
 pub cases-say : AllSay levels × AllSay ends × AllSay refusals
 unfolding levelCall validReach quotient div ofInt ofBits
 cases-say = (refl, refl, refl)
 
--- ---- what an answer shows
-record Answered (r d : ℕ) (a : Loudness) : Type 0 where
-  valid : validReach r ≡ true
-  is : loudness r d ≡ a
-
-answered : (r d : ℕ) (a : Loudness) → levelCall r d ≡ accepted a → Answered r d a
-unfolding levelCall
-answered r d a e =
-    let s = require-accepted (validReach r) #reach 0 (accepted (loudness r d)) e in
-    record { valid = s .0; is = accepted-injective (s .1) }
-
-within : (r d : ℕ) → validReach r ≡ true → d ≤ lastHeard r → Within r d
-within r d v h = let b = reach-limits r v in record { least = b .0; most = b .1; near = h }
-
--- a place that is not silent has the level of the definition
-heard : (r d : ℕ) → d ≤ lastHeard r → loudness r d ≡ level (levelOf r d)
-heard r d h = rw (le-ltb (lastHeard r) d h)
-
-not-silent : (r d : ℕ) → isSilent r d ≡ false → d ≤ lastHeard r
-not-silent r d e = nltb→le (lastHeard r) d (rw e tt)
-
-record Level (r d : ℕ) (x : Float) : Type 0 where
-  within-limits : Within r d
-  is : levelOf r d ≡ x
-
-level-of : (r d : ℕ) (x : Float) → levelCall r d ≡ accepted (level x) → Level r d x
-level-of r d x e =
-    let a = answered r d (level x) e in
-    by-test (isSilent r d) (λ s. absurd (nothing (rw s at (a .is)))) (λ s. go (not-silent r d s) (a .valid) (a .is))
-  where
-    nothing : silent ≡ level x → ⊥
-    nothing e = let z : _≡_ {A = ℕ} 0 1 = cc in omega arith
-
-    go : d ≤ lastHeard r → validReach r ≡ true → loudness r d ≡ level x → Level r d x
-    go h v e = record { within-limits = within r d v h; is = same (sym (heard r d h) ∙ e) }
-      where
-        same : level (levelOf r d) ≡ level x → levelOf r d ≡ x
-        same e = cc
-
 pub level-sounds : (r d : ℕ) (x : Float) → levelCall r d ≡ accepted (level x) → Sounds r d x
 level-sounds r d x e = let a = level-of r d x e in rw (a .is) at (sounds r d (a .within-limits))
 
 -- ---- the level at three distances
-answer-at : (r d a c : ℕ) (x : Float) → validReach r ≡ true → d ≤ lastHeard r → 0 < c → r * r * c ≡ a * (r * r + d)
-    → round binary64 false a c ≡ x → levelCall r d ≡ accepted (level x)
-unfolding levelCall
-answer-at r d a c x v h C e b =
-    rw (v, heard r d h) (ap (λ z. accepted (level z)) (level-at r d (within r d v h) a c C e ∙ b))
-
 pub one-at-the-place : (r : ℕ) → validReach r ≡ true → levelCall r 0 ≡ accepted (level one)
 one-at-the-place r v = answer-at r 0 1 1 one v (omega arith) (lit< tt) (omega arith) one-rounded
 
@@ -108,15 +59,6 @@ falls-strictly r d e x y p q h =
     let a = level-of r d x p in
     let b = level-of r e y q in
     rw (a .is, b .is) at (falls-strict r d e (a .within-limits) (b .within-limits) h)
-
--- no float is below itself
-not-below : (x : Float) → T (lt x x) → ⊥
-unfolding lt
-not-below nan h = h
-not-below (inf true) h = h
-not-below (inf false) h = h
-not-below (fin true m e) h = lt-irrefl _ (ltb→lt (m * up e * down e) (m * up e * down e) h)
-not-below (fin false m e) h = lt-irrefl _ (ltb→lt (m * up e * down e) (m * up e * down e) h)
 
 pub level-tells : (r d e : ℕ) (x : Float) → levelCall r d ≡ accepted (level x) → levelCall r e ≡ accepted (level x)
     → d ≡ e
