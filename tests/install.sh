@@ -44,8 +44,8 @@ undefined=$(nm -u "$archive" | sed -n 's/^ *U //p' | sort -u | xargs)
 writable=$(objdump -h "$archive" | grep -A1 -E '^ +[0-9]+ ' | grep -w ALLOC | grep -vw READONLY || true)
 [ -z "$writable" ] || failed "libnearby.a has data that can be written"
 exported=$(nm -D --defined-only "$tree/lib/libnearby.so" | sed 's/.* //' | sort | xargs)
-expected="nearby_block_check nearby_join nearby_join3 nearby_margin nearby_margin3 nearby_prune nearby_prune3"
-[ "$exported" = "$expected nearby_validate nearby_write nearby_write3" ] ||
+expected="nearby_block_check nearby_join nearby_join3 nearby_level nearby_margin nearby_margin3 nearby_prune"
+[ "$exported" = "$expected nearby_prune3 nearby_validate nearby_write nearby_write3" ] ||
     failed "libnearby.so exports $exported"
 asked_for=$(nm -D --undefined-only "$tree/lib/libnearby.so" | sed 's/.* //; s/@.*//' | sort | xargs)
 [ "$asked_for" = memset ] || failed "libnearby.so asks for $asked_for"
