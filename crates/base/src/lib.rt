@@ -1,8 +1,10 @@
 // What every layer shares: the refusal with its numbers (document 01, "Numbers given to bad input"; 02.1, 02.2, 02.4),
 // and a test of two tests.
+#![tactic(auto)]
+
 ghost use Rattle.std.specs.Prelude.{◌≡◌, ◌&&◌};
 
-#[derive(Drop)]
+#[derive(Clone, Copy)]
 pub struct Refusal {
     pub number: u32,
     pub block: u32,

@@ -9,7 +9,7 @@ use crate::lanes::{LANES, Lanes, ROWS_SIZE, add_rows, reduced, whole, wide};
 use crate::layout::CHECK_AT;
 use base::both;
 
-#[derive(Drop)]
+#[derive(Clone, Copy)]
 pub struct Sums {
     pub a: u16,
     pub c: u16,

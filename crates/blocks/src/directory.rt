@@ -15,7 +15,7 @@ use crate::{block, entry, layout};
 use base::{Refusal, both};
 use codec::reading::{u16_at, zeros};
 
-#[derive(Drop)]
+#[derive(Clone, Copy)]
 pub enum DirectoryAnswer {
     Accepted(Header),
     Refused(Refusal),

@@ -15,7 +15,7 @@ const MAX_ADDED: usize = 21;
 // The bytes of MAX_ADDED rows.
 pub const ROWS_SIZE: usize = LANES * MAX_ADDED;
 
-#[derive(Drop)]
+#[derive(Clone, Copy)]
 pub struct Lanes {
     pub a: [u16; LANES],
     pub c: [u16; LANES],

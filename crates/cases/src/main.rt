@@ -1,6 +1,7 @@
 // Runs cases 1 to 8 of document 01 through the public calls: a line for each, `ok` where the call gives what the paper
 // says. The same cases are proved of the definitions in console's theorem `twelve_cases`; this shows the compiled
 // code. Then cases 3 and 7 with a third axis (02.2), which adds its own term, and a bad box and a bad point.
+#![tactic(auto)]
 use geometry::distance::DistanceAnswer;
 use geometry::margin::{MarginAnswer, MarginAnswer3};
 use geometry::{distance, margin};

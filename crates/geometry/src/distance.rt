@@ -11,7 +11,7 @@ use crate::padding::{HEIGHT, PLAN};
 use crate::{axis, limits, padding};
 use base::Refusal;
 
-#[derive(Drop)]
+#[derive(Clone, Copy)]
 pub enum DistanceAnswer {
     Squared(u64),
     Refused(Refusal),

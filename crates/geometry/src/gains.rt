@@ -15,7 +15,7 @@ fn difference(far: u64, near: u64) -> i64
 }
 
 // On one axis, from each end of O: the square to the farther end of E less the square to the closest point of B.
-#[derive(Drop)]
+#[derive(Clone, Copy)]
 struct Gains {
     low: i64,
     high: i64,
@@ -42,7 +42,7 @@ pub fn best_gain(o: [i32; 2], e: [i32; 2], b: [i32; 2]) -> i64
 }
 
 // The coordinates on one axis of the three points that reach the margin.
-#[derive(Drop)]
+#[derive(Clone, Copy)]
 pub struct Ends {
     pub o: i32,
     pub e: i32,

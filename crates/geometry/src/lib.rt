@@ -3,6 +3,7 @@
 // distance::min_dist, distance::max_dist, margin::margin for two axes, and the same names with a 3 for three. The
 // others are for the crates above: they take either number of axes (padding.rt says how), and those with `_within`
 // leave out the tests that their `requires` asks for.
+#![tactic(auto)]
 mod axis;
 pub mod corner;
 pub mod distance;

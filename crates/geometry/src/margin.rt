@@ -30,13 +30,13 @@ pub fn closer_within(axes: usize, o: [[i32; 2]; 3], e: [[i32; 2]; 3], b: [[i32; 
     margin_within(axes, o, e, b) < 0
 }
 
-#[derive(Drop)]
+#[derive(Clone, Copy)]
 pub struct Point {
     pub x: i32,
     pub y: i32,
 }
 
-#[derive(Drop)]
+#[derive(Clone, Copy)]
 pub struct MarginPoints {
     pub margin: i64,
     pub o: Point,
@@ -44,20 +44,20 @@ pub struct MarginPoints {
     pub b: Point,
 }
 
-#[derive(Drop)]
+#[derive(Clone, Copy)]
 pub enum MarginAnswer {
     Reached(MarginPoints),
     Refused(Refusal),
 }
 
-#[derive(Drop)]
+#[derive(Clone, Copy)]
 pub struct Point3 {
     pub x: i32,
     pub y: i32,
     pub z: i32,
 }
 
-#[derive(Drop)]
+#[derive(Clone, Copy)]
 pub struct MarginPoints3 {
     pub margin: i64,
     pub o: Point3,
@@ -65,14 +65,14 @@ pub struct MarginPoints3 {
     pub b: Point3,
 }
 
-#[derive(Drop)]
+#[derive(Clone, Copy)]
 pub enum MarginAnswer3 {
     Reached(MarginPoints3),
     Refused(Refusal),
 }
 
 // The margin with its points for either number of axes: arrays, which no enum may hold.
-#[derive(Drop)]
+#[derive(Clone, Copy)]
 struct Padded {
     margin: i64,
     o: [i32; 3],

@@ -21,8 +21,8 @@ use stream::call::StreamAnswer;
 use tiles::validate::Validation;
 use writer::write::WriteAnswer;
 
+#[derive(Clone, Copy)]
 #[repr(C)]
-#[derive(Drop)]
 pub struct JoinReport {
     pub number: u32,
     pub block: u32,
@@ -32,8 +32,8 @@ pub struct JoinReport {
     pub pruned: u32,
 }
 
+#[derive(Clone, Copy)]
 #[repr(C)]
-#[derive(Drop)]
 pub struct PruneReport {
     pub number: u32,
     pub block: u32,
@@ -41,16 +41,16 @@ pub struct PruneReport {
     pub pruned: u32,
 }
 
+#[derive(Clone, Copy)]
 #[repr(C)]
-#[derive(Drop)]
 pub struct StreamReport {
     pub number: u32,
     pub block: u32,
     pub tiles: u32,
 }
 
+#[derive(Clone, Copy)]
 #[repr(C)]
-#[derive(Drop)]
 pub struct ValidateReport {
     pub number: u32,
     pub block: u32,
@@ -58,8 +58,8 @@ pub struct ValidateReport {
     pub axes: u32,
 }
 
+#[derive(Clone, Copy)]
 #[repr(C)]
-#[derive(Drop)]
 pub struct WriteReport {
     pub number: u32,
     pub block: u32,
@@ -67,8 +67,8 @@ pub struct WriteReport {
 }
 
 // `silent` is 1 for silence, which is no level.
+#[derive(Clone, Copy)]
 #[repr(C)]
-#[derive(Drop)]
 pub struct LevelReport {
     pub number: u32,
     pub silent: u32,

@@ -22,7 +22,7 @@ use stops::arguments::{Lengths, failed_argument};
 use stops::around::around;
 use stops::stop::gather_stops;
 
-#[derive(Drop)]
+#[derive(Clone, Copy)]
 pub enum JoinAnswer {
     Joined {
         used: u32,

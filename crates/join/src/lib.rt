@@ -1,2 +1,3 @@
 // The join (document 01, "The join"). The call is call::join.
+#![tactic(auto)]
 pub mod call;

@@ -4,7 +4,7 @@ ghost use Rattle.level.specs.Level.{valid_reach, quotient, level_outcome, level_
 
 use base::{Refusal, both};
 
-#[derive(Drop)]
+#[derive(Clone, Copy)]
 pub enum LevelAnswer {
     Silent,
     Level(f64),

@@ -1,5 +1,6 @@
 // The program of document 01: standard input to standard output. All that it computes is `console::answer::respond`;
 // here is only what an operating system can refuse.
+#![tactic(auto)]
 ghost use Rattle.std.specs.Prelude.{length};
 ghost use Rattle.nearby.specs.Inner.Input.{InRoom};
 
@@ -8,7 +9,7 @@ use console::request::MAX_INPUT;
 use libc::{STDERR_FILENO, STDIN_FILENO, STDOUT_FILENO};
 
 // What was read: so many bytes, or an error, which is not taken for the end of the input.
-#[derive(Drop)]
+#[derive(Clone, Copy)]
 enum Input {
     Bytes(usize),
     Failed,

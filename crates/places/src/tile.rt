@@ -15,7 +15,7 @@ use plan::sites;
 use search::SLOTS;
 
 // Whose list it is: a stop, where its list stands in the slices, and how many places it may have.
-#[derive(Drop)]
+#[derive(Clone, Copy)]
 pub struct Target {
     pub stop: Stop,
     pub at: usize,

@@ -15,7 +15,7 @@ use geometry::limits;
 use geometry::padding::pad_box;
 use plan::region::Region;
 
-#[derive(Drop)]
+#[derive(Clone, Copy)]
 pub enum PruneAnswer {
     Pruned { tiles: u32, pruned: u32 },
     Refused(Refusal),

@@ -28,7 +28,7 @@ pub fn fill_keys(f: &[u8], h: Header, order: &[usize], p: Stop, keys: &mut [u64]
     }
 }
 
-#[derive(Drop)]
+#[derive(Clone, Copy)]
 pub struct Least {
     pub at: usize,
     pub key: u64,

@@ -1,5 +1,7 @@
 // What the search compares: pairs of numbers in order, and with them places by rank and against the key of a tile; its
 // limits and marks.
+#![tactic(auto)]
+
 ghost use Rattle.std.specs.Prelude.{◌≡◌};
 ghost use Rattle.search.specs.Order.{lex};
 ghost use Rattle.search.specs.Limits.{valid_k};
@@ -27,7 +29,7 @@ pub fn valid_k(k: u32) -> bool
 }
 
 // A place of a list: the distance, the site as tile × 40 + slot, and the cue.
-#[derive(Drop)]
+#[derive(Clone, Copy)]
 pub struct Place {
     pub dist: u64,
     pub site: u32,

@@ -22,7 +22,7 @@ use queue::keys::{fill_keys, next_key};
 use tiles::tile::Opening;
 
 // The answer of serving: the places used by the stop served last, or the refusal of an opening.
-#[derive(Drop)]
+#[derive(Clone, Copy)]
 pub enum Serving {
     Served(usize),
     Refused(Refusal),

@@ -10,7 +10,7 @@ use blocks::header::Header;
 use search::{MAX_STOPS, valid_k};
 
 // The lengths of the output slices.
-#[derive(Drop)]
+#[derive(Clone, Copy)]
 pub struct Lengths {
     pub dist: usize,
     pub site: usize,

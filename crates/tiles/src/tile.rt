@@ -20,7 +20,7 @@ use geometry::limits::inside;
 pub const MUTED_CUE: u32 = 0;
 
 // What an opening answers: the number of sites, or the refusal.
-#[derive(Drop)]
+#[derive(Clone, Copy)]
 pub enum Opening {
     Opened(usize),
     Refused(Refusal),

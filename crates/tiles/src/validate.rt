@@ -12,7 +12,7 @@ use blocks::directory::{DirectoryAnswer, read_directory};
 use blocks::header::Header;
 
 // What the full check answers: the header of a valid file, or the first refusal.
-#[derive(Drop)]
+#[derive(Clone, Copy)]
 pub enum Validation {
     Valid(Header),
     Refused(Refusal),

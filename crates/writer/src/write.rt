@@ -12,7 +12,7 @@ use encode::lists::header_of;
 use encode::tile::put_tiles;
 
 // What the writer answers: the file's length in bytes, or the first refusal.
-#[derive(Drop)]
+#[derive(Clone, Copy)]
 pub enum WriteAnswer {
     Written(usize),
     Refused(Refusal),
