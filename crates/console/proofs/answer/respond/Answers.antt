@@ -1,0 +1,29 @@
+use Prim.Native.Nat.{◌≤◌}
+use mathlib.Core.Path.{sym, ◌∙◌}
+use native.Mathlib.Omega.{arith}
+use lib.ListN.{length}
+use borrow.Author.Rules.{rules}
+use Rattle.console.specs.Inner.Room.{output_room}
+use Rattle.console.specs.Output.{output}
+use Rattle.console.proofs.TextLaws.{in_room}
+use Rattle.console.proofs.answer.respond.Goals as goal
+
+pub put_request-requires : goal.put_request-requires
+put_request-requires c =
+    (sym c.well-formed.ensures ∙ c.if-well_formed.true, search rules)
+
+pub returns-then-well_formed : goal.returns-then-well_formed
+unfolding output
+returns-then-well_formed c =
+    let room : output_room ≤ length c.args.out.now = search rules in
+    let end = c.put_request.ensures in
+    (rw (sym c.well-formed.ensures ∙ c.if-well_formed.true) end.0, in_room room end.0 end.1)
+
+pub returns : goal.returns
+unfolding output
+returns c =
+    let room : output_room ≤ length c.args.out.now = search rules in
+    let end = c.put_text.ensures in (
+      rw (sym c.well-formed.ensures ∙ c.if-well_formed.false) end,
+      in_room {n = output_room} room end (omega (arith, end.end)),
+    )

@@ -1,0 +1,44 @@
+use Prim.Native.Nat.{◌-◌}
+use mathlib.Core.Path.{refl, ◌∙◌}
+use native.Mathlib.Omega.{arith}
+use Rattle.console.specs.Line.{stop_line}
+use Rattle.console.proofs.LineLaws.{turn_inside, stop_short}
+use Rattle.console.proofs.TextLaws.{parts_start, parts_turn, parts_end, same-room}
+use Rattle.console.proofs.line.put_stops.Goals as goal
+
+pub loop-i-init : goal.loop-i-init
+loop-i-init c = (omega arith, omega arith, refl, parts_start _ _ _ _)
+
+pub put_stop-next-requires : goal.put_stop-next-requires
+put_stop-next-requires c =
+    let l = c.loop-i in
+    let inside = turn_inside c.args.n c.args.k c.args.used l.i (omega arith) c.requires.0.2 in (
+      omega (arith, c.requires.0.0, c.requires.0.1, l.inv.1, l.inv.2),
+      (omega (arith, inside, c.requires.1.0), omega (arith, inside, c.requires.1.1), omega (arith, inside, c.requires.1.2)),
+    )
+
+pub loop-i-preserved : goal.loop-i-preserved
+loop-i-preserved c =
+    let a = c.args in
+    let l = c.loop-i in
+    let w = c.put_stop-next.ensures in
+    let lines = stop_line a.dist.now a.site.now a.cue.now a.k a.used in
+    let short = stop_short a.dist.now a.site.now a.cue.now
+    (λ i. omega (arith, c.shared_slice_known-1.given i)) (λ i. omega (arith, c.shared_slice_known-2-1.given i))
+    (λ i. omega (arith, c.shared_slice_known-3-1.given i)) a.k a.used l.i c.requires.0.1
+    (omega (arith, c.ranges.n.fits)) in (
+      omega arith,
+      omega (arith, short, w.end, l.inv.1),
+      same-room w ∙ l.inv.2,
+      parts_turn lines a.n a.out.now a.at l.i (omega arith) l.inv.3 w,
+    )
+
+pub shape_of-out : goal.shape_of-out
+shape_of-out c = c.loop-i.invariant.2
+
+pub returns : goal.returns
+returns c =
+    let a = c.args in
+    let l = c.loop-i in
+    let lines = stop_line a.dist.now a.site.now a.cue.now a.k a.used in
+    (parts_end lines a.n a.out.now a.at l.i (omega arith) l.inv.3, omega (arith, l.inv.0, l.inv.1))

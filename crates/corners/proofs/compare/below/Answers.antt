@@ -1,0 +1,46 @@
+use Prim.Native.Nat.{ℕ, ◌+◌, ◌*◌}
+use mathlib.Core.Bool.{Bool}
+use mathlib.Core.Path.{◌≡◌, sym, ◌∙◌}
+use native.Mathlib.Nat.{zero-add}
+use native.Mathlib.Omega.{arith}
+use lib.Dec.{ltb}
+use lib.ListN.{get_or}
+use borrow.Author.Rules.{rules}
+use Rattle.base.specs.Every.{every}
+use Rattle.blocks.specs.Layout.{max_tiles}
+use Rattle.plan.specs.Inner.Seam.{corner_count}
+use Rattle.base.proofs.Every.{every-same}
+use Rattle.corners.specs.Inner.Tables.{below_all}
+use Rattle.corners.proofs.CornerTables.{corners-few, every_parts}
+use Rattle.corners.proofs.compare.below.Goals as goal
+use Rattle.corners.proofs.compare.below.Goals.{After-below_four-low, Start}
+
+-- the test of one corner
+abbrev test : Start → ℕ → Bool
+test s i = ltb (get_or s.args.far.now (i * max_tiles + s.args.e) 0) (get_or s.args.near i 0)
+
+-- the first four
+low : (c : After-below_four-low) → c.below_four-low.result ≡ every (test s) 4
+low c = c.below_four-low.ensures ∙ every-same _ (test s) 4 (λ i l. rw (zero-add i))
+
+pub below_four-low-requires : goal.below_four-low-requires
+below_four-low-requires c =
+    (c.requires.1, omega (arith, c.requires.2, (corners-few c.args.h c.requires.0).0), search rules)
+
+pub below_four-requires : goal.below_four-requires
+below_four-requires c =
+    let e : c.args.h.axes ≡ 3 = omega arith in
+    let n : corner_count c.args.h ≡ 8 = rw e in
+    (c.requires.1, omega (arith, c.requires.2, n), search rules)
+
+pub returns-then-h-eq-HEIGHT : goal.returns-then-h-eq-HEIGHT
+unfolding below_all
+returns-then-h-eq-HEIGHT c =
+    let e : c.args.h.axes ≡ 3 = omega arith in
+    rw e (c.both.ensures ∙ rw (low (goal.at.returns-then-h-eq-HEIGHT c).After-below_four-low, c.below_four.ensures) (sym (every_parts (test (goal.at.returns-then-h-eq-HEIGHT c).Start) 4 4)))
+
+pub returns-else-h-eq-HEIGHT : goal.returns-else-h-eq-HEIGHT
+unfolding below_all
+returns-else-h-eq-HEIGHT c =
+    let e : c.args.h.axes ≡ 2 = omega arith in
+    rw e (low (goal.at.returns-else-h-eq-HEIGHT c).After-below_four-low)

@@ -1,0 +1,8 @@
+use mathlib.Core.Path.{ap, ◌∙◌}
+use Rattle.host.specs.Reports.{join_report}
+use Rattle.host.proofs.files.nearby_join.Goals as goal
+
+pub returns : goal.returns
+returns c =
+    let end = c.join.ensures in
+    (c.report_join.ensures ∙ ap (λ e. join_report e.outcome) end, ap (λ e. e.slices) end)

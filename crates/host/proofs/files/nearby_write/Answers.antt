@@ -1,0 +1,8 @@
+use mathlib.Core.Path.{ap, ◌∙◌}
+use Rattle.host.specs.Reports.{write_report}
+use Rattle.host.proofs.files.nearby_write.Goals as goal
+
+pub returns : goal.returns
+returns c =
+    let end = c.write.ensures in
+    (c.report_write.ensures ∙ ap write_report end.0, end.1)

@@ -1,0 +1,75 @@
+use Prim.Native.Nat.{ℕ, ◌-◌, ◌<◌, ◌≤◌}
+use mathlib.Core.Bool.{Bool}
+use mathlib.Core.Path.{◌≡◌, refl, ◌∙◌}
+use native.Mathlib.Omega.{arith}
+use lib.ListN.{length-set}
+use borrow.Author.Rules.{rules}
+use Rattle.blocks.specs.Layout.{max_tiles}
+use Rattle.plan.specs.FilePlan.{entries}
+use Rattle.plan.specs.Inner.Seam.{region_of}
+use Rattle.search.specs.Lists.{bit}
+use Rattle.search.specs.Pruning.{pruned, pruned_count}
+use Rattle.base.proofs.HowMany.{bit-small}
+use Rattle.plan.proofs.Tables.{table_turn, table_done}
+use Rattle.prune.specs.Prune.{prune_marks}
+use Rattle.plan.proofs.Measures.{known_axes, tiles_few}
+use Rattle.prune.proofs.Summing.{count_turn, count_done}
+use Rattle.prune.proofs.marking.prune_all.Goals as goal
+use Rattle.prune.proofs.marking.prune_all.Goals.{Start}
+
+most : (s : Start) → s.args.h.tiles ≤ max_tiles
+most s = tiles_few s.args.f.now s.args.h s.requires.0.0
+
+abbrev test : Start → ℕ → Bool
+test s = pruned (entries s.args.f.now s.args.h) (region_of s.args.h s.args.o) s.args.k
+
+pub middle_tile-middle-requires : goal.middle_tile-middle-requires
+middle_tile-middle-requires c =
+    (known_axes c.args.f.now c.args.h c.requires.0.0, most (goal.at.middle_tile-middle-requires c).Start, c.requires.1.long)
+
+pub loop-t-init : goal.loop-t-init
+unfolding pruned_count prune_marks
+loop-t-init c =
+    let d : c.args.h.tiles - 0 ≡ c.args.h.tiles = omega arith in
+    (omega arith, omega arith, refl, rw d (omega arith), rw d)
+
+pub prune_tile-x-requires : goal.prune_tile-x-requires
+prune_tile-x-requires c =
+    ((record { dir = c.requires.0.0; below = search rules }, c.requires.0.2, c.middle_tile-middle.ensures), c.requires.1)
+
+pub bounds-marks-t : goal.bounds-marks-t
+bounds-marks-t c = omega (arith, c.requires.0.1)
+
+pub overflow_cast-count : goal.overflow_cast-count
+overflow_cast-count c =
+    omega (arith, c.prune_tile-x.ensures, bit-small (test (goal.at.overflow_cast-count c).Start c.loop-t.t))
+
+pub overflow_add-count : goal.overflow_add-count
+overflow_add-count c =
+    omega (arith, most (goal.at.overflow_add-count c).Start, c.prune_tile-x.ensures, bit-small (test (goal.at.overflow_add-count c).Start c.loop-t.t))
+
+pub loop-t-preserved : goal.loop-t-preserved
+loop-t-preserved c =
+    let i = c.loop-t.invariant in
+    let x = c.prune_tile-x.ensures in
+    let t = c.loop-t.t in
+    let in-loop : t < c.args.h.tiles = search rules in
+    let q = count_turn (test (goal.at.loop-t-preserved c).Start) t c.args.h.tiles in-loop in (
+      omega arith,
+      omega (arith, x, bit-small (test (goal.at.loop-t-preserved c).Start t)),
+      length-set c.loop-t.marks t c.prune_tile-x.result ∙ i.2,
+      omega (arith, x, q, i.3),
+      rw x (table_turn (λ i. bit (test (goal.at.loop-t-preserved c).Start i)) c.loop-t.marks t t c.args.h.tiles in-loop ∙ i.4),
+    )
+
+pub shape_of-marks : goal.shape_of-marks
+shape_of-marks c = c.loop-t.invariant.2
+
+pub returns : goal.returns
+returns c =
+    let past : c.args.h.tiles ≤ c.loop-t.t = search rules in
+    let q = count_done (test (goal.at.returns c).Start) c.loop-t.t c.args.h.tiles past in (
+      (omega (arith, q, c.loop-t.invariant.3), omega arith),
+      table_done (λ i. bit (test (goal.at.returns c).Start i)) c.loop-t.marks c.loop-t.t c.loop-t.t c.args.h.tiles past
+          ∙ c.loop-t.invariant.4,
+    )

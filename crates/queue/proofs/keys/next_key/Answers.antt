@@ -1,0 +1,36 @@
+use Prim.Native.Nat.{ℕ, ◌-◌, ◌<◌, ◌≤◌}
+use mathlib.Core.Logic.{⊎_elim}
+use native.Mathlib.Omega.{arith}
+use lib.ListN.{get_or}
+use Rattle.queue.specs.Inner.Keys.{none}
+use Rattle.queue.proofs.Scanning.{scanning_starts, scanning_new, scanning_same, scanning_done}
+use Rattle.queue.proofs.Scanning.{like_last}
+use Rattle.queue.proofs.keys.next_key.Goals as goal
+
+pub loop-j-init : goal.loop-j-init
+loop-j-init c =
+    let keys = c.args.keys.now in
+    let small : (i : ℕ) → get_or keys i 0 ≤ none = λ i. omega (arith, c.shared_slice_known-1.given i) in
+    scanning_starts keys c.args.m c.args.from c.args.bound small c.requires.1.inside
+
+pub returns-then-keys-j : goal.returns-then-keys-j
+returns-then-keys-j c =
+    like_last c.loop-j.invariant c.requires.1 c.loop-j-test.true c.if-keys-j.true
+
+pub loop-j-preserved : goal.loop-j-preserved
+loop-j-preserved c =
+    let keys = c.args.keys.now in
+    let j = c.loop-j.j in
+    let inside = c.loop-j-test.true in
+    let above : c.args.bound < get_or keys j 0 = omega (arith, c.requires.1.bounded j inside, c.if-keys-j.false) in
+    ⊎_elim
+    (λ w. rw (w.2, w.3) (scanning_new c.loop-j.invariant inside above w.0.taken))
+    (λ w. rw (w.1, w.2) (scanning_same c.loop-j.invariant inside above w.0.left))
+    c.if-keys-j-2.branch
+
+pub earlier_key-requires : goal.earlier_key-requires
+earlier_key-requires c =
+    (c.requires.0, c.requires.1.inside, scanning_done c.loop-j.invariant c.loop-j-test.false)
+
+pub returns : goal.returns
+returns c = c.earlier_key.ensures

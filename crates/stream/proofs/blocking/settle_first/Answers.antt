@@ -1,0 +1,45 @@
+use Prim.Native.Nat.{◌≤◌}
+use native.Mathlib.Omega.{arith}
+use Rattle.blocks.specs.Layout.{max_tiles}
+use Rattle.plan.specs.Inner.Seam.{region_of}
+use Rattle.plan.proofs.Measures.{known_axes, tiles_few}
+use Rattle.stream.proofs.Blockers.{none_nearer, released}
+use Rattle.stream.proofs.blocking.settle_first.Goals as goal
+use Rattle.stream.proofs.blocking.settle_first.Goals.{Start}
+
+most : (s : Start) → s.args.h.tiles ≤ max_tiles
+most s = tiles_few s.args.f.now s.args.h s.requires.0.0.dir
+
+pub near_from-near-requires : goal.near_from-near-requires
+near_from-near-requires c = c.requires.0
+
+pub place_before-to-requires : goal.place_before-to-requires
+place_before-to-requires c =
+    (omega (arith, most (goal.at.place_before-to-requires c).Start, c.requires.1.1.0.2), most (goal.at.place_before-to-requires c).Start)
+
+pub settle-requires : goal.settle-requires
+settle-requires c =
+    let table = c.requires.1.1.0 in
+    let slices = c.requires.1.1.1 in (
+      (
+        known_axes c.args.f.now c.args.h c.requires.0.0.dir,
+        c.requires.1.0.long,
+        c.place_before-to.ensures.within,
+        most (goal.at.settle-requires c).Start,
+      ),
+      ((table.0, table.1, slices.0), (c.requires.0.0.below, slices.1)),
+    )
+
+pub returns : goal.returns
+returns c =
+    let f = c.args.f.now in
+    let h = c.args.h in
+    let o = region_of h c.args.o in
+    let keys = c.args.keys.now in
+    let listed = c.requires.1.1.0.1 in
+    let near = c.near_from-near.result in
+    released f h c.requires.0.0.dir o c.requires.0.1 keys listed c.requires.1.0 c.requires.0.0.below near
+    c.near_from-near.ensures (λ i l u. absurd (omega arith)) c.place_before-to.ensures.within
+    (λ i l u _. none_nearer f h c.requires.0.0.dir o c.requires.0.1 keys listed c.requires.1.0 c.requires.0.0.below
+    near c.near_from-near.ensures c.requires.1.1.0.3 c.place_before-to.ensures i l u)
+    c.settle.ensures

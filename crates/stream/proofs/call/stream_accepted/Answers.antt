@@ -1,0 +1,63 @@
+use Prim.Native.Nat.{◌≤◌}
+use mathlib.Core.Bool.{true}
+use mathlib.Core.Path.{◌≡◌, refl, sym, ◌∙◌}
+use native.Mathlib.Omega.{arith}
+use lib.Dec.{eqb}
+use lib.ListN.{length, take}
+use lib.Seq.{length-take-le}
+use borrow.Author.Rules.{rules}
+use borrow.Author.Tests.{not-true, not-false, eq-eqb, ne_eqb, le-leb, lt-leb}
+use Rattle.blocks.specs.Layout.{max_tiles}
+use Rattle.geometry.specs.Box.{valid_box}
+use Rattle.plan.proofs.Measures.{tiles_few}
+use Rattle.stream.specs.Stream.{stream_call, order_after}
+use Rattle.stream.proofs.call.stream_accepted.Goals as goal
+use Rattle.stream.proofs.call.stream_accepted.Goals.{Else-h-axes, Else-not-valid_box, Start}
+
+-- what the tests passed show
+same-axes : (c : Else-h-axes) → c.args.h.axes ≡ c.args.axes
+same-axes c = c.if-h-axes.false
+
+-- the box has as many axes as the call
+axes-are : (s : Start) → length (take s.args.axes s.args.o) ≡ s.args.axes
+axes-are s = length-take-le s.args.axes s.args.o (search rules)
+
+good-axes : (c : Else-h-axes) → eqb c.args.h.axes (length (take c.args.axes c.args.o)) ≡ true
+good-axes c = rw (axes-are s) (eq-eqb _ _ (same-axes c))
+
+good-box : (c : Else-not-valid_box) → valid_box (take c.args.axes c.args.o) ≡ true
+good-box c =
+    sym c.valid_box.ensures ∙ not-false c.valid_box.result c.if-not-valid_box.false
+
+most : (s : Start) → s.args.h.tiles ≤ max_tiles
+most s = tiles_few s.args.f.now s.args.h s.requires.0
+
+pub returns-then-h-axes : goal.returns-then-h-axes
+unfolding stream_call order_after
+returns-then-h-axes c =
+    rw (c.requires.0, axes-are (goal.at.returns-then-h-axes c).Start, ne_eqb _ _ c.if-h-axes.true) (c.refused.ensures, refl)
+
+pub returns-then-not-valid_box : goal.returns-then-not-valid_box
+unfolding stream_call order_after
+returns-then-not-valid_box c =
+    let bad = sym c.valid_box.ensures ∙ not-true c.valid_box.result c.if-not-valid_box.true in
+    rw (c.requires.0, good-axes (goal.at.returns-then-not-valid_box c).Else-h-axes, bad) (c.refused-then-not-valid_box.ensures, refl)
+
+pub returns-then-order-h : goal.returns-then-order-h
+unfolding stream_call order_after
+returns-then-order-h c =
+    rw (c.requires.0, good-axes (goal.at.returns-then-order-h c).Else-h-axes, good-box (goal.at.returns-then-order-h c).Else-not-valid_box, lt-leb _ _ c.if-order-h.true) (c.refused-then-order-h.ensures, refl)
+
+pub put_order-requires : goal.put_order-requires
+put_order-requires c =
+    let e = same-axes (goal.at.put_order-requires c).Else-h-axes in
+    (c.requires.0, c.if-order-h.false, record { valid = rw e (good-box (goal.at.put_order-requires c).Else-not-valid_box); axes = rw e (axes-are (goal.at.put_order-requires c).Start) })
+
+pub overflow_cast-tiles : goal.overflow_cast-tiles
+overflow_cast-tiles c = omega (arith, most (goal.at.overflow_cast-tiles c).Start)
+
+pub returns : goal.returns
+unfolding stream_call order_after
+returns c =
+    rw (c.requires.0, good-axes (goal.at.returns c).Else-h-axes, good-box (goal.at.returns c).Else-not-valid_box, le-leb _ _ c.if-order-h.false, sym (same-axes (goal.at.returns c).Else-h-axes))
+    (refl, rw c.requires.0 c.put_order.ensures)

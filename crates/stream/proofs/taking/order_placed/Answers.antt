@@ -1,0 +1,27 @@
+use Prim.Native.Nat.{◌≤◌}
+use mathlib.Core.Path.{refl}
+use native.Mathlib.Omega.{arith}
+use Rattle.blocks.specs.Layout.{max_tiles}
+use Rattle.corners.proofs.CornerTables.{corners-few}
+use Rattle.plan.proofs.Measures.{known_axes, tiles_few}
+use Rattle.stream.proofs.Standing.{all_free}
+use Rattle.stream.proofs.taking.order_placed.Goals as goal
+use Rattle.stream.proofs.taking.order_placed.Goals.{Start}
+
+most : (s : Start) → s.args.h.tiles ≤ max_tiles
+most s = tiles_few s.args.f.now s.args.h s.requires.0.0
+
+pub fill_least-requires : goal.fill_least-requires
+fill_least-requires c =
+    let few = corners-few c.args.h (known_axes c.args.f.now c.args.h c.requires.0.0) in
+    (omega (arith, most (goal.at.fill_least-requires c).Start, few.0, c.requires.1.0.long), omega (arith, most (goal.at.fill_least-requires c).Start))
+
+pub settle_all-requires : goal.settle_all-requires
+settle_all-requires c =
+    let table = c.requires.1.1 in
+    (c.requires.0, (c.requires.1.0, ((table.0, table.1, c.fill_least.kept.1.1.0, c.fill_least.ensures), (refl, refl, all_free max_tiles))))
+
+pub take_all-requires : goal.take_all-requires
+take_all-requires c =
+    let table = c.requires.1.1 in
+    (c.requires.0, (c.requires.1.0, ((table.0, table.1, c.settle_all.kept.1.1.1.1.1.1.0, c.settle_all.kept.1.1.1.1.1.1.1.0, table.2), c.settle_all.ensures)))

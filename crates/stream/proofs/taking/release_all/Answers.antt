@@ -1,0 +1,115 @@
+use Prim.Native.Nat.{◌%◌, ◌+◌, ◌-◌, ◌≤◌, min}
+use mathlib.Core.Logic.{⊎_elim}
+use mathlib.Core.Path.{◌≡◌, refl, ◌∙◌}
+use native.Mathlib.Omega.{arith}
+use borrow.Author.Tests.{not-false}
+use Rattle.blocks.specs.Layout.{max_tiles}
+use Rattle.plan.specs.Inner.Seam.{region_of}
+use Rattle.plan.proofs.Measures.{tiles_few}
+use Rattle.stream.specs.Stream.{closer_from}
+use Rattle.stream.proofs.Standing.{standing_skip}
+use Rattle.stream.proofs.taking.release_all.Goals as goal
+use Rattle.stream.proofs.taking.release_all.Goals.{Start}
+
+most : (s : Start) → s.args.h.tiles ≤ max_tiles
+most s = tiles_few s.args.f.now s.args.h s.requires.0.0
+
+pub loop-first-init : goal.loop-first-init
+loop-first-init c =
+    let none : min 0 c.args.h.tiles ≡ 0 = omega arith in (
+      refl,
+      omega arith,
+      omega arith,
+      rw none (record {
+        long_waits = refl;
+        long_from = refl;
+        standing = c.requires.1.1.1.1.1;
+        same_left = λ a. refl;
+        same_before = λ b l. refl;
+      }),
+    )
+
+pub overflow_cast-t : goal.overflow_cast-t
+overflow_cast-t c = omega (arith, most (goal.at.overflow_cast-t c).Start, c.requires.1.1.1.1.0)
+
+-- a group lies in the table
+pub none_waits-requires : goal.none_waits-requires
+none_waits-requires c =
+    (omega (arith, most (goal.at.none_waits-requires c).Start, c.loop-first.invariant.0, c.loop-first.invariant.3.long_waits, c.requires.1.1.0.2), c.loop-first.invariant.1)
+
+pub release_among-before-requires : goal.release_among-before-requires
+release_among-before-requires c =
+    let inv = c.loop-first.invariant in
+    let table = c.requires.1.1.0 in
+    let here : min c.loop-first.first c.args.h.tiles ≡ c.loop-first.first = omega arith in (
+      c.requires.0,
+      (
+        c.requires.1.0,
+        (
+          (table.0, table.1, inv.3.long_waits ∙ table.2, inv.3.long_from ∙ table.3),
+          (
+            (λ i m u. inv.3.same_left _ ∙ c.requires.1.1.1.0 i m u),
+            (
+              (c.requires.1.1.1.1.0, omega (arith, c.lesser-to.ensures), omega (arith, c.lesser-to.ensures)),
+              rw here at inv.3.standing,
+            ),
+          ),
+        ),
+      ),
+    )
+
+pub loop-first-smaller : goal.loop-first-smaller
+loop-first-smaller c = omega (arith, most (goal.at.loop-first-smaller c).Start)
+
+pub loop-first-preserved : goal.loop-first-preserved
+loop-first-preserved c =
+    let inv = c.loop-first.invariant in
+    let first = c.loop-first.first in
+    let n = c.args.h.tiles in
+    let closer = closer_from c.args.f.now c.args.h (region_of c.args.h c.args.o) in
+    let aligned : (first + 32) % 32 ≡ 0 = omega (arith, inv.0) in
+    let inside : first + 32 ≤ max_tiles = omega (arith, most (goal.at.loop-first-preserved c).Start, inv.0) in
+    ⊎_elim
+    (λ w.
+    let freed = w.3.ensures in
+    let to = c.lesser-to.ensures in
+    let here : c.lesser-to.result ≡ min (first + 32) n = to in
+    rw (w.8, w.9, w.10) (
+      aligned,
+      inside,
+      omega (arith, freed.0, inv.2),
+      record {
+        long_waits = freed.1.long_waits ∙ inv.3.long_waits;
+        long_from = freed.1.long_from ∙ inv.3.long_from;
+        standing = rw here at freed.1.standing;
+        same_left = λ a. freed.1.same_left a ∙ inv.3.same_left a;
+        same_before = λ j u. freed.1.same_before j u ∙ inv.3.same_before j (omega (arith, freed.0));
+      },
+    ))
+    (λ w.
+    let none = c.none_waits.ensures (not-false _ w.0.left) in
+    rw (w.1, w.2, w.3) (
+      aligned,
+      inside,
+      inv.2,
+      record {
+        long_waits = inv.3.long_waits;
+        long_from = inv.3.long_from;
+        standing = standing_skip closer n c.args.keys.now (min (first + 32) n) (omega arith)
+            (λ b m u v. none b (omega arith) (omega arith)) inv.3.standing;
+        same_left = inv.3.same_left;
+        same_before = inv.3.same_before;
+      },
+    ))
+    c.if-not-none_waits.branch
+
+pub shape_of-waits : goal.shape_of-waits
+shape_of-waits c = c.loop-first.invariant.3.long_waits
+
+pub shape_of-from : goal.shape_of-from
+shape_of-from c = c.loop-first.invariant.3.long_from
+
+pub returns : goal.returns
+returns c =
+    let all : min c.loop-first.first c.args.h.tiles ≡ c.args.h.tiles = omega arith in
+    (c.loop-first.invariant.2, rw all at c.loop-first.invariant.3)

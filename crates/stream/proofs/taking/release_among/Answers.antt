@@ -1,0 +1,133 @@
+use Prim.Native.Nat.{ℕ, ◌+◌, ◌-◌, ◌<◌, ◌≤◌}
+use mathlib.Core.Bool.{true}
+use mathlib.Core.Logic.{⊎_elim}
+use mathlib.Core.Path.{◌≡◌, refl, ap, sym, ◌∙◌}
+use native.Mathlib.Omega.{arith}
+use lib.ListN.{get_or, length, length-set}
+use borrow.Author.Rules.{rules}
+use Rattle.blocks.specs.Layout.{max_tiles}
+use Rattle.plan.specs.Inner.Seam.{region_of}
+use Rattle.plan.proofs.Measures.{tiles_few}
+use Rattle.stream.specs.Inner.State.{is_left, taken_mark}
+use Rattle.stream.specs.Stream.{closer_from}
+use Rattle.stream.proofs.Standing.{left_by, left_same, waits_kept, stands_gone, standing_next, standing_skip}
+use Rattle.stream.proofs.taking.release_among.Goals as goal
+use Rattle.stream.proofs.taking.release_among.Goals.{At-loop-b, Start}
+
+most : (s : Start) → s.args.h.tiles ≤ max_tiles
+most s = tiles_few s.args.f.now s.args.h s.requires.0.0
+
+-- there is room for tile b
+room : (l : At-loop-b) → (b : ℕ) → b < l.args.to → (b < length l.loop-b.waits) × (b < length l.loop-b.from)
+room l b u =
+    let table = l.requires.1.1.0 in
+    let inside : b < max_tiles = omega (arith, most s, l.requires.1.1.1.1.0.2) in
+    (omega (arith, l.loop-b.invariant.3.long_waits, table.2), omega (arith, l.loop-b.invariant.3.long_from, table.3))
+
+pub loop-b-init : goal.loop-b-init
+loop-b-init c =
+    let ends = c.requires.1.1.1.1.0 in (
+      search rules,
+      ends.1,
+      search rules,
+      record {
+        long_waits = refl;
+        long_from = refl;
+        standing = c.requires.1.1.1.1.1;
+        same_left = λ a. refl;
+        same_before = λ b l. refl;
+      },
+    )
+
+pub offset_bounds-waits-b : goal.offset_bounds-waits-b
+offset_bounds-waits-b c =
+    omega (arith, most (goal.at.offset_bounds-waits-b c).Start, c.requires.1.1.1.1.0.2)
+
+pub bounds-waits-b : goal.bounds-waits-b
+bounds-waits-b c =
+    (room (goal.at.bounds-waits-b c).At-loop-b c.loop-b.b (search rules)).0
+
+pub overflow_cast-t : goal.overflow_cast-t
+overflow_cast-t c =
+    omega (arith, most (goal.at.overflow_cast-t c).Start, c.requires.1.1.1.1.0.0)
+
+pub release-requires : goal.release-requires
+release-requires c =
+    let inv = c.loop-b.invariant in
+    let table = c.requires.1.1.0 in
+    let ends = c.requires.1.1.1.1.0 in
+    let b = c.loop-b.b in
+    let inside : b < c.args.h.tiles = omega (arith, ends.2) in
+    let closer = closer_from c.args.f.now c.args.h (region_of c.args.h c.args.o) in
+    let here : get_or c.loop-b.waits b 0 ≡ c.args.t = search rules in (
+      (record { dir = c.requires.0.0; below = inside }, c.requires.0.1),
+      (
+        c.requires.1.0,
+        (
+          (table.0, table.1, inv.3.long_waits ∙ table.2, inv.3.long_from ∙ table.3),
+          (
+            (λ i m u. inv.3.same_left _ ∙ c.requires.1.1.1.0 i m u),
+            stands_gone closer c.args.h.tiles c.args.keys.now (sym here)
+                (inv.3.standing.others b inside (omega arith)),
+          ),
+        ),
+      ),
+    )
+
+pub loop-b-preserved : goal.loop-b-preserved
+loop-b-preserved c =
+    let inv = c.loop-b.invariant in
+    let b = c.loop-b.b in
+    let n = c.args.h.tiles in
+    let keys = c.args.keys.now in
+    let closer = closer_from c.args.f.now c.args.h (region_of c.args.h c.args.o) in
+    let ends = c.requires.1.1.1.1.0 in
+    ⊎_elim
+    (λ w.
+    let found = w.3.ensures in
+    let least = w.8.ensures in
+    let places = room (goal.at.loop-b-preserved c).At-loop-b b (search rules) in
+    let here : is_left c.loop-b.waits b ≡ true =
+    left_by c.loop-b.waits b (λ e.
+    let q : c.args.t ≡ taken_mark = sym w.0.taken ∙ e in
+    omega (arith, most (goal.at.loop-b-preserved c).Start, ends.0)) in
+    rw (w.9, w.10, w.11) (
+      omega arith,
+      omega arith,
+      omega (arith, least, inv.2),
+      record {
+        long_waits = ap length found.waits_set ∙ length-set c.loop-b.waits b found.w ∙ inv.3.long_waits;
+        long_from = ap length found.from_set ∙ length-set c.loop-b.from b found.r ∙ inv.3.long_from;
+        standing = standing_next closer n keys found places.0 places.1 here inv.3.standing;
+        same_left = λ a. left_same closer n keys found places.0 places.1 here a ∙ inv.3.same_left a;
+        same_before = λ j u.
+            waits_kept closer n keys found places.0 places.1 here j (omega (arith, least))
+            ∙ inv.3.same_before j (omega (arith, least));
+      },
+    ))
+    (λ w.
+    rw (w.1, w.2, w.3) (
+      omega arith,
+      omega arith,
+      inv.2,
+      record {
+        long_waits = inv.3.long_waits;
+        long_from = inv.3.long_from;
+        standing = standing_skip closer n keys (b + 1) (omega arith)
+            (λ j u v _. let q : j ≡ b = omega arith in rw q w.0.left) inv.3.standing;
+        same_left = inv.3.same_left;
+        same_before = inv.3.same_before;
+      },
+    ))
+    c.if-waits-b.branch
+
+pub shape_of-waits : goal.shape_of-waits
+shape_of-waits c = c.loop-b.invariant.3.long_waits
+
+pub shape_of-from : goal.shape_of-from
+shape_of-from c = c.loop-b.invariant.3.long_from
+
+pub returns : goal.returns
+returns c =
+    let e : c.loop-b.b ≡ c.args.to = omega arith in
+    (c.loop-b.invariant.2, rw e at c.loop-b.invariant.3)

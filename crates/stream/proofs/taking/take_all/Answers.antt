@@ -1,0 +1,130 @@
+use Prim.Native.Nat.{◌-◌, ◌<◌, ◌≤◌}
+use mathlib.Core.Path.{refl, ◌∙◌}
+use native.Mathlib.Omega.{arith}
+use lib.ListN.{length, length-set}
+use borrow.Author.Rules.{rules}
+use Rattle.blocks.specs.Layout.{max_tiles}
+use Rattle.plan.specs.Inner.Seam.{region_of}
+use Rattle.plan.proofs.Measures.{tiles_few}
+use Rattle.sequence.specs.Claims.{StrictOrder}
+use Rattle.stream.specs.Inner.State.{taken_mark}
+use Rattle.stream.specs.Stream.{closer_from, tile_order}
+use Rattle.stream.proofs.Nearer.{closer-strict}
+use Rattle.stream.proofs.Standing.{taken_standing}
+use Rattle.stream.proofs.Turns.{running_start, running_end, first_inside, gone_next, running_next}
+use Rattle.stream.proofs.taking.take_all.Goals as goal
+use Rattle.stream.proofs.taking.take_all.Goals.{After-first_free-t, Start}
+
+most : (s : Start) → s.args.h.tiles ≤ max_tiles
+most s = tiles_few s.args.f.now s.args.h s.requires.0.0
+
+strict : (s : Start)
+    → StrictOrder (closer_from s.args.f.now s.args.h (region_of s.args.h s.args.o)) s.args.h.tiles
+strict s =
+    closer-strict s.args.f.now s.args.h s.requires.0.0 (region_of s.args.h s.args.o) s.requires.0.1
+
+-- what was found is a tile
+inside : (c : After-first_free-t) → c.first_free-t.result < c.args.h.tiles
+inside c =
+    first_inside (closer_from c.args.f.now c.args.h (region_of c.args.h c.args.o)) c.args.h.tiles
+    c.args.keys.now (strict s) (most s) c.loop-i.invariant.4 (search rules) c.first_free-t.ensures
+
+-- there is room for its mark
+room : (c : After-first_free-t) → c.first_free-t.result < length c.loop-i.waits
+room c =
+    omega (arith, inside c, most s, c.loop-i.invariant.1, c.requires.1.1.0.2)
+
+pub loop-i-init : goal.loop-i-init
+unfolding tile_order
+loop-i-init c =
+    let start = c.requires.1.1.1 in (
+      omega arith,
+      refl,
+      refl,
+      refl,
+      running_start (closer_from c.args.f.now c.args.h (region_of c.args.h c.args.o)) c.args.h.tiles
+          c.args.keys.now c.args.waits.now c.args.from.now c.args.order.now start.0 start.1,
+    )
+
+pub first_free-t-requires : goal.first_free-t-requires
+first_free-t-requires c =
+    (c.loop-i.invariant.4.at_few, omega (arith, most (goal.at.first_free-t-requires c).Start, c.loop-i.invariant.1, c.requires.1.1.0.2))
+
+pub overflow_cast-order : goal.overflow_cast-order
+overflow_cast-order c =
+    omega (arith, inside (goal.at.overflow_cast-order c).After-first_free-t, most (goal.at.overflow_cast-order c).Start)
+
+pub offset_bounds-order-i : goal.offset_bounds-order-i
+offset_bounds-order-i c = omega (arith, most (goal.at.offset_bounds-order-i c).Start)
+
+pub bounds-order-i : goal.bounds-order-i
+bounds-order-i c =
+    omega (arith, c.loop-i.invariant.3, c.requires.1.1.0.4)
+
+pub offset_bounds-waits-t : goal.offset_bounds-waits-t
+offset_bounds-waits-t c =
+    omega (arith, inside (goal.at.offset_bounds-waits-t c).After-first_free-t, most (goal.at.offset_bounds-waits-t c).Start)
+
+pub bounds-waits-t : goal.bounds-waits-t
+bounds-waits-t c = room (goal.at.bounds-waits-t c).After-first_free-t
+
+pub first_left-low-requires : goal.first_left-low-requires
+first_left-low-requires c =
+    let long = length-set c.loop-i.waits c.first_free-t.result taken_mark in
+    let table = c.requires.1.1.0 in (
+      c.loop-i.invariant.4.low_few,
+      omega (arith, most (goal.at.first_left-low-requires c).Start, table.0),
+      table.1,
+      omega (arith, most (goal.at.first_left-low-requires c).Start, long, c.loop-i.invariant.1, table.2),
+    )
+
+pub release_all-at-requires : goal.release_all-at-requires
+release_all-at-requires c =
+    let t = c.first_free-t.result in
+    let long = length-set c.loop-i.waits t taken_mark in
+    let table = c.requires.1.1.0 in
+    let closer = closer_from c.args.f.now c.args.h (region_of c.args.h c.args.o) in
+    let keys = c.args.keys.now in
+    let n = c.args.h.tiles in (
+      c.requires.0,
+      (
+        c.requires.1.0,
+        (
+          (table.0, table.1, omega (arith, long, c.loop-i.invariant.1, table.2), c.loop-i.invariant.2 ∙ table.3),
+          (
+            gone_next closer n keys (strict (goal.at.release_all-at-requires c).Start) (most (goal.at.release_all-at-requires c).Start) c.loop-i.invariant.4 (search rules) c.first_free-t.ensures
+                (omega (arith, most (goal.at.release_all-at-requires c).Start, c.loop-i.invariant.1, table.2)) c.first_left-low.ensures,
+            (inside (goal.at.release_all-at-requires c).After-first_free-t, taken_standing closer n keys t (most (goal.at.release_all-at-requires c).Start) (room (goal.at.release_all-at-requires c).After-first_free-t) c.loop-i.invariant.4.standing),
+          ),
+        ),
+      ),
+    )
+
+pub loop-i-preserved : goal.loop-i-preserved
+loop-i-preserved c =
+    let t = c.first_free-t.result in
+    let freed = c.release_all-at.ensures in
+    let table = c.requires.1.1.0 in
+    let closer = closer_from c.args.f.now c.args.h (region_of c.args.h c.args.o) in (
+      omega arith,
+      freed.1.long_waits ∙ length-set c.loop-i.waits t taken_mark ∙ c.loop-i.invariant.1,
+      freed.1.long_from ∙ c.loop-i.invariant.2,
+      length-set c.loop-i.order c.loop-i.i t ∙ c.loop-i.invariant.3,
+      running_next closer c.args.h.tiles c.args.keys.now (strict (goal.at.loop-i-preserved c).Start) (most (goal.at.loop-i-preserved c).Start) c.loop-i.invariant.4 (search rules)
+          c.first_free-t.ensures (omega (arith, most (goal.at.loop-i-preserved c).Start, c.loop-i.invariant.1, table.2)) c.first_left-low.ensures
+          freed.0 freed.1,
+    )
+
+pub shape_of-waits : goal.shape_of-waits
+shape_of-waits c = c.loop-i.invariant.1
+
+pub shape_of-from : goal.shape_of-from
+shape_of-from c = c.loop-i.invariant.2
+
+pub shape_of-order : goal.shape_of-order
+shape_of-order c = c.loop-i.invariant.3
+
+pub returns : goal.returns
+returns c =
+    running_end (closer_from c.args.f.now c.args.h (region_of c.args.h c.args.o)) c.args.h.tiles
+    c.args.keys.now (search rules) c.loop-i.invariant.4

@@ -1,0 +1,67 @@
+use mathlib.Core.Path.{◌≡◌}
+use native.Mathlib.Nat.{add-zero}
+use native.Mathlib.Omega.{arith}
+use Rattle.base.specs.Tabulate.{tabulate}
+use Rattle.codec.proofs.Number.{local_i32}
+use Rattle.tiles.specs.Tile.{site_in}
+use Rattle.tiles.proofs.TileLaws.{site_room}
+use Rattle.tiles.proofs.tile.point_in.Goals as goal
+
+pub i32_at-x-requires : goal.i32_at-x-requires
+i32_at-x-requires c =
+    omega (
+      arith,
+      site_room c.args.axes c.args.slot c.requires.0 c.requires.1,
+      c.site_offset-at.ensures.1,
+    )
+
+pub overflow_add-at : goal.overflow_add-at
+overflow_add-at c =
+    omega (
+      arith,
+      site_room c.args.axes c.args.slot c.requires.0 c.requires.1,
+      c.site_offset-at.ensures.1,
+    )
+
+pub i32_at-y-requires : goal.i32_at-y-requires
+i32_at-y-requires c =
+    omega (
+      arith,
+      site_room c.args.axes c.args.slot c.requires.0 c.requires.1,
+      c.site_offset-at.ensures.1,
+    )
+
+pub overflow_add-at-then-axes-eq-HEIGHT : goal.overflow_add-at-then-axes-eq-HEIGHT
+overflow_add-at-then-axes-eq-HEIGHT c =
+    omega (
+      arith,
+      site_room c.args.axes c.args.slot c.requires.0 c.requires.1,
+      c.site_offset-at.ensures.1,
+    )
+
+pub i32_at-requires : goal.i32_at-requires
+i32_at-requires c =
+    omega (
+      arith,
+      site_room c.args.axes c.args.slot c.requires.0 c.requires.1,
+      c.site_offset-at.ensures.1,
+    )
+
+pub returns-then-axes-eq-HEIGHT : goal.returns-then-axes-eq-HEIGHT
+unfolding site_in tabulate
+returns-then-axes-eq-HEIGHT c =
+    let x = c.i32_at-x in
+    let y = c.i32_at-y in
+    let z = c.i32_at in
+    let e : c.args.axes ≡ 3 = omega arith in
+    simp (e, local_i32 x.result x.ok, local_i32 y.result y.ok, local_i32 z.result z.type-inv)
+    (simp (x.ensures, y.ensures, z.ensures, c.site_offset-at.ensures.0, e, add-zero))
+
+pub returns-else-axes-eq-HEIGHT : goal.returns-else-axes-eq-HEIGHT
+unfolding site_in tabulate
+returns-else-axes-eq-HEIGHT c =
+    let x = c.i32_at-x in
+    let y = c.i32_at-y in
+    let e : c.args.axes ≡ 2 = omega arith in
+    simp (e, local_i32 x.result x.ok, local_i32 y.result y.ok)
+    (simp (x.ensures, y.ensures, c.site_offset-at.ensures.0, e, add-zero))

@@ -1,0 +1,90 @@
+use Prim.Native.Nat.{◌≤◌}
+use mathlib.Core.List.{[], ◌∷◌}
+use mathlib.Core.Path.{◌≡◌, sym, ap, ◌∙◌}
+use native.Mathlib.Omega.{arith}
+use lib.ListN.{length, take}
+use Rattle.base.specs.Refusal.{accepted}
+use Rattle.encode.specs.Encode.{file_length}
+use Rattle.encode.specs.Supply.{Supply, supply, axes_of, header_of, site_total}
+use Rattle.base.proofs.Outcomes.{number_accepted, number_refused}
+use Rattle.writer.specs.Accepted.{GoodSupply}
+use Rattle.writer.specs.Write.{write_tests}
+use Rattle.writer.proofs.WriteLaws.{tests_good, call_refused, call_accepted, exit_refused, exit_accepted}
+use Rattle.writer.proofs.WriteLaws.{columns_axes, columns-long, file_row}
+use Rattle.writer.proofs.write.write_columns.Goals as goal
+use Rattle.writer.proofs.write.write_columns.Goals.{Else-failed-ne0, Start}
+
+abbrev given : Start → Supply
+given s =
+    let a = s.args in
+    supply a.boxes.now a.counts.now (take a.axes (a.xs.now ∷ a.ys.now ∷ a.zs.now ∷ []))
+    a.cues.now
+
+own-axes : (s : Start) → axes_of (given s) ≡ s.args.axes
+own-axes s =
+    let a = s.args in columns_axes a.axes a.xs.now a.ys.now a.zs.now s.requires.0
+
+accepted-tests : (c : Else-failed-ne0) →
+    write_tests (given s) (length c.args.out.now) ≡ accepted tt
+accepted-tests c =
+    number_accepted c.failed_test-failed.result 0 c.failed_test-failed.ensures c.if-failed-ne0.false
+
+good : (c : Else-failed-ne0) →
+    GoodSupply (given s) × (file_length (header_of c.args.axes c.args.counts.now) ≤ length c.args.out.now)
+good c =
+    let g = tests_good _ _ (accepted-tests c) in
+    (g.0, rw (own-axes s) at g.1)
+
+-- the columns have the lengths that the tests ask for; of a plan town the third is the second again
+columns : (c : Else-failed-ne0) →
+    let n = site_total c.args.counts.now in
+    (length c.args.xs.now ≡ n) × (length c.args.ys.now ≡ n) × (length c.args.zs.now ≡ n)
+columns c =
+    let a = c.args in
+    columns-long a.axes (site_total a.counts.now) a.xs.now a.ys.now a.zs.now c.requires
+    (good c).0.spots
+
+pub returns-then-failed-ne0 : goal.returns-then-failed-ne0
+returns-then-failed-ne0 c =
+    let a = c.args in
+    let n = c.failed_test-failed in
+    let s = given (goal.at.returns-then-failed-ne0 c).Start in
+    let e = call_refused s (length a.out.now) (number_refused n.result 0 n.ensures c.if-failed-ne0.true) in
+    (sym e, sym (exit_refused s a.out.now e))
+
+pub put_directory-requires : goal.put_directory-requires
+unfolding file_length
+put_directory-requires c =
+    let g = good search in
+    (c.requires.0, omega (arith, g.1), rw (own-axes (goal.at.put_directory-requires c).Start) at g.0.numbers, g.0.most, g.0.cues)
+
+pub put_tiles-requires : goal.put_tiles-requires
+put_tiles-requires c =
+    let g = good search in
+    let l = columns search in (
+      c.requires.0,
+      omega (arith, g.1, c.put_directory.kept.0),
+      g.0.most,
+      rw (own-axes (goal.at.put_tiles-requires c).Start) at g.0.counts,
+      l.0,
+      l.1,
+      l.2,
+      g.0.cues,
+    )
+
+pub file_length-requires : goal.file_length-requires
+file_length-requires c =
+    let g = good search in
+    rw c.header_of.ensures (c.requires.0, g.0.most)
+
+pub returns : goal.returns
+returns c =
+    let a = c.args in
+    let s = given (goal.at.returns c).Start in
+    let e = call_accepted s (length a.out.now) (accepted-tests search) in (
+      ap accepted (c.file_length.ensures ∙ ap file_length c.header_of.ensures
+          ∙ ap (λ n. file_length (header_of n a.counts.now)) (sym (own-axes (goal.at.returns c).Start))) ∙ sym e,
+      file_row s a.out.now {d₁ = c.put_directory.new.d} (rw (own-axes (goal.at.returns c).Start) c.put_directory.ensures)
+          (rw (own-axes (goal.at.returns c).Start) c.put_tiles.ensures)
+          ∙ sym (exit_accepted s a.out.now e),
+    )
