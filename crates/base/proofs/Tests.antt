@@ -9,11 +9,11 @@
 --   passed, failed       what a branch of the code shows: an answer behind `if !r`
 --   equal, unequal       the same: two numbers compared
 use Prim.Native.Nat.{ℕ}
-use mathlib.Core.Bool.{Bool, true, false, cond, not, ◌&&◌}
+use mathlib.Core.Bool.{Bool, true, false, cond, ◌&&◌}
 use mathlib.Core.Path.{◌≡◌, refl, sym, ◌∙◌}
 use native.Mathlib.Omega.{arith}
 use lib.Dec.{T, eqb}
-use borrow.Author.Tests.{not-true, not-false, eq-eqb, ne_eqb}
+use borrow.Author.Tests.{eq-eqb, ne_eqb}
 
 pub true_T : {a : Bool} → a ≡ true → T a
 true_T e = rw e tt
@@ -53,11 +53,11 @@ cond_ap f false x y = refl
 
 -- a call's answer r, which is the test t, behind an `if !r`
 module _ {r t : Bool} (e : r ≡ t) where
-  pub passed : not r ≡ false → t ≡ true
-  passed h = sym e ∙ not-false r h
+  pub passed : r ≡ true → t ≡ true
+  passed h = sym e ∙ h
 
-  pub failed : not r ≡ true → t ≡ false
-  failed h = sym e ∙ not-true r h
+  pub failed : r ≡ false → t ≡ false
+  failed h = sym e ∙ h
 
 -- a number r that was read, which is x, compared with one that is due
 module _ {r x : ℕ} (e : r ≡ x) {p y : ℕ} (q : p ≡ y) where

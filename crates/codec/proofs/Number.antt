@@ -34,7 +34,7 @@ below_zero_fits k h = rw (below_zero k h) (record { sfits = h })
 
 -- a signed number that passed through a local, where it is held as bits
 pub local_i32 : (z : ℤ) → mag z < limit_signed → to_z w32 (of_z w32 z) ≡ z
-local_i32 z h = to_z-of_z (record { sfits = h })
+local_i32 z h = to_z-of_z {w = w32} (record { sfits = h })
 
 -- ---- the 32 bits of a signed number, as the code has them
 pub bits_up : (x : ℤ) → mag x < limit_signed → le_z (pos 0) x ≡ true →

@@ -70,5 +70,5 @@ pub returns : goal.returns
 returns c =
     let low = c.i32_at-low in
     let high = c.i32_at-high in
-    simp (local_i32 low.result low.ok, local_i32 high.result high.type-inv)
+    simp (local_i32 low.result low.type_inv, local_i32 high.result high.type_inv)
     (simp (low.ensures, high.ensures, c.entry_offset-at.ensures.0))

@@ -1,3 +1,4 @@
+use mir.Syntax.{w32}
 use Prim.Native.Nat.{◌-◌}
 use mathlib.Core.Path.{◌∙◌}
 use native.Mathlib.Omega.{arith}

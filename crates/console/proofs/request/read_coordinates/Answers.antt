@@ -18,7 +18,7 @@ loop-i-init c = (omega arith, refl, refl)
 pub loop-i-preserved : goal.loop-i-preserved
 loop-i-preserved c =
     let l = c.loop-i in
-    let fits : SFits w32 c.i32_at.result = sfits_of c.i32_at.type-inv in (
+    let fits : SFits w32 c.i32_at.result = sfits_of c.i32_at.type_inv in (
       omega arith,
       simp length-set l.invariant.1,
       rw (to_z-of_z {w = w32} fits, c.i32_at.ensures) (stored_next c.args.input.now c.args.at l.i c.args.out.now

@@ -1,3 +1,4 @@
+use mir.Syntax.{w32}
 use mathlib.Core.Bool.{true, false}
 use mathlib.Core.Path.{◌≡◌, sym, ◌∙◌}
 use lib.IntN.{◌-ℤ◌}

@@ -1,3 +1,4 @@
+use mir.Syntax.{w32}
 use mathlib.Core.Path.{◌≡◌, ◌∙◌}
 use mir.Facts.{to_z-of_z}
 use Rattle.geometry.specs.Distance.{gap, square, closest}

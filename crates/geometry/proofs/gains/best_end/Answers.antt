@@ -1,3 +1,4 @@
+use mir.Syntax.{w32}
 use mathlib.Core.Path.{◌≡◌, sym, ◌∙◌}
 use lib.Signed.{lt_z}
 use mir.Facts.{to_z-of_z}

@@ -11,7 +11,7 @@ use Rattle.geometry.proofs.gains.best_ends.Goals as goal
 pub farthest-y-requires : goal.farthest-y-requires
 farthest-y-requires c =
     let o = c.args.o in
-    let k : SFits w32 c.best_end-x.result = sfits_of c.best_end-x.type-inv in
+    let k : SFits w32 c.best_end-x.result = sfits_of c.best_end-x.type_inv in
     let x : c.best_end-x.result ≡ best_end o c.args.e c.args.b = c.best_end-x.ensures in (
       c.requires.1.0,
       rw (to_z-of_z {w = w32} k, x) (valid_on c.requires.0
@@ -20,9 +20,9 @@ farthest-y-requires c =
 
 pub returns : goal.returns
 returns c =
-    let kx : SFits w32 c.best_end-x.result = sfits_of c.best_end-x.ok in
-    let ky : SFits w32 c.farthest-y.result = sfits_of c.farthest-y.ok in
-    let kz : SFits w32 c.closest-z.result = sfits_of c.closest-z.type-inv in
+    let kx : SFits w32 c.best_end-x.result = sfits_of c.best_end-x.type_inv in
+    let ky : SFits w32 c.farthest-y.result = sfits_of c.farthest-y.type_inv in
+    let kz : SFits w32 c.closest-z.result = sfits_of c.closest-z.type_inv in
     let x : c.best_end-x.result ≡ best_end c.args.o c.args.e c.args.b = c.best_end-x.ensures in
     let y = simp x at (simp (to_z-of_z {w = w32} kx) at c.farthest-y.ensures) in
     let z = simp x at (simp (to_z-of_z {w = w32} kx) at c.closest-z.ensures) in

@@ -88,6 +88,6 @@ returns c =
     let high-gain : c.difference-high.result ≡ pos c.max_square-2.result -ℤ pos
     c.min_square-2.result =
     c.difference-high.ensures in (
-      to_z-of_z {w = w32} (sfits_of c.difference-low.ok) ∙ low-gain ∙ cc (l.0, l.1),
-      to_z-of_z {w = w32} (sfits_of c.difference-high.type-inv) ∙ high-gain ∙ cc (h.0, h.1),
+      to_z-of_z {w = w32} (sfits_of c.difference-low.type_inv) ∙ low-gain ∙ cc (l.0, l.1),
+      to_z-of_z {w = w32} (sfits_of c.difference-high.type_inv) ∙ high-gain ∙ cc (h.0, h.1),
     )

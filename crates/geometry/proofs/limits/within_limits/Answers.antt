@@ -1,3 +1,4 @@
+use mir.Syntax.{w32}
 use mir.Facts.{to_z-of_z}
 use Rattle.geometry.specs.Box.{within_limits}
 use Rattle.geometry.proofs.limits.within_limits.Goals as goal

@@ -1,3 +1,4 @@
+use mir.Syntax.{w32}
 use mir.Facts.{to_z-of_z}
 use mir.Syntax.{w64}
 use mir.Val.{SFits}
@@ -8,5 +9,5 @@ use Rattle.geometry.proofs.margin.closer_within.Goals as goal
 pub returns : goal.returns
 unfolding closer
 returns c =
-    let m : SFits w64 c.margin_within.result = sfits_of c.margin_within.type-inv in
+    let m : SFits w64 c.margin_within.result = sfits_of c.margin_within.type_inv in
     rw (to_z-of_z {w = w32} m, c.margin_within.ensures)

@@ -48,7 +48,7 @@ returns-then-axes-eq-HEIGHT c =
     let h : c.args.axes ≡ 3 = c.if-axes-eq-HEIGHT.true in
     rw h
     (same-reached
-    (kept (sfits_of c.margin_within-margin.ok) (rw h at c.margin_within-margin.ensures))
+    (kept (sfits_of c.margin_within-margin.type_inv) (rw h at c.margin_within-margin.ensures))
     (next (kept (sfits_of c.struct_told-1.given.0.1) c.best_ends-x.ensures.0)
     (next (kept (sfits_of c.struct_told-then-axes-eq-HEIGHT-1.given.0.1) c.best_ends-y.ensures.0)
     (next (kept (sfits_of c.struct_told-then-axes-eq-HEIGHT-2-1.given.0.1) c.best_ends-z.ensures.0) refl)))
@@ -67,7 +67,7 @@ returns-else-axes-eq-HEIGHT c =
     let h : c.args.axes ≡ 2 = on_plan (goal.at.returns-else-axes-eq-HEIGHT c).Else-axes-eq-HEIGHT in
     rw h
     (same-reached
-    (kept (sfits_of c.margin_within-margin.ok) (rw h at c.margin_within-margin.ensures))
+    (kept (sfits_of c.margin_within-margin.type_inv) (rw h at c.margin_within-margin.ensures))
     (next (kept (sfits_of c.struct_told-else-axes-eq-HEIGHT-1.given.0.1) c.best_ends-x.ensures.0)
     (next (kept (sfits_of c.struct_told-else-axes-eq-HEIGHT-2-1.given.0.1) c.best_ends-y.ensures.0) refl))
     (next (kept (sfits_of c.struct_told-else-axes-eq-HEIGHT-3-1.given.1.0.1) c.best_ends-x.ensures.1.0)

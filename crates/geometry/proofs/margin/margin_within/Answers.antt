@@ -1,3 +1,4 @@
+use mir.Syntax.{w32}
 use Prim.Native.Nat.{ℕ, ◌≤◌, ◌<◌}
 use mathlib.Core.Path.{◌≡◌, sym, ap, ◌∙◌}
 use native.Mathlib.Omega.{arith}
@@ -58,8 +59,8 @@ total s n l = margin-sum s.args.o s.args.e s.args.b n (omega arith) (omega arith
 plan : (c : After-best_gain-2) → to_z w64 (of_z w64 c.best_gain.result) +ℤ to_z w64 (of_z w64 c.best_gain-2.result) ≡ margin_of s 2
 unfolding sumℤ
 plan c =
-    let fx : SFits w64 c.best_gain.result = sfits_of c.best_gain.ok in
-    let fy : SFits w64 c.best_gain-2.result = sfits_of c.best_gain-2.type-inv in
+    let fx : SFits w64 c.best_gain.result = sfits_of c.best_gain.type_inv in
+    let fy : SFits w64 c.best_gain-2.result = sfits_of c.best_gain-2.type_inv in
     rw (to_z-of_z {w = w32} fx, to_z-of_z {w = w32} fy, c.best_gain.ensures, c.best_gain-2.ensures)
     (sym (total s 2 (omega arith) ∙ ap (λ z. gain-at s 0 +ℤ z) (add_none (gain-at s 1))))
 
@@ -68,7 +69,7 @@ with-height : (c : After-best_gain-then-axes-eq-HEIGHT) → to_z w64 (of_z w64 (
     ≡ margin_of s 3
 unfolding sumℤ
 with-height c =
-    let fz : SFits w64 c.best_gain-then-axes-eq-HEIGHT.result = sfits_of c.best_gain-then-axes-eq-HEIGHT.type-inv in
+    let fz : SFits w64 c.best_gain-then-axes-eq-HEIGHT.result = sfits_of c.best_gain-then-axes-eq-HEIGHT.type_inv in
     let g = gain-at s in
     rw (plan y, to_z-of_z {w = w32} (fits s 2 (omega arith)), to_z-of_z {w = w32} fz, c.best_gain-then-axes-eq-HEIGHT.ensures)
     (ap (λ z. z +ℤ g 2) (total s 2 (omega arith) ∙ ap (λ z. g 0 +ℤ z) (add_none (g 1)))

@@ -1,3 +1,4 @@
+use mir.Syntax.{w32}
 use mathlib.Core.Path.{◌≡◌, ◌∙◌}
 use lib.ListN.{take}
 use mir.Facts.{to_z-of_z}
@@ -48,7 +49,7 @@ margin_within-requires c =
 
 pub returns : goal.returns
 returns c =
-    let fits : SFits w64 c.margin_within.result = sfits_of c.margin_within.type-inv in
+    let fits : SFits w64 c.margin_within.result = sfits_of c.margin_within.type_inv in
     to_z-of_z {w = w32} fits ∙ c.margin_within.ensures
     ∙ good_number _ _ _ (passed c.valid_boxes.ensures c.if-not-valid_boxes.false)
     ∙ rw (box-o (goal.at.returns c).After-pad_box-o, box-e (goal.at.returns c).After-pad_box-e, box-b (goal.at.returns c).After-pad_box-b)

@@ -28,7 +28,7 @@ abbrev head : Else-key → At-loop-h
 head c = search
 
 key_left : (c : Else-key) → c.next_key-least.result.key < none
-key_left c = omega (arith, c.if-key.false, c.next_key-least.type-inv)
+key_left c = omega (arith, c.if-key.false, c.next_key-least.type_inv)
 
 index_below : (c : Else-key) → c.next_key-least.result.at < length
     (start (head c)).args.order.now

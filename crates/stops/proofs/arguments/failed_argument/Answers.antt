@@ -53,12 +53,12 @@ room-told c =
 
 pub returns-then-not-valid_k : goal.returns-then-not-valid_k
 unfolding arguments
-returns-then-not-valid_k c = rw (sym c.valid_k.ensures ∙ not-true c.valid_k.result c.if-not-valid_k.true)
+returns-then-not-valid_k c = rw (sym c.valid_k.ensures ∙ c.if-not-valid_k.true)
 
 pub returns-then-not-stops_due : goal.returns-then-not-stops_due
 unfolding arguments
 returns-then-not-stops_due c =
-    rw (k-good search, sym c.stops_due.ensures ∙ not-true c.stops_due.result c.if-not-stops_due.true)
+    rw (k-good search, sym c.stops_due.ensures ∙ c.if-not-stops_due.true)
 
 pub returns-then-h-axes : goal.returns-then-h-axes
 unfolding arguments cols all

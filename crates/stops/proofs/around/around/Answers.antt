@@ -8,12 +8,12 @@ use Rattle.stops.proofs.around.around.Goals as goal
 pub returns : goal.returns
 unfolding around
 returns c =
-    let k0 : SFits w32 c.least-low_x.result = sfits_of c.least-low_x.ok in
-    let k1 : SFits w32 c.greatest-high_x.result = sfits_of c.greatest-high_x.ok in
-    let k2 : SFits w32 c.least-low_y.result = sfits_of c.least-low_y.ok in
-    let k3 : SFits w32 c.greatest-high_y.result = sfits_of c.greatest-high_y.ok in
-    let k4 : SFits w32 c.least-low_z.result = sfits_of c.least-low_z.ok in
-    let k5 : SFits w32 c.greatest-high_z.result = sfits_of c.greatest-high_z.type-inv in
+    let k0 : SFits w32 c.least-low_x.result = sfits_of c.least-low_x.type_inv in
+    let k1 : SFits w32 c.greatest-high_x.result = sfits_of c.greatest-high_x.type_inv in
+    let k2 : SFits w32 c.least-low_y.result = sfits_of c.least-low_y.type_inv in
+    let k3 : SFits w32 c.greatest-high_y.result = sfits_of c.greatest-high_y.type_inv in
+    let k4 : SFits w32 c.least-low_z.result = sfits_of c.least-low_z.type_inv in
+    let k5 : SFits w32 c.greatest-high_z.result = sfits_of c.greatest-high_z.type_inv in
     rw (
       to_z-of_z {w = w32} k0,
       to_z-of_z {w = w32} k1,

@@ -21,7 +21,7 @@ loop-i-preserved c =
     let l = c.loop-i in
     let xs = c.args.xs.now in
     let x : SFits w32 (get_or xs l.i (pos 0)) = sfits_of c.lesser-arg-1.given in
-    let k : SFits w32 c.lesser-a.result = sfits_of c.lesser-a.type-inv in
+    let k : SFits w32 c.lesser-a.result = sfits_of c.lesser-a.type_inv in
     let e = simp (to_z-of_z {w = w32} x) at c.lesser-a.ensures in (
       omega arith,
       rw (to_z-of_z {w = w32} k, e) (foremost_turn lt_z xs (to_z w32 l.a) l.i c.loop-i-test.true

@@ -87,7 +87,7 @@ loop-first-preserved c =
       },
     ))
     (λ w.
-    let none = c.none_waits.ensures (not-false _ w.0.left) in
+    let none = c.none_waits.ensures (w.0.left) in
     rw (w.1, w.2, w.3) (
       aligned,
       inside,
