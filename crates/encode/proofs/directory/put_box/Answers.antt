@@ -33,7 +33,7 @@ pub loop-left-preserved : goal.loop-left-preserved
 loop-left-preserved c =
     let a = c.args in
     let p = c.put_i32 in
-    let k : length p.last.0 ≡ length c.loop-left.d = p.kept.0 in
+    let k : length p.new.d ≡ length c.loop-left.d = p.kept.0 in
     let m = numbers_per_box a.axes in
     let g : ℕ → List ℕ = λ k. bytes_signed (box_number a.axes a.boxes.now a.t k) in
     let z = get_or a.boxes.now c.loop-left.i (pos 0) in

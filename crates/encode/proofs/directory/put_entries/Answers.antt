@@ -23,7 +23,7 @@ loop-left-preserved c =
     let one = one-part (entry_size a.axes) c.loop-left.false c.loop-left-test.true in
     let z = c.entry_size-at.ensures in
     let wide = length_entry a.axes a.boxes.now a.counts.now a.cues.now c.loop-left.t in
-    let k : length p.last.0 ≡ length c.loop-left.d = p.kept.0 in (
+    let k : length p.new.d ≡ length c.loop-left.d = p.kept.0 in (
       omega (arith, k, c.loop-left.invariant),
       omega (arith, k, c.loop-left.invariant),
       search rules,

@@ -22,7 +22,7 @@ loop-left-preserved c =
     let p = c.put_site in
     let one = one-part (site_size a.axes) c.loop-left.false c.loop-left-test.true in
     let z = c.site_size-at.ensures in
-    let k : length p.last.0 ≡ length c.loop-left.d = p.kept.0 in (
+    let k : length p.new.d ≡ length c.loop-left.d = p.kept.0 in (
       omega (arith, k, c.loop-left.invariant),
       omega (arith, k, c.loop-left.invariant),
       search rules,

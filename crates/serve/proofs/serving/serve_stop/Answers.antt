@@ -33,13 +33,13 @@ key_left c = omega (arith, c.if-key.false, c.next_key-least.type_inv)
 index_below : (c : Else-key) → c.next_key-least.result.at < length
     (start (head c)).args.order.now
 index_below c =
-    index_at (head c).loop.invariant.1.keyed c.next_key-least.result c.next_key-least.ensures (key_left c)
+    index_at (head c).loop-h.invariant.1.keyed c.next_key-least.result c.next_key-least.ensures (key_left c)
 
 tile-below : (c : Else-key)
     → get_or (start (head c)).args.order.now c.next_key-least.result.at 0 < (start (head c)).args.h.tiles
 tile-below c =
-    tile_in_order (head c).loop.invariant.1.keyed c.next_key-least.result c.next_key-least.ensures
-    (key_left c) (λ t. t < (start (head c)).args.h.tiles) (start (head c)).pre.tiles
+    tile_in_order (head c).loop-h.invariant.1.keyed c.next_key-least.result c.next_key-least.ensures
+    (key_left c) (λ t. t < (start (head c)).args.h.tiles) (start (head c)).requires.tiles
 
 -- it is not: the tile is taken
 abbrev kept-key : Else-last_ahead → Else-key
@@ -48,11 +48,11 @@ kept-key c = search
 not_full : (c : Else-last_ahead) →
     let i = kept-key c in
     let l = head i in
-    let r = i.before.next-key.result in
+    let r = i.next_key-least.result in
     last_ahead (start l).args.target.k
-    (places (lists l.loop.dist l.loop.site l.loop.cue) (start l).args.target.at l.loop.used)
+    (places (lists l.loop-h.dist-1 l.loop-h.site-1 l.loop-h.cue-1) (start l).args.target.at l.loop-h.used)
     r.key (get_or (start l).args.order.now r.at 0) ≡ false
-not_full c = sym (c.last_ahead.ensures (head (kept-key c)).loop.cue) ∙ c.if-last_ahead.false
+not_full c = sym (c.last_ahead.ensures (head (kept-key c)).loop-h.cue-1) ∙ c.if-last_ahead.false
 
 -- after it the slices are still as long
 abbrev taken : After-take_tile-answer → Else-last_ahead
@@ -66,11 +66,11 @@ slices-taken : (x : After-take_tile-answer) →
     let l = turned x in
     let i = kept-key (taken x) in
     let a = (start l).args in
-    let t = get_or a.order.now i.before.next-key.result.at 0 in
-    lent x.take_tile-answer.new.1.1.1.1.1.0 x.take_tile-answer.new.1.1.1.1.1.1.0
-    x.take_tile-answer.new.1.1.1.1.1.1.1.0 x.take_tile-answer.new.1.1.1.1.1.1.1.1.0
-    ≡ after_tile a.h t a.target l.loop.used (opening_of a.f.now a.h t)
-    (lent l.loop.dist l.loop.site l.loop.cue l.loop.marks)
+    let t = get_or a.order.now i.next_key-least.result.at 0 in
+    lent x.take_tile-answer.new.dist x.take_tile-answer.new.site
+    x.take_tile-answer.new.cue x.take_tile-answer.new.marks
+    ≡ after_tile a.h t a.target l.loop-h.used (opening_of a.f.now a.h t)
+    (lent l.loop-h.dist-1 l.loop-h.site-1 l.loop-h.cue-1 l.loop-h.marks-1)
 slices-taken x = x.take_tile-answer.ensures.1
 
 pub fill_keys-requires : goal.fill_keys-requires
@@ -85,8 +85,8 @@ loop-h-init c =
     let f = a.f.now in
     let order = a.order.now in
     let e = c.fill_keys.ensures in
-    let keyed = keyed_start f a.h p.dir p.stop order p.tiles a.keys.now p.room p.rise in
-    let all = living_start f a.h p.dir p.stop order p.tiles a.keys.now p.room in (
+    let keyed = keyed_start f a.h p.dir p.stop order p.tiles a.keys-1.now p.room p.rise in
+    let all = living_start f a.h p.dir p.stop order p.tiles a.keys-1.now p.room in (
       refl,
       tile_starts f a.h order a.target o p.list (rw e keyed) (rw e all) p.opens,
       passed_none _ (length order),
@@ -111,7 +111,7 @@ bounds-order-j c = index_below (goal.at.bounds-order-j c).Else-key
 pub overflow_cast-t : goal.overflow_cast-t
 overflow_cast-t c =
     let s = start (head (goal.at.overflow_cast-t c).Else-key) in
-    omega (arith, tile-below (goal.at.overflow_cast-t c).Else-key, tiles_few s.args.f.now s.args.h s.pre.dir)
+    omega (arith, tile-below (goal.at.overflow_cast-t c).Else-key, tiles_few s.args.f.now s.args.h s.requires.dir)
 
 pub last_ahead-requires : goal.last_ahead-requires
 last_ahead-requires c =
@@ -123,19 +123,19 @@ pub returns-then-last_ahead : goal.returns-then-last_ahead
 returns-then-last_ahead c =
     let l = head (goal.at.returns-then-last_ahead c).Else-key in
     let n = c.next_key-least in
-    let full = sym (c.last_ahead.ensures l.loop.cue) ∙ c.if-last_ahead.true in
-    tile_full l.loop.inv.1 n.result n.ensures (key_left (goal.at.returns-then-last_ahead c).Else-key) full
+    let full = sym (c.last_ahead.ensures l.loop-h.cue-1) ∙ c.if-last_ahead.true in
+    tile_full l.loop-h.invariant.1 n.result n.ensures (key_left (goal.at.returns-then-last_ahead c).Else-key) full
 
 pub take_tile-answer-requires : goal.take_tile-answer-requires
 take_tile-answer-requires c =
     let l = head (goal.at.take_tile-answer-requires c).Else-key in
-    let p = (start l).pre in
-    let t = l.loop.inv.1 in
+    let p = (start l).requires in
+    let t = l.loop-h.invariant.1 in
     record {
       tile = record { dir = p.dir; below = tile-below (goal.at.take_tile-answer-requires c).Else-key };
       stop = p.stop;
       list = t.ready;
-      marks = omega (arith, p.marks, t.long);
+      marks = omega (arith, p.marks-1, t.long);
       opens = t.opens;
     }
 
@@ -144,13 +144,13 @@ returns-in_default c =
     let l = turned (goal.at.returns-in_default c).After-take_tile-answer in
     let i = kept-key (taken (goal.at.returns-in_default c).After-take_tile-answer) in
     let a = (start l).args in
-    let n = i.before.next-key in
+    let n = i.next_key-least in
     let t = get_or a.order.now n.result.at 0 in
     let e = c.in_default.is in
     let d = and_then_refused (opening_of a.f.now a.h t) _ (told serving_outcome c.take_tile-answer.ensures.0 e) in
     let same = rw d at (slices-taken (goal.at.returns-in_default c).After-take_tile-answer) in
     rw (ap serving_outcome e, same)
-    (tile_refused l.loop.inv.1 n.result n.ensures (key_left i) (not_full (taken (goal.at.returns-in_default c).After-take_tile-answer)) _ _ d)
+    (tile_refused l.loop-h.invariant.1 n.result n.ensures (key_left i) (not_full (taken (goal.at.returns-in_default c).After-take_tile-answer)) _ _ d)
 
 pub offset_bounds-keys-j : goal.offset_bounds-keys-j
 offset_bounds-keys-j c =
@@ -158,7 +158,7 @@ offset_bounds-keys-j c =
 
 pub bounds-keys-j : goal.bounds-keys-j
 bounds-keys-j c =
-    omega (arith, index_below (kept-key (taken (goal.at.bounds-keys-j c).After-take_tile-answer)), (turned (goal.at.bounds-keys-j c).After-take_tile-answer).loop.inv.1.keyed.long)
+    omega (arith, index_below (kept-key (taken (goal.at.bounds-keys-j c).After-take_tile-answer)), (turned (goal.at.bounds-keys-j c).After-take_tile-answer).loop-h.invariant.1.keyed.long)
 
 pub overflow_add-from : goal.overflow_add-from
 overflow_add-from c =
@@ -168,23 +168,23 @@ overflow_add-from c =
 pub loop-h-smaller : goal.loop-h-smaller
 loop-h-smaller c =
     let i = kept-key (taken (goal.at.loop-h-smaller c).After-take_tile-answer) in
-    let n = i.before.next-key in
-    living_fewer (turned (goal.at.loop-h-smaller c).After-take_tile-answer).loop.inv.1.keyed n.result n.ensures (key_left i)
+    let n = i.next_key-least in
+    living_fewer (turned (goal.at.loop-h-smaller c).After-take_tile-answer).loop-h.invariant.1.keyed n.result n.ensures (key_left i)
 
 pub loop-h-preserved : goal.loop-h-preserved
 loop-h-preserved c =
     let l = turned (goal.at.loop-h-preserved c).After-take_tile-answer in
     let i = kept-key (taken (goal.at.loop-h-preserved c).After-take_tile-answer) in
     let a = (start l).args in
-    let n = i.before.next-key in
+    let n = i.next_key-least in
     let t = get_or a.order.now n.result.at 0 in
-    let turn = l.loop.inv.1 in
+    let turn = l.loop-h.invariant.1 in
     let d = and_then_accepted (opening_of a.f.now a.h t) _
     (told serving_outcome c.take_tile-answer.ensures.0 c.in-Served.is) in
     let same = rw d.1 at (slices-taken (goal.at.loop-h-preserved c).After-take_tile-answer) in
     let next = tile_next turn n.result n.ensures (key_left i) (not_full (taken (goal.at.loop-h-preserved c).After-take_tile-answer)) d.0 d.1 (tile-below i)
-    (omega (arith, (start l).pre.marks, turn.long)) (sym (accepted_injective d.2)) in (
-      length-set l.loop.keys n.result.at none ∙ l.loop.inv.0,
+    (omega (arith, (start l).requires.marks-1, turn.long)) (sym (accepted_injective d.2)) in (
+      length-set l.loop-h.keys-1 n.result.at none ∙ l.loop-h.invariant.0,
       rw same next,
-      passed_next l.loop.keys (length a.order.now) n.result n.ensures (key_left i) turn.keyed.long,
+      passed_next l.loop-h.keys-1 (length a.order.now) n.result n.ensures (key_left i) turn.keyed.long,
     )
