@@ -68,7 +68,7 @@ served : (x : After-serve_stop-answer) →
     let a = (start (gathering l)).args in
     StopServed a.f.now a.h (stop l.loop-i.invariant.1 (a-stop (start (gathering l)) b.loop-i-test.taken)) a.k
     l.loop-i.at
-    (lent l.loop-i.dist-1 l.loop-i.site-1 l.loop-i.cue-1 l.loop-i.marks-1) (serving_outcome x.serve_stop-answer.result)
+    (lent l.loop-i.dist l.loop-i.site l.loop-i.cue l.loop-i.marks) (serving_outcome x.serve_stop-answer.result)
     (lent x.serve_stop-answer.new.dist x.serve_stop-answer.new.site
     x.serve_stop-answer.new.cue x.serve_stop-answer.new.marks)
 served x =

@@ -50,9 +50,9 @@ not_full : (c : Else-last_ahead) →
     let l = head i in
     let r = i.next_key-least.result in
     last_ahead (start l).args.target.k
-    (places (lists l.loop-h.dist-1 l.loop-h.site-1 l.loop-h.cue-1) (start l).args.target.at l.loop-h.used)
+    (places (lists l.loop-h.dist l.loop-h.site l.loop-h.cue) (start l).args.target.at l.loop-h.used)
     r.key (get_or (start l).args.order.now r.at 0) ≡ false
-not_full c = sym (c.last_ahead.ensures (head (kept-key c)).loop-h.cue-1) ∙ c.if-last_ahead.false
+not_full c = sym (c.last_ahead.ensures (head (kept-key c)).loop-h.cue) ∙ c.if-last_ahead.false
 
 -- after it the slices are still as long
 abbrev taken : After-take_tile-answer → Else-last_ahead
@@ -70,7 +70,7 @@ slices-taken : (x : After-take_tile-answer) →
     lent x.take_tile-answer.new.dist x.take_tile-answer.new.site
     x.take_tile-answer.new.cue x.take_tile-answer.new.marks
     ≡ after_tile a.h t a.target l.loop-h.used (opening_of a.f.now a.h t)
-    (lent l.loop-h.dist-1 l.loop-h.site-1 l.loop-h.cue-1 l.loop-h.marks-1)
+    (lent l.loop-h.dist l.loop-h.site l.loop-h.cue l.loop-h.marks)
 slices-taken x = x.take_tile-answer.ensures.1
 
 pub fill_keys-requires : goal.fill_keys-requires
@@ -123,7 +123,7 @@ pub returns-then-last_ahead : goal.returns-then-last_ahead
 returns-then-last_ahead c =
     let l = head (goal.at.returns-then-last_ahead c).Else-key in
     let n = c.next_key-least in
-    let full = sym (c.last_ahead.ensures l.loop-h.cue-1) ∙ c.if-last_ahead.true in
+    let full = sym (c.last_ahead.ensures l.loop-h.cue) ∙ c.if-last_ahead.true in
     tile_full l.loop-h.invariant.1 n.result n.ensures (key_left (goal.at.returns-then-last_ahead c).Else-key) full
 
 pub take_tile-answer-requires : goal.take_tile-answer-requires
@@ -184,7 +184,7 @@ loop-h-preserved c =
     let same = rw d.1 at (slices-taken (goal.at.loop-h-preserved c).After-take_tile-answer) in
     let next = tile_next turn n.result n.ensures (key_left i) (not_full (taken (goal.at.loop-h-preserved c).After-take_tile-answer)) d.0 d.1 (tile-below i)
     (omega (arith, (start l).requires.marks-1, turn.long)) (sym (accepted_injective d.2)) in (
-      length-set l.loop-h.keys-1 n.result.at none ∙ l.loop-h.invariant.0,
+      length-set l.loop-h.keys n.result.at none ∙ l.loop-h.invariant.0,
       rw same next,
-      passed_next l.loop-h.keys-1 (length a.order.now) n.result n.ensures (key_left i) turn.keyed.long,
+      passed_next l.loop-h.keys (length a.order.now) n.result n.ensures (key_left i) turn.keyed.long,
     )
