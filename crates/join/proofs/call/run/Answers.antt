@@ -121,7 +121,7 @@ pub clear_places-requires : goal.clear_places-requires
 clear_places-requires c =
     let a = c.requires.1.args in
     let n = all-places (goal.at.clear_places-requires c).Start in
-    (omega (arith, n, a.dist-1), (omega (arith, n, a.site-1), omega (arith, n, a.cue-1)))
+    (omega (arith, n, a.dist), (omega (arith, n, a.site), omega (arith, n, a.cue)))
 
 pub around-requires : goal.around-requires
 around-requires c =
@@ -130,7 +130,7 @@ around-requires c =
 
 pub mark_pruned-pruned-requires : goal.mark_pruned-pruned-requires
 mark_pruned-pruned-requires c =
-    (c.requires.1.dir, c.requires.1.args.marks-1, rw (box (goal.at.mark_pruned-pruned-requires c).After-around) (region c.requires.1))
+    (c.requires.1.dir, c.requires.1.args.marks, rw (box (goal.at.mark_pruned-pruned-requires c).After-around) (region c.requires.1))
 
 pub gather_stops-requires : goal.gather_stops-requires
 gather_stops-requires c =
@@ -161,7 +161,7 @@ serve-requires c =
 
 pub count_opened-opened-requires : goal.count_opened-opened-requires
 count_opened-opened-requires c =
-    omega (arith, (lengths (goal.at.count_opened-opened-requires c).After-serve).3, (start (pruning (goal.at.count_opened-opened-requires c).After-serve)).requires.1.args.marks-1)
+    omega (arith, (lengths (goal.at.count_opened-opened-requires c).After-serve).3, (start (pruning (goal.at.count_opened-opened-requires c).After-serve)).requires.1.args.marks)
 
 pub overflow_cast-result : goal.overflow_cast-result
 overflow_cast-result c =

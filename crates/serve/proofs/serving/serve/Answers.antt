@@ -91,11 +91,11 @@ kept : (x : After-serve_stop-answer) → let a = (start (gathering (head (turned
 kept x =
     let t = (head (turned x)).loop-i.invariant.1 in
     let s = x.serve_stop-answer.auto.1.1.1.1.1 in
-    (s.0 ∙ t.lengths.dist-1, s.1.0 ∙ t.lengths.site-1, s.1.1.0 ∙ t.lengths.cue-1, s.1.1.1.0 ∙ t.long)
+    (s.0 ∙ t.lengths.dist, s.1.0 ∙ t.lengths.site, s.1.1.0 ∙ t.lengths.cue, s.1.1.1.0 ∙ t.long)
 
 pub gather-m-requires : goal.gather-m-requires
 gather-m-requires c =
-    (c.requires.1.dir, c.requires.1.marks-1, tiles_few c.args.f.now c.args.h c.requires.1.dir)
+    (c.requires.1.dir, c.requires.1.marks, tiles_few c.args.f.now c.args.h c.requires.1.dir)
 
 pub loop-i-init : goal.loop-i-init
 loop-i-init c =
@@ -142,7 +142,7 @@ serve_stop-answer-requires c =
       list = stop_ready t (a-stop s below) s.requires.1.some s.requires.1.long;
       room =
           omega (arith, few-gathered g, c.loop-i.invariant.0, length-take g.gather-m.result g.gather-m.last.1.1.1.0);
-      marks = omega (arith, s.requires.1.marks-1, t.long);
+      marks = omega (arith, s.requires.1.marks, t.long);
       opens = t.opens;
     }
 
@@ -161,7 +161,7 @@ clear_places-requires c =
 
 pub clear8-requires : goal.clear8-requires
 clear8-requires c =
-    omega (arith, (kept (goal.at.clear8-requires c).After-serve_stop-answer).3, (start (gathering (head (turned (goal.at.clear8-requires c).After-serve_stop-answer)))).requires.1.marks-1)
+    omega (arith, (kept (goal.at.clear8-requires c).After-serve_stop-answer).3, (start (gathering (head (turned (goal.at.clear8-requires c).After-serve_stop-answer)))).requires.1.marks)
 
 pub shape_of-dist-in_default : goal.shape_of-dist-in_default
 shape_of-dist-in_default c =

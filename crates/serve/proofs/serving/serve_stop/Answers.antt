@@ -85,8 +85,8 @@ loop-h-init c =
     let f = a.f.now in
     let order = a.order.now in
     let e = c.fill_keys.ensures in
-    let keyed = keyed_start f a.h p.dir p.stop order p.tiles a.keys-1.now p.room p.rise in
-    let all = living_start f a.h p.dir p.stop order p.tiles a.keys-1.now p.room in (
+    let keyed = keyed_start f a.h p.dir p.stop order p.tiles a.keys.now p.room p.rise in
+    let all = living_start f a.h p.dir p.stop order p.tiles a.keys.now p.room in (
       refl,
       tile_starts f a.h order a.target o p.list (rw e keyed) (rw e all) p.opens,
       passed_none _ (length order),
@@ -135,7 +135,7 @@ take_tile-answer-requires c =
       tile = record { dir = p.dir; below = tile-below (goal.at.take_tile-answer-requires c).Else-key };
       stop = p.stop;
       list = t.ready;
-      marks = omega (arith, p.marks-1, t.long);
+      marks = omega (arith, p.marks, t.long);
       opens = t.opens;
     }
 
@@ -183,7 +183,7 @@ loop-h-preserved c =
     (told serving_outcome c.take_tile-answer.ensures.0 c.in-Served.is) in
     let same = rw d.1 at (slices-taken (goal.at.loop-h-preserved c).After-take_tile-answer) in
     let next = tile_next turn n.result n.ensures (key_left i) (not_full (taken (goal.at.loop-h-preserved c).After-take_tile-answer)) d.0 d.1 (tile-below i)
-    (omega (arith, (start l).requires.marks-1, turn.long)) (sym (accepted_injective d.2)) in (
+    (omega (arith, (start l).requires.marks, turn.long)) (sym (accepted_injective d.2)) in (
       length-set l.loop-h.keys n.result.at none ∙ l.loop-h.invariant.0,
       rw same next,
       passed_next l.loop-h.keys (length a.order.now) n.result n.ensures (key_left i) turn.keyed.long,
