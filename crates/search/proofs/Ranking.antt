@@ -35,10 +35,10 @@ strict_left : {A : Type 0} (lt : A → A → Bool) (l m : List A) → Strict lt 
 strict_left lt [] m s = tt
 strict_left lt (x ∷ l) m s = (all_left (λ y. lt x y ≡ true) l m s.0, strict_left lt l m s.1)
 
-strict_across : {A : Type 0} (lt : A → A → Bool) (l m : List A) {x y : A} → Strict lt (l ++ m) → Memᴰ x l
+strict_across : {A : Type 0} (lt : A → A → Bool) {x y : A} (l m : List A) → Strict lt (l ++ m) → Memᴰ x l
     → Memᴰ y m
     → lt x y ≡ true
-strict_across lt l m {x} {y} s (Memᴰ.head {x = z} {xs = k} e) n =
+strict_across lt {x} {y} l m s (Memᴰ.head {x = z} {xs = k} e) n =
     rw e (all_mem (λ w. lt z w ≡ true) s.0 (Memᴰ.append_right k n))
 strict_across lt l m s (Memᴰ.tail {xs = k} h) n = strict_across lt k m s.1 h n
 
