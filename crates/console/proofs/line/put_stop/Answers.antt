@@ -18,7 +18,8 @@ after-number c =
 after-colon : (c : After-put_text-after_colon) → (c.put_text-after_colon.result + (1 + place_room * c.args.used) ≤ length c.put_text-after_colon.new.0)
 after-colon c =
     room_after (2 + place_room * c.args.used) (1 + place_room * c.args.used) c.put_text-after_colon.ensures
-    (after-number search) (omega arith)
+    (room_after (words_room + place_room * c.args.used) (2 + place_room * c.args.used) c.put_labelled-after_number.ensures
+    (omega (arith, c.requires.0)) (omega (arith, labelled_64 (text_bytes "stop ") c.args.i c.ranges.i.fits))) (omega arith)
 
 -- the places are short, since their numbers fit
 few_bytes : (c : After-shared_slice_known-3-1) → (let a = c.args in
@@ -30,7 +31,9 @@ few_bytes c =
 
 after-places : (c : After-put_places-after_places) → c.put_places-after_places.result + 1 ≤ length c.put_places-after_places.new.0
 after-places c =
-    room_after (1 + place_room * c.args.used) 1 c.put_places-after_places.ensures (after-colon search)
+    room_after (1 + place_room * c.args.used) 1 c.put_places-after_places.ensures (room_after (2 + place_room * c.args.used) (1 + place_room * c.args.used) c.put_text-after_colon.ensures
+    (room_after (words_room + place_room * c.args.used) (2 + place_room * c.args.used) c.put_labelled-after_number.ensures
+    (omega (arith, c.requires.0)) (omega (arith, labelled_64 (text_bytes "stop ") c.args.i c.ranges.i.fits))) (omega arith))
     (omega (arith, few_bytes search))
 
 pub put_labelled-after_number-requires : goal.put_labelled-after_number-requires
@@ -46,7 +49,7 @@ put_places-after_places-requires c =
     (omega (arith, after-colon (goal.at.put_places-after_places-requires c).After-put_text-after_colon), c.requires.1)
 
 pub put_text-requires : goal.put_text-requires
-put_text-requires c = after-places search
+put_text-requires c = after-places (goal.at.put_text-requires c).After-put_places-after_places
 
 pub returns : goal.returns
 unfolding stop_line

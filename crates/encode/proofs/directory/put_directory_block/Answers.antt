@@ -38,7 +38,7 @@ entries_due-n-requires c =
 
 pub entry_offset-used-requires : goal.entry_offset-used-requires
 entry_offset-used-requires c =
-    (c.requires.0, few search)
+    (c.requires.0, few (goal.at.entry_offset-used-requires c).After-entries_due-n)
 
 pub overflow_mul-entries_per_block : goal.overflow_mul-entries_per_block
 overflow_mul-entries_per_block c =
@@ -67,12 +67,12 @@ put_entries-next-requires c =
 
 pub overflow_add-at-4 : goal.overflow_add-at-4
 overflow_add-at-4 c =
-    let end = used-end search in
+    let end = used-end (goal.at.overflow_add-at-4 c).After-entry_offset-used in
     search rules
 
 pub put_zeros-requires-2 : goal.put_zeros-requires-2
 put_zeros-requires-2 c =
-    let end = used-end search in
+    let end = used-end (goal.at.put_zeros-requires-2 c).After-entry_offset-used in
     search rules
 
 pub put_checksum-requires : goal.put_checksum-requires

@@ -58,14 +58,14 @@ returns-then-not-valid_k c = rw (sym c.valid_k.ensures ∙ c.if-not-valid_k.true
 pub returns-then-not-stops_due : goal.returns-then-not-stops_due
 unfolding arguments
 returns-then-not-stops_due c =
-    rw (k-good search, sym c.stops_due.ensures ∙ c.if-not-stops_due.true)
+    rw (k-good (goal.at.returns-then-not-stops_due c).Else-not-valid_k, sym c.stops_due.ensures ∙ c.if-not-stops_due.true)
 
 pub returns-then-h-axes : goal.returns-then-h-axes
 unfolding arguments cols all
 returns-then-h-axes c =
     let h = c.args.h in
     let e = axes-of (goal.at.returns-then-h-axes c).Start ∙ ne_eqb h.axes c.args.axes (omega (arith, c.if-h-axes.true)) in
-    rw (k-good search, stops-good search, e)
+    rw (k-good (goal.at.returns-then-h-axes c).Else-not-valid_k, stops-good (goal.at.returns-then-h-axes c).Else-not-stops_due, e)
 
 pub valid_stops-requires : goal.valid_stops-requires
 unfolding cols all
@@ -78,9 +78,9 @@ valid_stops-requires c =
 pub returns-then-not-valid_stops : goal.returns-then-not-valid_stops
 unfolding arguments cols all
 returns-then-not-valid_stops c = rw (
-  k-good search,
-  stops-good search,
-  axes-good search,
+  k-good (goal.at.returns-then-not-valid_stops c).Else-not-valid_k,
+  stops-good (goal.at.returns-then-not-valid_stops c).Else-not-stops_due,
+  axes-good (goal.at.returns-then-not-valid_stops c).Else-h-axes,
   sym c.valid_stops.ensures ∙ not-true c.valid_stops.result c.if-not-valid_stops.true,
 )
 
@@ -93,19 +93,19 @@ overflow_mul-n c =
 pub returns-then-not-room : goal.returns-then-not-room
 unfolding arguments cols all
 returns-then-not-room c = rw (
-  k-good search,
-  stops-good search,
-  axes-good search,
-  spots-good search,
+  k-good (goal.at.returns-then-not-room c).Else-not-valid_k,
+  stops-good (goal.at.returns-then-not-room c).Else-not-stops_due,
+  axes-good (goal.at.returns-then-not-room c).Else-h-axes,
+  spots-good (goal.at.returns-then-not-room c).Else-not-valid_stops,
   room-told (goal.at.returns-then-not-room c).After-room ∙ not-true c.room.result c.if-not-room.true,
 )
 
 pub returns : goal.returns
 unfolding arguments cols all
 returns c = rw (
-  k-good search,
-  stops-good search,
-  axes-good search,
-  spots-good search,
+  k-good (goal.at.returns c).Else-not-valid_k,
+  stops-good (goal.at.returns c).Else-not-stops_due,
+  axes-good (goal.at.returns c).Else-h-axes,
+  spots-good (goal.at.returns c).Else-not-valid_stops,
   room-told (goal.at.returns c).After-room ∙ not-false c.room.result c.if-not-room.false,
 )

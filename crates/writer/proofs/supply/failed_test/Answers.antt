@@ -61,7 +61,7 @@ lists c =
 
 pass-4 : (c : Else-not-lists_fit) →
     lists_fit (site_total c.args.counts.now) (given s).spots c.args.cues.now ≡ true
-pass-4 c = passed (lists search) c.if-not-lists_fit.false
+pass-4 c = passed (c.lists_fit.ensures ∙ ap (λ n. lists_fit n (given s).spots c.args.cues.now) c.sum_of.ensures) c.if-not-lists_fit.false
 
 -- what is left of the tests
 after-4 : (c : Else-not-lists_fit) →
@@ -93,15 +93,15 @@ pub overflow_mul-numbers_per_box : goal.overflow_mul-numbers_per_box
 overflow_mul-numbers_per_box c =
     let n = length c.args.counts.now in
     let six : numbers_per_box c.args.axes * n ≤ 6 * n = mul-le-mul_right n (omega (arith, c.requires.0.1)) in
-    omega (arith, due c, six, (tiles_fit_good _ (pass-1 search)).1)
+    omega (arith, due c, six, (tiles_fit_good _ (pass-1 (goal.at.overflow_mul-numbers_per_box c).Else-not-tiles_fit)).1)
 
 pub returns-then-boxes-numbers_per_box : goal.returns-then-boxes-numbers_per_box
 unfolding write_tests
 returns-then-boxes-numbers_per_box c =
     let a = c.args in
     let other = ne_eqb (length a.boxes.now) (numbers_per_box a.axes * length a.counts.now)
-    (λ e. c.if-boxes-numbers_per_box.true (e ∙ sym (due search))) in
-    rw (own-axes (goal.at.returns-then-boxes-numbers_per_box c).Start, pass-1 search, other)
+    (λ e. c.if-boxes-numbers_per_box.true (e ∙ sym (due (goal.at.returns-then-boxes-numbers_per_box c).After-numbers_per_box))) in
+    rw (own-axes (goal.at.returns-then-boxes-numbers_per_box c).Start, pass-1 (goal.at.returns-then-boxes-numbers_per_box c).Else-not-tiles_fit, other)
 
 pub entries_fit-requires : goal.entries_fit-requires
 entries_fit-requires c = (c.requires.0, numbers c)
@@ -109,13 +109,13 @@ entries_fit-requires c = (c.requires.0, numbers c)
 pub returns-then-not-entries_fit : goal.returns-then-not-entries_fit
 unfolding write_tests
 returns-then-not-entries_fit c =
-    rw (own-axes (goal.at.returns-then-not-entries_fit c).Start, pass-1 search, pass-2 search, failed c.entries_fit.ensures c.if-not-entries_fit.true)
+    rw (own-axes (goal.at.returns-then-not-entries_fit c).Start, pass-1 (goal.at.returns-then-not-entries_fit c).Else-not-tiles_fit, pass-2 (goal.at.returns-then-not-entries_fit c).Else-boxes-numbers_per_box, failed c.entries_fit.ensures c.if-not-entries_fit.true)
 
 pub sum_of-requires : goal.sum_of-requires
 sum_of-requires c =
     let a = c.args in (
       c.requires.0,
-      (tiles_fit_good _ (pass-1 search)).1,
+      (tiles_fit_good _ (pass-1 (goal.at.sum_of-requires c).Else-not-tiles_fit)).1,
       λ t h. (entry_fits_good a.axes a.boxes.now a.counts.now t
           (every_at (entry_fits a.axes a.boxes.now a.counts.now) (length a.counts.now) t (pass-3 c) h)).1,
     )
@@ -123,7 +123,7 @@ sum_of-requires c =
 pub returns-then-not-lists_fit : goal.returns-then-not-lists_fit
 unfolding write_tests
 returns-then-not-lists_fit c =
-    rw (own-axes (goal.at.returns-then-not-lists_fit c).Start, pass-1 search, pass-2 search, pass-3 search, failed (lists search) c.if-not-lists_fit.true)
+    rw (own-axes (goal.at.returns-then-not-lists_fit c).Start, pass-1 (goal.at.returns-then-not-lists_fit c).Else-not-tiles_fit, pass-2 (goal.at.returns-then-not-lists_fit c).Else-boxes-numbers_per_box, pass-3 (goal.at.returns-then-not-lists_fit c).Else-not-entries_fit, failed (lists (goal.at.returns-then-not-lists_fit c).After-lists_fit) c.if-not-lists_fit.true)
 
 pub tiles_inside-inside-requires : goal.tiles_inside-inside-requires
 tiles_inside-inside-requires c =
@@ -131,19 +131,19 @@ tiles_inside-inside-requires c =
     let l = lists_good (site_total a.counts.now) (given (goal.at.tiles_inside-inside-requires c).Start).spots a.cues.now (pass-4 c) in
     let n = columns-long a.axes (site_total a.counts.now) a.xs.now a.ys.now a.zs.now c.requires l.0
     in
-    (c.requires.0, numbers search, n.0, n.1, n.2)
+    (c.requires.0, numbers (goal.at.tiles_inside-inside-requires c).Else-boxes-numbers_per_box, n.0, n.1, n.2)
 
 pub file_length-requires : goal.file_length-requires
 file_length-requires c =
-    let few = (tiles_fit_good _ (pass-1 search)).1 in
+    let few = (tiles_fit_good _ (pass-1 (goal.at.file_length-requires c).Else-not-tiles_fit)).1 in
     rw c.header_of.ensures (c.requires.0, few)
 
 pub returns-then-not-inside : goal.returns-then-not-inside
 returns-then-not-inside c =
-    rw (after-4 search, failed c.tiles_inside-inside.ensures c.if-not-inside.true)
+    rw (after-4 (goal.at.returns-then-not-inside c).Else-not-lists_fit, failed c.tiles_inside-inside.ensures c.if-not-inside.true)
 
 pub returns-then-not-fits : goal.returns-then-not-fits
-returns-then-not-fits c = rw (after-4 search, pass-5 search, failed (fits search) c.if-not-fits.true)
+returns-then-not-fits c = rw (after-4 (goal.at.returns-then-not-fits c).Else-not-lists_fit, pass-5 (goal.at.returns-then-not-fits c).Else-not-inside, failed (fits (goal.at.returns-then-not-fits c).After-file_length) c.if-not-fits.true)
 
 pub returns : goal.returns
-returns c = rw (after-4 search, pass-5 search, passed (fits search) c.if-not-fits.false)
+returns c = rw (after-4 (goal.at.returns c).Else-not-lists_fit, pass-5 (goal.at.returns c).Else-not-inside, passed (fits (goal.at.returns c).After-file_length) c.if-not-fits.false)

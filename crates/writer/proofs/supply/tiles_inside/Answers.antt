@@ -46,23 +46,23 @@ box_of-requires c =
     (c.requires.0, omega (arith, within, c.requires.1))
 
 pub sites_fit-requires : goal.sites_fit-requires
-sites_fit-requires c = omega (arith, sites-within search, c.requires)
+sites_fit-requires c = omega (arith, sites-within (goal.at.sites_fit-requires c).After-wide-n, c.requires)
 
 pub returns-then-not-sites_fit : goal.returns-then-not-sites_fit
 returns-then-not-sites_fit c =
     let a = c.args in
     sym (every_fails (fit (goal.at.returns-then-not-sites_fit c).Start)
-    (length a.counts.now) c.loop-t.t (search rules) (failed (tile-tested search) c.if-not-sites_fit.true))
+    (length a.counts.now) c.loop-t.t (search rules) (failed (tile-tested (goal.at.returns-then-not-sites_fit c).After-sites_fit) c.if-not-sites_fit.true))
 
 pub overflow_add-first : goal.overflow_add-first
-overflow_add-first c = omega (arith, sites-within search, c.requires)
+overflow_add-first c = omega (arith, sites-within (goal.at.overflow_add-first c).After-wide-n, c.requires)
 
 pub loop-t-preserved : goal.loop-t-preserved
 loop-t-preserved c =
     let next = offset_next c.args.counts.now c.loop-t.t in (
       omega (arith, next, c.loop-t.invariant.0, c.wide-n.ensures),
       search rules,
-      below_more _ _ c.loop-t.invariant.2 (passed (tile-tested search) c.if-not-sites_fit.false),
+      below_more _ _ c.loop-t.invariant.2 (passed (tile-tested (goal.at.loop-t-preserved c).After-sites_fit) c.if-not-sites_fit.false),
     )
 
 pub returns : goal.returns

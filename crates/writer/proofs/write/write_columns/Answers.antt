@@ -55,13 +55,13 @@ returns-then-failed-ne0 c =
 pub put_directory-requires : goal.put_directory-requires
 unfolding file_length
 put_directory-requires c =
-    let g = good search in
+    let g = good (goal.at.put_directory-requires c).Else-failed-ne0 in
     (c.requires.0, omega (arith, g.1), rw (own-axes (goal.at.put_directory-requires c).Start) at g.0.numbers, g.0.most, g.0.cues)
 
 pub put_tiles-requires : goal.put_tiles-requires
 put_tiles-requires c =
-    let g = good search in
-    let l = columns search in (
+    let g = good (goal.at.put_tiles-requires c).Else-failed-ne0 in
+    let l = columns (goal.at.put_tiles-requires c).Else-failed-ne0 in (
       c.requires.0,
       omega (arith, g.1, c.put_directory.kept.0),
       g.0.most,
@@ -74,14 +74,14 @@ put_tiles-requires c =
 
 pub file_length-requires : goal.file_length-requires
 file_length-requires c =
-    let g = good search in
+    let g = good (goal.at.file_length-requires c).Else-failed-ne0 in
     rw c.header_of.ensures (c.requires.0, g.0.most)
 
 pub returns : goal.returns
 returns c =
     let a = c.args in
     let s = given (goal.at.returns c).Start in
-    let e = call_accepted s (length a.out.now) (accepted-tests search) in (
+    let e = call_accepted s (length a.out.now) (accepted-tests (goal.at.returns c).Else-failed-ne0) in (
       ap accepted (c.file_length.ensures ∙ ap file_length c.header_of.ensures
           ∙ ap (λ n. file_length (header_of n a.counts.now)) (sym (own-axes (goal.at.returns c).Start))) ∙ sym e,
       file_row s a.out.now {d₁ = c.put_directory.new.d} (rw (own-axes (goal.at.returns c).Start) c.put_directory.ensures)
