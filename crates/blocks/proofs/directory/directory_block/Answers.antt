@@ -69,9 +69,6 @@ passed-padding : (c : Else-not-directory_padding) →
     directory_padding c.args.first.axes c.args.s.now n ≡ true
 passed-padding c = passed (c.directory_padding.ensures ∙ ap (directory_padding c.args.first.axes c.args.s.now) (c.entries_due-due.ensures.0 ∙ ap (λ k. entries_due k c.args.p) c.header_in-h.ensures.0)) c.if-not-directory_padding.false
 
-abbrev back : Else-not-tiles_due → Else-start-ne0
-back c = search
-
 -- the block's axes, by its kind, are block 0's
 axes : (c : After-header_in-h) →
     c.header_in-h.result.axes ≡ c.args.first.axes
@@ -153,7 +150,7 @@ pub returns-then-not-entries_valid : goal.returns-then-not-entries_valid
 unfolding directory_block
 returns-then-not-entries_valid c =
     c.refused-then-not-entries_valid.ensures ∙ sym (rw (
-      passed_start (back (goal.at.returns-then-not-entries_valid c).Else-not-tiles_due),
+      passed_start (goal.at.returns-then-not-entries_valid c).Else-start-ne0,
       passed_length (goal.at.returns-then-not-entries_valid c).Else-not-length_fits,
       passed-position (goal.at.returns-then-not-entries_valid c).Else-u16_at-p,
       passed-tiles (goal.at.returns-then-not-entries_valid c).Else-not-tiles_due,
@@ -166,7 +163,7 @@ pub returns : goal.returns
 unfolding directory_block
 returns c =
     sym (rw (
-      passed_start (back (goal.at.returns c).Else-not-tiles_due),
+      passed_start (goal.at.returns c).Else-start-ne0,
       passed_length (goal.at.returns c).Else-not-length_fits,
       passed-position (goal.at.returns c).Else-u16_at-p,
       passed-tiles (goal.at.returns c).Else-not-tiles_due,
