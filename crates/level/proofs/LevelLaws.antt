@@ -12,13 +12,13 @@ use native.Mathlib.Nat.{mul-pos, mul-le-mul, mul-le-mul_left, mul-le-mul_right, 
 use native.Mathlib.Nat.{zero-mul, mul-one}
 use native.Mathlib.Omega.{arith}
 use lib.Dec.{T, lit<, leb→le, ltb→lt, lt→ltb}
-use lib.Ieee.{Float, nan, inf, fin, binary64, low, prec, up, down, round, add, lt, le, of_bits}
+use lib.Ieee.{Float, nan, inf, fin, binary64, low, prec, up, down, round, lt, le, of_bits}
 use lib.Ieee.Fits.{up_pos}
 use lib.Ieee.Order.{round_mono}
 use lib.Ieee.Positive.{positive, positive-finite, between}
 use lib.Ieee.Scale.{grid, overflow, round_same, round_under}
 use Rattle.level.specs.Claims.{zero, half, one, least_level, Sounds}
-use Rattle.level.specs.Level.{max_reach, last_heard, float, quotient, level_of}
+use Rattle.level.specs.Level.{max_reach, last_heard, quotient, level_of}
 use Rattle.level.proofs.CallLaws.{square_most}
 use Rattle.level.proofs.Nearest.{round_nearest}
 use Rattle.level.proofs.Strict.{Large, round_strict}
