@@ -100,7 +100,7 @@ module _ (closer : ℕ → ℕ → Bool) where
   place_next (t ∷ l) q (suc i) h = place_next l q.1 i (omega arith)
 
   -- an element stands at a place
-  place_of : {l : List ℕ} {x : ℕ} → Memᴰ x l → (i : ℕ) × (i < length l) × (get_or l i 0 ≡ x)
+  place_of : {x : ℕ} {l : List ℕ} → Memᴰ x l → (i : ℕ) × (i < length l) × (get_or l i 0 ≡ x)
   place_of (Memᴰ.head e) = (0, omega arith, sym e)
   place_of (Memᴰ.tail m) = let r = place_of m in (suc r.0, omega (arith, r.1), r.2)
 
