@@ -121,7 +121,8 @@ module _ (closer : ℕ → ℕ → Bool) where
         (λ i h. low (suc i) (omega arith)),
   )
     where
-      first : (a : ℕ) → (i : ℕ) × (i < length (t ∷ l)) × (get_or (t ∷ l) i 0 ≡ a) → closer a t ≡ true → closer a t ≡ false
+      first : (a : ℕ) → (i : ℕ) × (i < length (t ∷ l)) × (get_or (t ∷ l) i 0 ≡ a) → closer a t ≡ true
+          → closer a t ≡ false
       first a (i, h, q) e = absurd (let k = after i 0 h (omega arith) (rw q e) in omega arith)
 
   -- ---- the steps
@@ -132,7 +133,8 @@ module _ (closer : ℕ → ℕ → Bool) where
     pub once : Distinct l
     pub nexts : EachNext l
 
-  one_more : (left : List ℕ) (t : ℕ) (l : List ℕ) → IsNext closer left t → InSteps (without t left) l → InSteps left (t ∷ l)
+  one_more : (left : List ℕ) (t : ℕ) (l : List ℕ) → IsNext closer left t → InSteps (without t left) l
+      → InSteps left (t ∷ l)
   one_more left t l q r = record {
     same = same;
     once = (mem_all l (λ y m. (mem_without t left ((r.same y).1 m)).1), r.once);
