@@ -313,4 +313,5 @@ range_length a (suc n) = ap suc (range_length (suc a) n)
 pub range_get_d : (a n i : ℕ) → i < n → get_or (range a n) i 0 ≡ a + i
 range_get_d a zero i h = absurd (omega arith)
 range_get_d a (suc n) zero h = sym (add-zero a)
-range_get_d a (suc n) (suc i) h = let u : suc a + i ≡ a + suc i = omega arith in range_get_d (suc a) n i (omega arith) ∙ u
+range_get_d a (suc n) (suc i) h =
+    let u : suc a + i ≡ a + suc i = omega arith in range_get_d (suc a) n i (omega arith) ∙ u

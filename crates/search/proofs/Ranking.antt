@@ -197,7 +197,8 @@ module _ {G : Geometry} (E : Directory G) (k : ℕ) where
         → (Memᴰ b (first_of E k p g) → ⊥)
         → rank a b ≡ true
     first_rest a b m s out = go (Memᴰ.append_cases (first_of E k p g)
-        (rw parts (mem_perm b (Permᴰ.symm (sort_is_perm rank (places_of G p g (range 0 tiles)))) (site-placed p g b s))))
+        (rw parts (mem_perm b (Permᴰ.symm (sort_is_perm rank (places_of G p g (range 0 tiles))))
+        (site-placed p g b s))))
       where
         go : Memᴰ b (first_of E k p g) ⊎ Memᴰ b (drop k sorted) → rank a b ≡ true
         go (inl h) = absurd (out h)
