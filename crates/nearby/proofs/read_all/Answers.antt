@@ -15,7 +15,7 @@ got-fits c =
     let d = c.loop-done.done in
     let more = c.more-1.given in
     let got : more.0.0 ≤ length c.read_some-more.new.buf = rw more.1 at c.read_some-more.ensures in
-    let kept : length c.read_some-more.new.buf ≡ length (mid_of d (length b - d) b) = c.read_some-more.kept.1.0 in
+    let kept : length c.read_some-more.new.buf ≡ length (mid_of d (length b - d) b) = c.read_some-more.auto.buf in
     omega (arith, got, kept, length-take (length b - d) (drop d b), length-drop d b)
 
 pub overflow_add-done : goal.overflow_add-done
@@ -25,5 +25,5 @@ pub loop-done-preserved : goal.loop-done-preserved
 loop-done-preserved c =
     let b = c.loop-done.buf in
     let d = c.loop-done.done in
-    let same = same_len_mid d (length b - d) b c.read_some-more.new.buf c.read_some-more.kept.1.0 in
+    let same = same_len_mid d (length b - d) b c.read_some-more.new.buf c.read_some-more.auto.buf in
     (rw same (got-fits c), same ∙ c.loop-done.invariant.1)

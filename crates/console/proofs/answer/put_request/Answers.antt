@@ -61,14 +61,14 @@ slice_bounds-put_join-start c = fits c
 
 pub slice_bounds-xs-end : goal.slice_bounds-xs-end
 slice_bounds-xs-end c =
-    omega (arith, c.stop_count-n.ensures, (request (goal.at.slice_bounds-xs-end c).Start).few, c.read_coordinates.kept.1.1.1.0)
+    omega (arith, c.stop_count-n.ensures, (request (goal.at.slice_bounds-xs-end c).Start).few, c.read_coordinates.auto.out)
 
 pub slice_bounds-put_join-end-2 : goal.slice_bounds-put_join-end-2
 slice_bounds-put_join-end-2 c = xs-length (goal.at.slice_bounds-put_join-end-2 c).After-read_coordinates
 
 pub slice_bounds-ys-end : goal.slice_bounds-ys-end
 slice_bounds-ys-end c =
-    omega (arith, c.stop_count-n.ensures, (request (goal.at.slice_bounds-ys-end c).Start).few, c.read_coordinates-2.kept.1.1.1.0)
+    omega (arith, c.stop_count-n.ensures, (request (goal.at.slice_bounds-ys-end c).Start).few, c.read_coordinates-2.auto.out)
 
 pub slice_bounds-put_join-end-3 : goal.slice_bounds-put_join-end-3
 slice_bounds-put_join-end-3 c = ys-length (goal.at.slice_bounds-put_join-end-3 c).After-read_coordinates-2

@@ -33,7 +33,7 @@ pub loop-left-preserved : goal.loop-left-preserved
 loop-left-preserved c =
     let a = c.args in
     let p = c.put_i32 in
-    let k : length p.new.d ≡ length c.loop-left.d = p.kept.0 in
+    let k : length p.new.d ≡ length c.loop-left.d = p.auto.d in
     let m = numbers_per_box a.axes in
     let g : ℕ → List ℕ = λ k. bytes_signed (box_number a.axes a.boxes.now a.t k) in
     let z = get_or a.boxes.now c.loop-left.i (pos 0) in
@@ -47,7 +47,7 @@ loop-left-preserved c =
       omega (arith, k, c.loop-left.invariant.3),
       ap (λ j. over p.new.d (c.loop-left.at + 4) (joined g j (c.loop-left.left - 1))) next
           ∙ joined_turn g c.loop-left.d c.loop-left.at (c.loop-left.at + 4) (m - c.loop-left.left) c.loop-left.left
-          (search rules) wrote (ap (λ w. c.loop-left.at + (goal.at.loop-left-preserved c).After-put_i32) (sym (length-number _))) ∙ c.loop-left.invariant.4,
+          (search rules) wrote (ap (λ w. c.loop-left.at + w) (sym (length-number _))) ∙ c.loop-left.invariant.4,
     )
 
 pub returns : goal.returns

@@ -50,7 +50,7 @@ put_directory_block-site-requires c =
 pub loop-left-preserved : goal.loop-left-preserved
 loop-left-preserved c =
     let p = c.put_directory_block-site in
-    let k : length p.new.d ≡ length c.loop-left.d = p.kept.0 in
+    let k : length p.new.d ≡ length c.loop-left.d = p.auto.d in
     let a = c.args in
     let w = length-directory_block a.axes a.boxes.now a.counts.now a.cues.now c.loop-left.p in (
       omega (arith, c.loop-left.invariant, c.loop-left-test),

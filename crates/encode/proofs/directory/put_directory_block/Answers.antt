@@ -28,8 +28,9 @@ few c =
 
 used-end : (c : After-entry_offset-used) → c.entry_offset-used.result ≤ check_at
 used-end c =
+    let due = c.entries_due-n.ensures.0 ∙ ap (λ h. entries_due h c.args.p) c.header_of.ensures in
     rw c.entry_offset-used.ensures.1 (entries_end c.args.axes c.entries_due-n.result c.requires.0
-    (few c))
+    (rw due (due_few (header_of c.args.axes c.args.counts.now) c.args.p)))
 
 pub entries_due-n-requires : goal.entries_due-n-requires
 entries_due-n-requires c =
@@ -58,7 +59,7 @@ put_entries-next-requires c =
     let last : c.entries_per_block.result * a.p + c.entries_due-n.result ≤ length a.counts.now =
     omega (arith, within, d, first) in (
       c.requires.0,
-      omega (arith, end, c.requires.1, c.put_head.auto.0, c.put_zeros.auto.0),
+      omega (arith, end, c.requires.1, c.put_head.auto.d, c.put_zeros.auto.d),
       rw c.requires.2 (mul-le-mul_left (numbers_per_box a.axes) last),
       last,
       c.requires.5,
@@ -80,10 +81,10 @@ put_checksum-requires c =
     omega (
       arith,
       c.requires.1,
-      c.put_head.auto.0,
-      c.put_zeros.auto.0,
-      c.put_entries-next.auto.0,
-      c.put_zeros-2.auto.0,
+      c.put_head.auto.d,
+      c.put_zeros.auto.d,
+      c.put_entries-next.auto.d,
+      c.put_zeros-2.auto.d,
     )
 
 pub returns : goal.returns

@@ -23,7 +23,7 @@ loop-left-preserved c =
     let one = one-part (entry_size a.axes) c.loop-left.left c.loop-left-test.true in
     let z = c.entry_size-at.ensures in
     let wide = length_entry a.axes a.boxes.now a.counts.now a.cues.now c.loop-left.t in
-    let k : length p.new.d ≡ length c.loop-left.d = p.kept.0 in (
+    let k : length p.new.d ≡ length c.loop-left.d = p.auto.d in (
       omega (arith, k, c.loop-left.invariant),
       omega (arith, k, c.loop-left.invariant),
       search rules,
@@ -31,7 +31,7 @@ loop-left-preserved c =
       p.ensures.1,
       joined_turn (entry_bytes a.axes a.boxes.now a.counts.now a.cues.now) c.loop-left.d c.loop-left.at
           (c.loop-left.at + c.entry_size-at.result) c.loop-left.t c.loop-left.left (search rules) p.ensures.0
-          (ap (λ w. c.loop-left.at + (goal.at.loop-left-preserved c).After-put_entry-next) (z ∙ sym wide))
+          (ap (λ w. c.loop-left.at + w) (z ∙ sym wide))
           ∙ c.loop-left.invariant.5,
     )
 

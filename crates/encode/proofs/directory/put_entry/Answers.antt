@@ -36,7 +36,7 @@ returns c =
           c.put_box.ensures
           (c.put_u16.ensures ∙ ap (λ k. over c.put_box.new.d (a.at + k) (bytes16 c.wide-n.result))
           c.count_offset.ensures
-          ∙ ap (λ n. over c.put_box.new.d (a.at + count_offset a.axes) (bytes16 (goal.at.returns c).After-put_u16)) e)
+          ∙ ap (λ n. over c.put_box.new.d (a.at + count_offset a.axes) (bytes16 n)) e)
           (c.put_u16-2.ensures
           ∙ ap (λ k. over c.put_u16.new.d (a.at + k) (bytes16 c.muted_from.result))
           c.muted_offset.ensures

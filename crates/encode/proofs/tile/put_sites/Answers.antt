@@ -22,7 +22,7 @@ loop-left-preserved c =
     let p = c.put_site in
     let one = one-part (site_size a.axes) c.loop-left.left c.loop-left-test.true in
     let z = c.site_size-at.ensures in
-    let k : length p.new.d ≡ length c.loop-left.d = p.kept.0 in (
+    let k : length p.new.d ≡ length c.loop-left.d = p.auto.d in (
       omega (arith, k, c.loop-left.invariant),
       omega (arith, k, c.loop-left.invariant),
       search rules,
@@ -31,7 +31,7 @@ loop-left-preserved c =
       search rules,
       joined_turn (site_bytes a.axes spots a.cues.now) c.loop-left.d c.loop-left.at
           (c.loop-left.at + c.site_size-at.result) c.loop-left.i c.loop-left.left (search rules) p.ensures
-          (ap (λ w. c.loop-left.at + (goal.at.loop-left-preserved c).After-put_site) (z ∙ sym (length_site a.axes spots a.cues.now c.loop-left.i)))
+          (ap (λ w. c.loop-left.at + w) (z ∙ sym (length_site a.axes spots a.cues.now c.loop-left.i)))
           ∙ c.loop-left.invariant.6,
     )
 

@@ -64,7 +64,7 @@ pub loop-t-preserved : goal.loop-t-preserved
 loop-t-preserved c =
     let a = c.args in
     let p = c.put_tile in
-    let k : length p.new.d ≡ length c.loop-t.d = p.kept.0 in
+    let k : length p.new.d ≡ length c.loop-t.d = p.auto.d in
     let n = c.wide-n.ensures.0 in
     let spots = take a.axes (a.xs.now ∷ a.ys.now ∷ a.zs.now ∷ []) in
     let g = tile_bytes_of a.axes a.counts.now spots a.cues.now in

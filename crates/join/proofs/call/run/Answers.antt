@@ -104,10 +104,10 @@ lengths : (v : After-serve) → let a = (start (pruning v)).args in
     × (length v.serve.new.marks ≡ length a.marks.now)
 lengths v =
     let s = v.serve.auto.1.1.1.1 in (
-      s.0 ∙ v.clear_places.kept.0,
-      s.1.0 ∙ v.clear_places.kept.1.0,
-      s.1.1.0 ∙ v.clear_places.kept.1.1.0,
-      s.1.1.1.0 ∙ (pruning v).mark_pruned-pruned.auto.1.1.1.1.0,
+      s.0 ∙ v.clear_places.auto.dist,
+      s.1.0 ∙ v.clear_places.auto.site,
+      s.1.1.0 ∙ v.clear_places.auto.cue,
+      s.1.1.1.0 ∙ (pruning v).mark_pruned-pruned.auto.marks,
     )
 
 -- ---- it was served
@@ -149,7 +149,7 @@ slice_bounds-serve-end c =
       arith,
       s.requires.1.args.few,
       count s,
-      c.gather_stops.kept.1.1.1.0,
+      c.gather_stops.auto.stops,
       length-take (length s.args.xs.now) c.gather_stops.new.stops,
     )
 

@@ -120,7 +120,7 @@ slice_bounds-serve_stop-end c =
     omega (
       arith,
       few-gathered g,
-      g.gather-m.kept.1.1.1.0,
+      g.gather-m.auto.order,
       length-take g.gather-m.result g.gather-m.last.1.1.1.0,
     )
 
@@ -165,19 +165,19 @@ clear8-requires c =
 
 pub shape_of-dist-in_default : goal.shape_of-dist-in_default
 shape_of-dist-in_default c =
-    c.clear_places.kept.0 ∙ (kept (goal.at.shape_of-dist-in_default c).After-serve_stop-answer).0
+    c.clear_places.auto.dist ∙ (kept (goal.at.shape_of-dist-in_default c).After-serve_stop-answer).0
 
 pub shape_of-site-in_default : goal.shape_of-site-in_default
 shape_of-site-in_default c =
-    c.clear_places.kept.1.0 ∙ (kept (goal.at.shape_of-site-in_default c).After-serve_stop-answer).1
+    c.clear_places.auto.site ∙ (kept (goal.at.shape_of-site-in_default c).After-serve_stop-answer).1
 
 pub shape_of-cue-in_default : goal.shape_of-cue-in_default
 shape_of-cue-in_default c =
-    c.clear_places.kept.1.1.0 ∙ (kept (goal.at.shape_of-cue-in_default c).After-serve_stop-answer).2
+    c.clear_places.auto.cue ∙ (kept (goal.at.shape_of-cue-in_default c).After-serve_stop-answer).2
 
 pub shape_of-marks-in_default : goal.shape_of-marks-in_default
 shape_of-marks-in_default c =
-    c.clear8.kept.0 ∙ (kept (goal.at.shape_of-marks-in_default c).After-serve_stop-answer).3
+    c.clear8.auto.d ∙ (kept (goal.at.shape_of-marks-in_default c).After-serve_stop-answer).3
 
 pub returns-in_default : goal.returns-in_default
 returns-in_default c =
@@ -204,7 +204,7 @@ pub loop-i-preserved : goal.loop-i-preserved
 loop-i-preserved c =
     let b = turned (goal.at.loop-i-preserved c).After-serve_stop-answer in
     let t = (head b).loop-i.invariant in (
-      c.serve_stop-answer.kept.1.1.1.1.0 ∙ t.0,
+      c.serve_stop-answer.auto.keys ∙ t.0,
       stop_next t.1 (a-stop (start (gathering (head b))) b.loop-i-test.taken) (served (goal.at.loop-i-preserved c).After-serve_stop-answer) _
           (ap serving_outcome c.in-Served.is),
     )

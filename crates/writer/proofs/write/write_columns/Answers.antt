@@ -63,7 +63,7 @@ put_tiles-requires c =
     let g = good (goal.at.put_tiles-requires c).Else-failed-ne0 in
     let l = columns (goal.at.put_tiles-requires c).Else-failed-ne0 in (
       c.requires.0,
-      omega (arith, g.1, c.put_directory.kept.0),
+      omega (arith, g.1, c.put_directory.auto.d),
       g.0.most,
       rw (own-axes (goal.at.put_tiles-requires c).Start) at g.0.counts,
       l.0,
