@@ -105,7 +105,7 @@ returns c =
           (c.put_head.ensures ∙ ap (λ k. over a.d.now at (head_bytes k a.p n t)) c.directory_kind.ensures)
           c.put_zeros.ensures
           (c.put_entries-next.ensures.0
-          ∙ ap (λ k. over c.put_zeros.new.0 (at + payload_at) (joined g k n)) from) c.put_zeros-2.ensures
+          ∙ ap (λ k. over c.put_zeros.new.d (at + payload_at) (joined g k n)) from) c.put_zeros-2.ensures
           c.put_checksum.ensures
           ∙ ap (λ k. over a.d.now at (block_bytes (head_bytes kind a.p k t) (joined g first k))) (due (goal.at.returns c).After-entries_due-n),
       c.put_entries-next.ensures.1 ∙ ap (λ k. offset a.counts.now (k + n)) from
