@@ -18,7 +18,7 @@ use Rattle.prune.proofs.call.prune_accepted.Goals.{Else-h-axes, Else-not-valid_b
 -- what the tests passed show
 good_k : (c : Else-not-valid_k) → valid_k c.args.k ≡ true
 good_k c =
-    sym c.valid_k.ensures ∙ not-false c.valid_k.result c.if-not-valid_k.false
+    sym c.valid_k.ensures ∙ c.if-not-valid_k.false
 
 same-axes : (c : Else-h-axes) → c.args.h.axes ≡ c.args.axes
 same-axes c = c.if-h-axes.false
@@ -32,7 +32,7 @@ good-axes c = rw (axes-are s) (eq-eqb _ _ (same-axes c))
 
 good-box : (c : Else-not-valid_box) → valid_box (take c.args.axes c.args.o) ≡ true
 good-box c =
-    sym c.valid_box.ensures ∙ not-false c.valid_box.result c.if-not-valid_box.false
+    sym c.valid_box.ensures ∙ c.if-not-valid_box.false
 
 most : (s : Start) → s.args.h.tiles ≤ max_tiles
 most s = tiles_few s.args.f.now s.args.h s.requires.0
@@ -40,7 +40,7 @@ most s = tiles_few s.args.f.now s.args.h s.requires.0
 pub returns-then-not-valid_k : goal.returns-then-not-valid_k
 unfolding prune_call marks_after
 returns-then-not-valid_k c =
-    let bad = sym c.valid_k.ensures ∙ not-true c.valid_k.result c.if-not-valid_k.true in
+    let bad = sym c.valid_k.ensures ∙ c.if-not-valid_k.true in
     rw (c.requires.0, bad) (c.refused.ensures, refl)
 
 pub returns-then-h-axes : goal.returns-then-h-axes
@@ -51,7 +51,7 @@ returns-then-h-axes c =
 pub returns-then-not-valid_box : goal.returns-then-not-valid_box
 unfolding prune_call marks_after
 returns-then-not-valid_box c =
-    let bad = sym c.valid_box.ensures ∙ not-true c.valid_box.result c.if-not-valid_box.true in
+    let bad = sym c.valid_box.ensures ∙ c.if-not-valid_box.true in
     rw (c.requires.0, good_k (goal.at.returns-then-not-valid_box c).Else-not-valid_k, good-axes (goal.at.returns-then-not-valid_box c).Else-h-axes, bad) (c.refused-then-not-valid_box.ensures, refl)
 
 pub returns-then-marks-h : goal.returns-then-marks-h
