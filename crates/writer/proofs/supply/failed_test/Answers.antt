@@ -16,7 +16,9 @@ use Rattle.base.proofs.Tests.{passed, failed}
 use Rattle.writer.specs.Write.{tiles_fit, entry_fits, lists_fit, tile_fits, write_tests}
 use Rattle.writer.proofs.WriteLaws.{tiles_fit_good, entry_fits_good, lists_good, columns_axes, columns-long}
 use Rattle.writer.proofs.supply.failed_test.Goals as goal
-use Rattle.writer.proofs.supply.failed_test.Goals.{After-file_length, After-lists_fit, After-numbers_per_box, Else-boxes-numbers_per_box, Else-not-entries_fit, Else-not-inside, Else-not-lists_fit, Else-not-tiles_fit, Start}
+use Rattle.writer.proofs.supply.failed_test.Goals.{After-file_length, After-lists_fit, After-numbers_per_box}
+use Rattle.writer.proofs.supply.failed_test.Goals.{Else-boxes-numbers_per_box, Else-not-entries_fit, Else-not-inside}
+use Rattle.writer.proofs.supply.failed_test.Goals.{Else-not-lists_fit, Else-not-tiles_fit, Start}
 
 -- the columns of the axes
 abbrev spots : ℕ → List ℤ → List ℤ → List ℤ → List (List ℤ)
@@ -130,7 +132,12 @@ pub returns-then-not-entries_fit : goal.returns-then-not-entries_fit
 unfolding write_tests
 returns-then-not-entries_fit c =
     let at = goal.at.returns-then-not-entries_fit c in
-    rw (own-axes at.Start, pass-1 at.Else-not-tiles_fit, pass-2 at.Else-boxes-numbers_per_box, failed c.entries_fit.ensures c.if-not-entries_fit.true)
+    rw (
+      own-axes at.Start,
+      pass-1 at.Else-not-tiles_fit,
+      pass-2 at.Else-boxes-numbers_per_box,
+      failed c.entries_fit.ensures c.if-not-entries_fit.true,
+    )
 
 pub sum_of-requires : goal.sum_of-requires
 sum_of-requires c =
@@ -145,7 +152,13 @@ pub returns-then-not-lists_fit : goal.returns-then-not-lists_fit
 unfolding write_tests
 returns-then-not-lists_fit c =
     let at = goal.at.returns-then-not-lists_fit c in
-    rw (own-axes at.Start, pass-1 at.Else-not-tiles_fit, pass-2 at.Else-boxes-numbers_per_box, pass-3 at.Else-not-entries_fit, failed (lists at.After-lists_fit) c.if-not-lists_fit.true)
+    rw (
+      own-axes at.Start,
+      pass-1 at.Else-not-tiles_fit,
+      pass-2 at.Else-boxes-numbers_per_box,
+      pass-3 at.Else-not-entries_fit,
+      failed (lists at.After-lists_fit) c.if-not-lists_fit.true,
+    )
 
 pub tiles_inside-inside-requires : goal.tiles_inside-inside-requires
 tiles_inside-inside-requires c =
@@ -169,9 +182,11 @@ returns-then-not-inside c =
 pub returns-then-not-fits : goal.returns-then-not-fits
 returns-then-not-fits c =
     let at = goal.at.returns-then-not-fits c in
-    rw (after-4 at.Else-not-lists_fit, pass-5 at.Else-not-inside, failed (fits at.After-file_length) (lt-leb _ _ c.if-not-fits.true))
+    let long = failed (fits at.After-file_length) (lt-leb _ _ c.if-not-fits.true) in
+    rw (after-4 at.Else-not-lists_fit, pass-5 at.Else-not-inside, long)
 
 pub returns : goal.returns
 returns c =
     let at = goal.at.returns c in
-    rw (after-4 at.Else-not-lists_fit, pass-5 at.Else-not-inside, passed (fits at.After-file_length) (le-leb _ _ c.if-not-fits.false))
+    let short = passed (fits at.After-file_length) (le-leb _ _ c.if-not-fits.false) in
+    rw (after-4 at.Else-not-lists_fit, pass-5 at.Else-not-inside, short)

@@ -25,7 +25,8 @@ sites-within : (c : After-wide-n) →
     c.loop-t.first + c.wide-n.result ≤ site_total c.args.counts.now
 sites-within c =
     let counts = c.args.counts.now in
-    omega (arith, c.loop-t.invariant.0, c.wide-n.ensures, offset_within counts c.loop-t.t (length counts) (search rules))
+    let within = offset_within counts c.loop-t.t (length counts) (search rules) in
+    omega (arith, c.loop-t.invariant.0, c.wide-n.ensures, within)
 
 -- what the call answers is the test of the tile
 tile-tested : (c : After-sites_fit) →

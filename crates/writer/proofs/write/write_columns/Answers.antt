@@ -61,7 +61,8 @@ pub put_directory-requires : goal.put_directory-requires
 unfolding file_length
 put_directory-requires c =
     let g = good (goal.at.put_directory-requires c).Else-failed-ne0 in
-    (c.requires.0, omega (arith, g.1), rw (own-axes (goal.at.put_directory-requires c).Start) at g.0.numbers, g.0.most, g.0.cues)
+    let axes = own-axes (goal.at.put_directory-requires c).Start in
+    (c.requires.0, omega (arith, g.1), rw axes at g.0.numbers, g.0.most, g.0.cues)
 
 pub put_tiles-requires : goal.put_tiles-requires
 put_tiles-requires c =
