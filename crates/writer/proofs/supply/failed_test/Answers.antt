@@ -10,7 +10,7 @@ use borrow.Author.Tests.{le-leb, lt-leb, eq-eqb, ne_eqb}
 use Rattle.base.specs.Refusal.{accepted, require, #stray, #short}
 use Rattle.base.specs.Every.{every}
 use Rattle.encode.specs.Encode.{file_length}
-use Rattle.encode.specs.Supply.{Supply, supply, axes_of, header_of, numbers_per_box, site_total}
+use Rattle.encode.specs.Supply.{supply, header_of, numbers_per_box, site_total}
 use Rattle.base.proofs.Every.{every_at}
 use Rattle.base.proofs.Tests.{passed, failed}
 use Rattle.writer.specs.Write.{tiles_fit, entry_fits, lists_fit, tile_fits, write_tests}
