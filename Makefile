@@ -8,24 +8,28 @@ CC = gcc
 
 .PHONY: run lib libraries install uninstall version test bench
 
+# rt knows itself what has to be proved again, and leaves what it made in out/ of the crate's folder. The next `rt ci`
+# clears that folder, so the program and the library are copied to target/.
+program = mkdir -p target/bin && \
+    { (cd crates/nearby && rt run </dev/null) >target/run.log 2>&1 || { cat target/run.log; exit 1; }; } && \
+    install -m 755 crates/nearby/out/nearby target/bin/nearby
+archive = mkdir -p target/lib && \
+    { (cd crates/host && rt lib) >target/lib.log 2>&1 || { cat target/lib.log; exit 1; }; } && \
+    install -m 644 crates/host/out/libhost.a target/lib/libnearby.a
+
 run:
-	@mkdir -p target
 	@echo "proving and building the program; the first time takes some minutes"
-	@rt check nearby >target/run.log 2>&1 || { cat target/run.log; exit 1; }
+	@$(program)
 	python3 examples/ask.py samples/riverside.town 3 1200,3000 2600,3100 4100,3200 5600,3200 | target/bin/nearby
 
-# rt knows itself what has to be proved again. target/class is where the commands of the documents put their files.
+# target/class is where the commands of the documents put their files.
 lib:
 	@mkdir -p target/class
-	@rt staticlib host >target/lib.log 2>&1 || { cat target/lib.log; exit 1; }
+	@$(archive)
 	@$(MAKE) --silent --no-print-directory libraries
 	@echo "target/lib/libnearby.a and target/lib/libnearby.so, with include/nearby.h"
 
 libraries: target/lib/libnearby.a target/lib/libnearby.so
-
-target/lib/libnearby.a: target/staticlib/libhost.a
-	@mkdir -p target/lib
-	@cp $< $@
 
 # The linker refuses a symbol that neither the archive nor the C library has.
 target/lib/libnearby.so.1: target/lib/libnearby.a
@@ -36,13 +40,11 @@ target/lib/libnearby.so: target/lib/libnearby.so.1
 	@ln -sf libnearby.so.1 $@
 
 # Only where they are missing: make install takes what was built last, and proves nothing anew.
-target/staticlib/libhost.a:
-	@mkdir -p target
-	@rt staticlib host >target/lib.log 2>&1 || { cat target/lib.log; exit 1; }
+target/lib/libnearby.a:
+	@$(archive)
 
 target/bin/nearby:
-	@mkdir -p target
-	@rt check nearby >target/run.log 2>&1 || { cat target/run.log; exit 1; }
+	@$(program)
 
 # The tool for towns is a script and its modules: they go to lib/nearby, and bin/nearby-town is a link to the script.
 tree = $(DESTDIR)$(PREFIX)

@@ -17,7 +17,7 @@ of those definitions. What it comes to has to stand where a reader looks for it:
 
 Printed are the number of definitions to believe and of their lines, without comments and imports, for each crate and in
 all. README.md has to say the numbers in all. With --unbelieved also the definitions of specs/ that no statement rests
-on: these belong to specs/Inner/. Names of the library (Prim, mathlib, lib, ..) are not followed. A variable that is
+on: these belong to specs/Inner/. Names of the library (Prim, mathlib, Rattle.std, ..) are not followed. A variable that is
 called like a definition in scope counts as that definition: this can only name too much.
 
 use: believed.py [--unbelieved] [ROOT]
@@ -27,10 +27,12 @@ import sys
 from pathlib import Path
 
 WORD = re.compile(r"[^\s(){};,⌜⌝⟦⟧]+")
-USE = re.compile(r"(?:pub |ghost )?use ([^\s;]+?)(?:\.\{(.*)\}| as ([^\s;]+))?;?$")
+USE = re.compile(r"(?:pub |ghost )*use ([^\s;]+?)(?:\.\{(.*)\}| as ([^\s;]+))?;?$")
+USE_OF_CODE = re.compile(r"(?:pub )?use ([^.;]*);")
 HEAD = re.compile(r"(?:(abbrev|unfoldable) )?(pub )?(?:(record|data) )?([^\s(){};,]+)(?=\s)(.*)", re.S)
-LOGIC = re.compile(r"Rattle·(\w+)(?:·specs|·proofs)?\.(specs|proofs)\.(.*)")
+LOGIC = re.compile(r"Rattle\.(\w+)\.(specs|proofs)\.(.*)")
 STRUCT = re.compile(r"^(?:pub )?(?:struct|enum) (\w+).*?[;}]$", re.M | re.S)
+CLAUSE = re.compile(r"\b(requires|ensures)( \w+)? (?=\{)")
 CONTRACT = r"((?: +(?:requires|ensures)\b.*?)?)"
 FUNCTION = re.compile(r"^(?:pub )?(?:extern \S+ )?fn (\w+)(.*?)(?: \{$|\n" + CONTRACT + r"^\{)", re.M | re.S)
 INNER = re.compile(r"crates/\w+/(proofs/|specs/Inner[./])")
@@ -62,11 +64,12 @@ class Source:
         (self.read_code if file.endswith(".rt") else self.read_logic)(bare(text))
 
     def read_use(self, text):
+        code = USE_OF_CODE.fullmatch(" ".join(text.split()))
+        if code:
+            self.types.update(used(code[1]))
+            return
         path, names, alias = USE.match(" ".join(text.split())).groups()
-        if "::" in path:
-            module, _, name = path.rpartition("::")
-            self.types[alias or name] = (module, name)
-        elif names is None:
+        if names is None:
             self.aliases[alias or path.split(".")[-1]] = path
         else:
             for name in filter(None, map(str.strip, names.split(","))):
@@ -112,7 +115,9 @@ class Source:
             self.add(item[1], "type", item[0], "", re.findall(r"\w+", item[0]))
         for item in FUNCTION.finditer(text):
             parameters = re.findall(r"(\w+):", item[2])
-            words = [word for word in WORD.findall(item[3] or "") if word not in parameters]
+            # the name of a clause is no name of the logic
+            clauses = CLAUSE.sub(r"\1 ", item[3] or "")
+            words = [word for word in WORD.findall(clauses) if word not in parameters]
             self.add("fn " + item[1], "contract", item[0], " ".join(words), re.findall(r"\w+", item[2]))
 
 
@@ -128,9 +133,29 @@ def chunks(text):
     return re.split(r"\n(?=\S)", "\n".join(line[depth:] for line in text.splitlines())) if text else []
 
 
+def used(tree, above=""):
+    """What a `use` of the code brings in: each name with its module and its name there. Braces hold parts of a path."""
+    depth, part, parts = 0, "", []
+    for letter in tree + ",":
+        depth += (letter == "{") - (letter == "}")
+        if letter == "," and not depth:
+            parts.append(part.strip())
+            part = ""
+        else:
+            part += letter
+    for part in filter(None, parts):
+        head, brace, inside = part.partition("{")
+        if brace:
+            yield from used(inside.removesuffix("}"), above + head)
+        else:
+            path, _, alias = (above + part).partition(" as ")
+            module, _, name = path.removesuffix("::self").rpartition("::")
+            yield alias or name, (module, name)
+
+
 def spoken(name):
-    """The words by which a name is used: those of an operator stand between its underscores."""
-    return [part for part in name.split("_") if part] if "_" in (name[0], name[-1]) else [name]
+    """The words by which a name is used: those of an operator stand between its circles, ◌."""
+    return [part for part in name.split("◌") if part] if "◌" in name else [name]
 
 
 class Tree:
@@ -139,6 +164,7 @@ class Tree:
     def __init__(self, root):
         folders = ["specs/**/*.antt", "proofs/*.antt", "src/**/*.rt"]
         files = sorted(str(file.relative_to(root)) for folder in folders for file in root.glob("crates/*/" + folder))
+        self.crates = {file.split("/")[1] for file in files}
         self.sources = {file: Source(file, (root / file).read_text()) for file in files}
         self.all = [definition for source in self.sources.values() for definition in source.definitions]
         self.proof, self.readme = (root / "docs/PROOF.md").read_text(), (root / "README.md").read_text()
@@ -151,12 +177,12 @@ class Tree:
     def find(self, source, path, name):
         """What a module of the logic calls by a name; None where it is the library's."""
         logic = LOGIC.match(path)
-        if not logic:
+        if not logic or logic[1] not in self.crates:
             return None
         crate, folder, module = logic.groups()
         steps = module.split(".")
         if steps[0] == "declared":
-            *steps, name = [step for step in steps[1:] if step != "the-variants"]
+            *steps, name = [step for step in steps[1:] if step != "TheVariants"]
             target = self.code(crate, steps)
         else:
             target = self.sources.get(f"crates/{crate}/{folder}/{'/'.join(steps)}.antt")

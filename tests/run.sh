@@ -1,6 +1,6 @@
 #!/usr/bin/env bash
-# Every test. `rt ci` comes first, since it starts from nothing and leaves what the other parts are linked from; its
-# verdict, the last line it prints, is printed again at the end, once all the other parts have passed.
+# Every test. `rt ci` comes first: it takes the checkout as it stands, and trusts nothing that earlier commands made
+# there. Its verdict, the last line it prints, is printed again at the end, once all the other parts have passed.
 set -euo pipefail
 cd "$(dirname "$0")/.."
 log=$(mktemp)
@@ -17,9 +17,15 @@ if [ ${#missing[@]} -gt 0 ]; then
     apt-get install -y --no-install-recommends "${missing[@]}"
 fi
 
-rt fmt --check
 tests/believed.py
 rt ci | tee "$log"
+# An edit that cannot be applied or read fails nothing there, and shows nothing.
+if grep -E '^rt: ok.*, [1-9][0-9]* bad' "$log" >/dev/null; then
+    echo "run: some must-fail edits are bad, as told above: mend them" >&2
+    exit 1
+fi
+# The program as rt ci built and ran it. The library it only proves.
+install -D -m 755 crates/nearby/out/nearby target/bin/nearby
 make --no-print-directory lib
 tests/examples.sh
 tests/install.sh

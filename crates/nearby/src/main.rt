@@ -1,12 +1,13 @@
 // The program of document 01: standard input to standard output. All that it computes is `console::answer::respond`;
 // here is only what an operating system can refuse.
 #![tactic(auto)]
+
 ghost use Rattle.std.specs.Prelude.{length};
 ghost use Rattle.nearby.specs.Inner.Input.{InRoom};
 
 use console::answer::{ROOM, respond};
 use console::request::MAX_INPUT;
-use libc::{STDERR_FILENO, STDIN_FILENO, STDOUT_FILENO};
+use std::io::{Read, Write};
 
 // What was read: so many bytes, or an error, which is not taken for the end of the input.
 #[derive(Clone, Copy)]
@@ -16,23 +17,22 @@ enum Input {
 }
 
 // One read.
-fn read_some(fd: i32, buf: &mut [u8]) -> Input
+fn read_some<R: Read>(source: &mut R, buf: &mut [u8]) -> Input
     ensures { InRoom result (length buf.new) }
 {
-    let got = libc::read(fd, buf);
-    if got < 0 {
-        return Input::Failed;
+    match source.read(buf) {
+        Ok(got) => Input::Bytes(got),
+        Err(_) => Input::Failed,
     }
-    Input::Bytes(io::count(got, buf))
 }
 
 // Reads until the end of the input, or until the buffer is full.
-fn read_all(fd: i32, buf: &mut [u8]) -> Input
+fn read_all<R: Read>(source: &mut R, buf: &mut [u8]) -> Input
     ensures { InRoom result (length buf.new) }
 {
     let mut done: usize = 0;
     while done < buf.len() {
-        let more = read_some(fd, &mut buf[done..]);
+        let more = read_some(source, &mut buf[done..]);
         let Input::Bytes(got) = more else {
             return Input::Failed;
         };
@@ -44,20 +44,21 @@ fn read_all(fd: i32, buf: &mut [u8]) -> Input
     Input::Bytes(done)
 }
 
-fn main() {
+fn main(rt: HostRuntime) {
     // One byte more than is taken, so that a longer input is seen.
     let mut input = [0u8; MAX_INPUT + 1];
-    let read = read_all(STDIN_FILENO, &mut input);
+    let read = read_all(&mut rt.stdin(), &mut input);
     let Input::Bytes(n) = read else {
-        io::write_all(STDERR_FILENO, b"nearby: standard input cannot be read\n");
+        let _ = rt
+            .stderr()
+            .write_all(b"nearby: standard input cannot be read\n");
         return;
     };
     let mut out = [0u8; ROOM];
     let length = respond(&input[..n], &mut out);
-    if !io::write_all(STDOUT_FILENO, &out[..length]) {
-        io::write_all(
-            STDERR_FILENO,
-            b"nearby: standard output cannot be written\n",
-        );
+    if rt.stdout().write_all(&out[..length]).is_err() {
+        let _ = rt
+            .stderr()
+            .write_all(b"nearby: standard output cannot be written\n");
     }
 }
