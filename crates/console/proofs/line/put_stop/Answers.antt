@@ -13,13 +13,13 @@ use Rattle.console.proofs.line.put_stop.Goals.{After-put_labelled-after_number, 
 after-number : (c : After-put_labelled-after_number) → (c.put_labelled-after_number.result + (2 + place_room * c.args.used) ≤ length c.put_labelled-after_number.new.out)
 after-number c =
     room_after (words_room + place_room * c.args.used) (2 + place_room * c.args.used) c.put_labelled-after_number.ensures
-    (omega (arith, c.requires.0)) (omega (arith, labelled_64 (text_bytes "stop ") c.args.i c.ranges.i.fits))
+    (omega (arith, c.requires.used_in_bounds)) (omega (arith, labelled_64 (text_bytes "stop ") c.args.i c.ranges.i.fits))
 
 after-colon : (c : After-put_text-after_colon) → (c.put_text-after_colon.result + (1 + place_room * c.args.used) ≤ length c.put_text-after_colon.new.out)
 after-colon c =
     room_after (2 + place_room * c.args.used) (1 + place_room * c.args.used) c.put_text-after_colon.ensures
     (room_after (words_room + place_room * c.args.used) (2 + place_room * c.args.used) c.put_labelled-after_number.ensures
-    (omega (arith, c.requires.0)) (omega (arith, labelled_64 (text_bytes "stop ") c.args.i c.ranges.i.fits))) (omega arith)
+    (omega (arith, c.requires.used_in_bounds)) (omega (arith, labelled_64 (text_bytes "stop ") c.args.i c.ranges.i.fits))) (omega arith)
 
 -- the places are short, since their numbers fit
 few_bytes : (c : After-shared_slice_known-3-1) → (let a = c.args in
@@ -33,12 +33,12 @@ after-places : (c : After-put_places-after_places) → c.put_places-after_places
 after-places c =
     room_after (1 + place_room * c.args.used) 1 c.put_places-after_places.ensures (room_after (2 + place_room * c.args.used) (1 + place_room * c.args.used) c.put_text-after_colon.ensures
     (room_after (words_room + place_room * c.args.used) (2 + place_room * c.args.used) c.put_labelled-after_number.ensures
-    (omega (arith, c.requires.0)) (omega (arith, labelled_64 (text_bytes "stop ") c.args.i c.ranges.i.fits))) (omega arith))
+    (omega (arith, c.requires.used_in_bounds)) (omega (arith, labelled_64 (text_bytes "stop ") c.args.i c.ranges.i.fits))) (omega arith))
     (omega (arith, few_bytes search))
 
 pub put_labelled-after_number-requires : goal.put_labelled-after_number-requires
 put_labelled-after_number-requires c =
-    omega (arith, c.requires.0, digits_64 c.args.i c.ranges.i.fits)
+    omega (arith, c.requires.used_in_bounds, digits_64 c.args.i c.ranges.i.fits)
 
 pub put_text-after_colon-requires : goal.put_text-after_colon-requires
 put_text-after_colon-requires c =
@@ -46,7 +46,7 @@ put_text-after_colon-requires c =
 
 pub put_places-after_places-requires : goal.put_places-after_places-requires
 put_places-after_places-requires c =
-    (omega (arith, after-colon (goal.at.put_places-after_places-requires c).After-put_text-after_colon), c.requires.1)
+    (omega (arith, after-colon (goal.at.put_places-after_places-requires c).After-put_text-after_colon), c.requires.used_in_bounds_2)
 
 pub put_text-requires : goal.put_text-requires
 put_text-requires c = after-places (goal.at.put_text-requires c).After-put_places-after_places

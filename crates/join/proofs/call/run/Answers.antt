@@ -56,7 +56,7 @@ begins : (m : After-mark_pruned-pruned) →
     lent m.clear_places.new.dist m.clear_places.new.site m.clear_places.new.cue
     m.mark_pruned-pruned.new.marks ≡ started (start m).requires.1
 begins m =
-    begun (start m).requires.1 (rw (all-places (start m)) m.clear_places.ensures) (box a) m.mark_pruned-pruned.ensures.1
+    begun (start m).requires.1 (rw (all-places (start m)) m.clear_places.ensures) (box a) m.mark_pruned-pruned.ensures.marks_after
 
 abbrev before : After-gather_stops → After-mark_pruned-pruned
 before g = search
@@ -176,7 +176,7 @@ overflow_cast-result-in-Served-2 c =
     omega (arith, few (pruning (goal.at.overflow_cast-result-in-Served-2 c).After-serve), c.count_opened-opened.ensures.1)
 
 pub overflow_cast-result-in-Served-3 : goal.overflow_cast-result-in-Served-3
-overflow_cast-result-in-Served-3 c = omega (arith, few (goal.at.overflow_cast-result-in-Served-3 c).After-mark_pruned-pruned, c.mark_pruned-pruned.ensures.0.1)
+overflow_cast-result-in-Served-3 c = omega (arith, few (goal.at.overflow_cast-result-in-Served-3 c).After-mark_pruned-pruned, c.mark_pruned-pruned.ensures.value.1)
 
 pub shape_of-dist-in-Served : goal.shape_of-dist-in-Served
 shape_of-dist-in-Served c = (lengths (goal.at.shape_of-dist-in-Served c).After-serve).0
@@ -195,7 +195,7 @@ returns-in-Served c =
     let m = pruning (goal.at.returns-in-Served c).After-serve in
     let x = (start m).args in
     run_answers (start m).requires.1 (bytes m) (tried (goal.at.returns-in-Served c).After-serve) (ap serving_outcome c.in-Served.is)
-    (m.mark_pruned-pruned.ensures.0.0 ∙ ap (λ b. pruned_count (entries x.f.now x.h) b x.k) (box (goal.at.returns-in-Served c).After-around))
+    (m.mark_pruned-pruned.ensures.value.0 ∙ ap (λ b. pruned_count (entries x.f.now x.h) b x.k) (box (goal.at.returns-in-Served c).After-around))
     c.count_opened-opened.ensures.0
 
 pub shape_of-dist-in-Refused : goal.shape_of-dist-in-Refused
