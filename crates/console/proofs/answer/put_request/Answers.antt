@@ -6,7 +6,8 @@ use Rattle.console.specs.Output.{end_of}
 use Rattle.console.specs.Request.{coordinates, xs_of, ys_of, file_of, k_of, head_length}
 use Rattle.console.proofs.RequestLaws.{Whole, whole, length-coordinates, stored_all, rest_all}
 use Rattle.console.proofs.answer.put_request.Goals as goal
-use Rattle.console.proofs.answer.put_request.Goals.{After-head_length-start, After-read_coordinates, After-read_coordinates-2, Start}
+use Rattle.console.proofs.answer.put_request.Goals.{After-head_length-start, After-read_coordinates}
+use Rattle.console.proofs.answer.put_request.Goals.{After-read_coordinates-2, Start}
 
 -- the request is whole
 request : (s : Start) → Whole s.args.input.now

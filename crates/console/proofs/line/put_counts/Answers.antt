@@ -7,7 +7,8 @@ use Rattle.console.specs.Text.{text_bytes}
 use Rattle.console.proofs.LineLaws.{counts_short}
 use Rattle.console.proofs.TextLaws.{then, room_after, digits_32, labelled_32}
 use Rattle.console.proofs.line.put_counts.Goals as goal
-use Rattle.console.proofs.line.put_counts.Goals.{After-put_labelled-after_opened, After-put_labelled-after_pruned, After-put_labelled-after_tiles}
+use Rattle.console.proofs.line.put_counts.Goals.{After-put_labelled-after_opened, After-put_labelled-after_pruned}
+use Rattle.console.proofs.line.put_counts.Goals.{After-put_labelled-after_tiles}
 
 -- the room left after each part
 after-tiles : (c : After-put_labelled-after_tiles) →

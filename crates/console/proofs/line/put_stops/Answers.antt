@@ -22,7 +22,11 @@ put_stop-next-requires c =
         l.invariant.1,
         l.invariant.2,
       );
-      used_in_bounds_2 = (omega (arith, inside, lists.0), omega (arith, inside, lists.1), omega (arith, inside, lists.2));
+      used_in_bounds_2 = (
+        omega (arith, inside, lists.0),
+        omega (arith, inside, lists.1),
+        omega (arith, inside, lists.2),
+      );
     }
 
 pub loop-i-preserved : goal.loop-i-preserved
