@@ -1,9 +1,8 @@
-use Prim.Native.Nat.{◌+◌, ◌-◌, ◌≤◌}
+use Prim.Native.Nat.{◌+◌}
 use mathlib.Core.Path.{refl, ◌∙◌}
 use native.Mathlib.Omega.{arith}
 use lib.ListN.{get_or}
 use borrow.Author.Rules.{rules}
-use Rattle.console.specs.Inner.Room.{place_room}
 use Rattle.console.specs.Line.{places_text, text_at}
 use Rattle.console.proofs.LineLaws.{place_short}
 use Rattle.console.proofs.TextLaws.{parts_start, parts_turn, parts_end, same-room}

@@ -2,7 +2,7 @@ use Prim.Native.Nat.{◌+◌, ◌*◌, ◌≤◌}
 use native.Mathlib.Omega.{arith}
 use lib.ListN.{length}
 use Rattle.console.specs.Inner.Room.{words_room, place_room}
-use Rattle.console.specs.Line.{places_text, stop_line}
+use Rattle.console.specs.Line.{stop_line}
 use Rattle.console.specs.Text.{text_bytes}
 use Rattle.console.proofs.LineLaws.{places_short}
 use Rattle.console.proofs.TextLaws.{then, room_after, digits_64, labelled_64}
