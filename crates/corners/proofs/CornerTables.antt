@@ -19,7 +19,7 @@ use Rattle.geometry.specs.Axes.{KnownAxes}
 use Rattle.geometry.specs.Corners.{corners}
 use Rattle.geometry.specs.Distance.{max_dist}
 use Rattle.plan.specs.FilePlan.{space, entries}
-use Rattle.plan.specs.Inner.Seam.{ValidRegion, corner_of, corner_count, far}
+use Rattle.plan.specs.Inner.Seam.{ValidRegion, corner_count, far}
 use Rattle.base.proofs.Every.{every_fails, every-same}
 use Rattle.base.proofs.Tests.{by_test}
 use Rattle.geometry.proofs.Theorems.{by_axes}

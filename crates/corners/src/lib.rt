@@ -2,5 +2,6 @@
 // below near of b (plan's `closer_by_corners`), so each tile is measured once from each corner, and a pair of tiles
 // takes a comparison for each corner.
 #![tactic(auto)]
+
 pub mod compare;
 pub mod tables;

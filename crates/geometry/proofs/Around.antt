@@ -201,6 +201,7 @@ module _ (n : ℕ) where
   around-least [] h s [] e g q none = none
   around-least [] h s (t ∷ b) e g q i = absurd (omega arith)
   around-least (c ∷ cols) h s [] e g q i = absurd (omega arith)
+  around-least (c ∷ cols) h s (t ∷ b) e g [] i = elim i [ ]
   around-least (c ∷ cols) h s (t ∷ b) e g (x ∷ q) (more o i) =
       more (span_smallest c (omega (arith, h.0)) t (λ j l. first_on (g j (omega (arith, h.0)))) x o)
       (around-least cols h.1 s b (omega arith) (λ j l. rest_in (g j l)) q i)

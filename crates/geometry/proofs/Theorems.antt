@@ -108,7 +108,8 @@ pub around_smallest : (cols : List (List ℤ)) (n : ℕ) → 0 < n → All (λ c
 unfolding points
 around_smallest cols n some long v = record {
   axes = around_axes n cols;
-  valid = around-valid n cols long some (λ i l. rw (zero-add i) at (rows_at (λ p. valid_point p ≡ true) cols 0 n v i l));
+  valid = around-valid n cols long some
+      (λ i l. rw (zero-add i) at (rows_at (λ p. valid_point p ≡ true) cols 0 n v i l));
   holds = all-rows (λ p. inside (around cols) p ≡ true) cols 0 n
       (λ i l. rw (zero-add i) (in_test (around-holds n cols long i l)));
   smallest = λ b e h q i.

@@ -60,7 +60,8 @@ level_of_lem r d x e =
         same : level (level_of r d) ≡ level x → level_of r d ≡ x
         same e = cc
 
-pub answer_at : (r d a c : ℕ) (x : Float) → valid_reach r ≡ true → d ≤ last_heard r → 0 < c → r * r * c ≡ a * (r * r + d)
+pub answer_at : (r d a c : ℕ) (x : Float) → valid_reach r ≡ true → d ≤ last_heard r → 0 < c
+    → r * r * c ≡ a * (r * r + d)
     → round binary64 false a c ≡ x → level_call r d ≡ accepted (level x)
 unfolding level_call
 answer_at r d a c x v h C e b =

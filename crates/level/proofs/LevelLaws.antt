@@ -6,19 +6,19 @@
 --   falls, rises     the order of levels, by the distance and by the reach
 --   falls_strict     the strict form by the distance
 use Prim.Native.Nat.{ℕ, ◌+◌, ◌*◌, ◌^◌, ◌≤◌, ◌<◌}
-use mathlib.Core.Bool.{false}
+use mathlib.Core.Bool.{true, false}
 use mathlib.Core.Path.{◌≡◌, refl, sym, ◌∙◌}
 use native.Mathlib.Nat.{mul-pos, mul-le-mul, mul-le-mul_left, mul-le-mul_right, mul-lt-mul_of_pos_right}
 use native.Mathlib.Nat.{zero-mul, mul-one}
 use native.Mathlib.Omega.{arith}
 use lib.Dec.{T, lit<, leb→le, ltb→lt, lt→ltb}
-use lib.Ieee.{Float, fin, binary64, low, prec, up, down, round, add, lt, le, of_bits}
+use lib.Ieee.{Float, nan, inf, fin, binary64, low, prec, up, down, round, lt, le, of_bits}
 use lib.Ieee.Fits.{up_pos}
 use lib.Ieee.Order.{round_mono}
 use lib.Ieee.Positive.{positive, positive-finite, between}
 use lib.Ieee.Scale.{grid, overflow, round_same, round_under}
 use Rattle.level.specs.Claims.{zero, half, one, least_level, Sounds}
-use Rattle.level.specs.Level.{max_reach, last_heard, float, quotient, level_of}
+use Rattle.level.specs.Level.{max_reach, last_heard, quotient, level_of}
 use Rattle.level.proofs.CallLaws.{square_most}
 use Rattle.level.proofs.Nearest.{round_nearest}
 use Rattle.level.proofs.Strict.{Large, round_strict}
@@ -42,6 +42,9 @@ least_positive = tt
 
 positive_above : (x : Float) → T (positive x) → T (lt zero x)
 unfolding lt
+positive_above nan p = elim p [ ]
+positive_above (inf _) p = elim p [ ]
+positive_above (fin true m e) p = elim p [ ]
 positive_above (fin false m e) p =
     let k : 0 < m * up e = mul-pos (ltb→lt 0 m p) (up_pos e) in
     lt→ltb (0 * down e) (m * up e * 1) (rw (zero-mul (down e), mul-one (m * up e)) k)

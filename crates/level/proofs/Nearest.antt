@@ -18,6 +18,8 @@ use Rattle.level.proofs.Kept.{kept_le, kept_nearest}
 use Rattle.level.proofs.Units.{Units, in_units, away_units, away-units, order, equal, bits_of, same_units, parity}
 
 finite_value : (x : Float) (s : Bool) (h l : ℕ) → HasValue x s h l → T (finite x)
+finite_value nan s h l v = elim v [ ]
+finite_value (inf _) s h l v = elim v [ ]
 finite_value (fin t m e) s h l v = tt
 
 part_pos : (x : Float) → 0 < part x

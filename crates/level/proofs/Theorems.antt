@@ -1,5 +1,5 @@
--- The theorems of levels. The call is `level`, its definition `level_call`, and what is shown of it stands here. Assumes
--- nothing.
+-- The theorems of levels. The call is `level`, its definition `level_call`, and what is shown of it stands here.
+-- Assumes nothing.
 --
 --   cases_say                              the table of cases
 --   level_sounds                           what a level is: exact sums, one rounding, above 0 and at most 1
@@ -53,8 +53,8 @@ falls_with_distance r d e a b p q h =
         let l : d ≤ last_heard r = omega arith in
         rw (heard r d l, heard r e k) (falls r d e (within r d v l) (within r e v k) h)
 
-pub falls_strictly : (r d e : ℕ) (x y : Float) → level_call r d ≡ accepted (level x) → level_call r e ≡ accepted (level y)
-    → d < e → T (lt y x)
+pub falls_strictly : (r d e : ℕ) (x y : Float) → level_call r d ≡ accepted (level x)
+    → level_call r e ≡ accepted (level y) → d < e → T (lt y x)
 falls_strictly r d e x y p q h =
     let a = level_of_lem r d x p in
     let b = level_of_lem r e y q in

@@ -63,6 +63,8 @@ shifted f s m (negsuc i) M D =
 
 pub in_units : (f : Format) (y : Float) → T (fits f y) → T (finite y) → Units f y
 unfolding fits
+in_units f nan t g = elim g [ ]
+in_units f (inf _) t g = elim g [ ]
 in_units f (fin s zero e) t g = (
   s,
   0,

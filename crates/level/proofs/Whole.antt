@@ -10,7 +10,7 @@ use native.Mathlib.Nat.{mul-pos, zero-lt-suc, zero-mul, lt_irrefl}
 use native.Mathlib.Omega.{arith}
 use lib.Dec.{T, eqb, eqb-suc-zero, le→leb}
 use lib.IntN.{ℤ, pos}
-use lib.Ieee.{Float, fin, Format, prec, up, down, round, sum, add, div, of_int, in_float}
+use lib.Ieee.{Float, nan, inf, fin, Format, prec, up, down, round, sum, add, div, of_int, in_float}
 use lib.Ieee.Back.{round_whole}
 use lib.Ieee.Fits.{down_pos}
 use lib.Ieee.Scale.{round_same}
@@ -41,7 +41,11 @@ module _ (x a p y b q : ℕ) (h : x * 1 ≡ a * p) (k : y * 1 ≡ b * q) where
 -- ---- a sum is rounded once
 add_rounds : (f : Format) (x y : Float) (a b : ℕ) → Is x a → Is y b → add f x y ≡ round f false (a + b) 1
 unfolding add sum
+add_rounds f nan y a b h k = elim h [ ]
+add_rounds f (inf _) y a b h k = elim h [ ]
 add_rounds f (fin true m e) y a b h k = absurd (true≢false h.0)
+add_rounds f (fin false m e) nan a b h k = elim k [ ]
+add_rounds f (fin false m e) (inf _) a b h k = elim k [ ]
 add_rounds f (fin false m e) (fin true n d) a b h k = absurd (true≢false k.0)
 add_rounds f (fin false m e) (fin false n d) a b h k =
     round_same f false (m * up e * down d + n * up d * down e) (down e * down d) (a + b) 1
@@ -67,7 +71,11 @@ pos_of y b q h k = omega arith
 
 div_rounds : (f : Format) (x y : Float) (a b : ℕ) → 0 < b → Is x a → Is y b → div f x y ≡ round f false a b
 unfolding div
+div_rounds f nan y a b B h k = elim h [ ]
+div_rounds f (inf _) y a b B h k = elim h [ ]
 div_rounds f (fin true m e) y a b B h k = absurd (true≢false h.0)
+div_rounds f (fin false m e) nan a b B h k = elim k [ ]
+div_rounds f (fin false m e) (inf _) a b B h k = elim k [ ]
 div_rounds f (fin false m e) (fin true n d) a b B h k = absurd (true≢false k.0)
 div_rounds f (fin false m e) (fin false n d) a b B h k =
     let y : 0 < n * up d = pos_of (n * up d) b (down d) k.1 (mul-pos B (down_pos d)) in

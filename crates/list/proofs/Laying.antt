@@ -19,7 +19,8 @@ use Rattle.base.specs.Tabulate.{tabulate}
 use Rattle.search.specs.Inner.Cut.{Sorted}
 use Rattle.search.specs.Run.{no_place, rank}
 use Rattle.search.specs.declared.Place.{Place}
-use Rattle.base.proofs.Over.{length_over, over_nil, over-cons, get_d_before, get_d_run, get_d_after, over_next, over_under}
+use Rattle.base.proofs.Over.{length_over, over_nil, over-cons, get_d_before, get_d_run, get_d_after}
+use Rattle.base.proofs.Over.{over_next, over_under}
 use Rattle.base.proofs.Over.{over_last, set-over}
 use Rattle.base.proofs.Tabulate.{length-tabulate, get_d_tabulate, tabulate_last, tabulate-same, tabulate-take}
 use Rattle.search.proofs.Cut.{sorted-take}
@@ -184,7 +185,8 @@ module _ (o : Lists) (at : ℕ) (l : List Place) where
   lay-places g =
       let n = length-tabulate (place_at (lay o at l)) at (length l) in
       ext_get_or no_place (tabulate (place_at (lay o at l)) at (length l)) l n
-      (λ i h. get_d_tabulate (place_at (lay o at l)) no_place at (length l) i (omega arith) ∙ lay_place g i (omega arith))
+      (λ i h. get_d_tabulate (place_at (lay o at l)) no_place at (length l) i (omega arith)
+      ∙ lay_place g i (omega arith))
 
   pub lay_before : (i : ℕ) → i < at → place_at (lay o at l) i ≡ place_at o i
   unfolding lay

@@ -1,5 +1,6 @@
 // The list of a stop: at most k places, sorted, from an index of the three slices on.
 #![tactic(auto)]
+
 pub mod clear;
 
 ghost use Rattle.std.specs.Prelude.{◌≡◌, List, [], ◌∷◌, ℕ, ◌+◌, ◌<◌, ◌≤◌, length};

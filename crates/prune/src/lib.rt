@@ -1,5 +1,6 @@
 // Pruning (document 01, "Striking"): the tiles that no stop of O can need. The call is call::prune.
 #![tactic(auto)]
+
 pub mod call;
 mod compare;
 pub mod marking;

@@ -29,7 +29,7 @@ use Rattle.search.proofs.Run.{join-same, join_good}
 use Rattle.search.proofs.Sound.{walk_first}
 use Rattle.search.proofs.Walk.{walk, cut, walks, Walked, walked}
 
-map_at : {A B : Type 0} (f h : A → B) {l : List A} {x : A} → map f l ≡ map h l → Memᴰ x l → f x ≡ h x
+map_at : {A B : Type 0} (f h : A → B) {x : A} {l : List A} → map f l ≡ map h l → Memᴰ x l → f x ≡ h x
 map_at f h e (Memᴰ.head i) = rw i (head-eq_of_cons-eq e)
 map_at f h e (Memᴰ.tail m) = map_at f h (tail-eq_of_cons-eq e) m
 

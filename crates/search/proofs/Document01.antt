@@ -1,5 +1,5 @@
 -- Where the directory has no muted site, all is given that document 01 alone gives.
-use Prim.Native.Nat.{ℕ, suc, ◌+◌, ◌<◌, min}
+use Prim.Native.Nat.{ℕ, suc, ◌<◌, min}
 use mathlib.Core.Bool.{Bool, true, not}
 use mathlib.Core.List.{List, [], ◌∷◌, ◌++◌}
 use mathlib.Core.Path.{◌≡◌, refl, ap, ◌∙◌}

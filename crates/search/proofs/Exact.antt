@@ -92,7 +92,8 @@ module _ {G : Geometry} (E : Directory G) (O : G.Box) (k : ℕ) where
     unfolding ahead ahead_of rank
     rank-ahead t x y e f = lex_coarse x.dist x.site y.dist y.site (min_dist p (box t)) t f e
 
-    few-before : (t : ℕ) → count (ahead E p t) (places_of G p g (queue E O k p)) < k → (y : Place) → ahead E p t y ≡ true
+    few-before : (t : ℕ) → count (ahead E p t) (places_of G p g (queue E O k p)) < k
+        → (y : Place) → ahead E p t y ≡ true
         → count (λ x. rank x y) (places_of G p g (queue E O k p)) < k
     few-before t h y a =
         let here = places_of G p g (queue E O k p) in
@@ -232,7 +233,8 @@ module _ {G : Geometry} (E : Directory G) (O : G.Box) (k : ℕ) where
         (tile_places G p u (g u))
     unfolding g'
     few-here u hu =
-        let same : eqb u t ≡ false → All (λ x. rank x now ≡ true → ahead E p t x ≡ true) (tile_places G p u (g u)) = λ e.
+        let same : eqb u t ≡ false
+        → All (λ x. rank x now ≡ true → ahead E p t x ≡ true) (tile_places G p u (g u)) = λ e.
         all_map (tile_places G p u (g u)) (λ x i. there-ahead u x e i) (known E L p home g u (hu, ag u hu)) in
         by_test (eqb u t)
         (λ e. rw (eqb-true u t e) (let n = count_none (λ x. rank x now) (tile_places G p t (g' t)) here-none in

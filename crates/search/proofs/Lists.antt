@@ -65,7 +65,7 @@ all_take P zero l h = tt
 all_take P (suc n) [] h = tt
 all_take P (suc n) (x ∷ l) h = (h.0, all_take P n l h.1)
 
-pub all_mem : {A : Type 0} (P : A → Type 0) {l : List A} {x : A} → All P l → Memᴰ x l → P x
+pub all_mem : {A : Type 0} (P : A → Type 0) {x : A} {l : List A} → All P l → Memᴰ x l → P x
 all_mem P h (Memᴰ.head e) = subst P (sym e) h.0
 all_mem P h (Memᴰ.tail m) = all_mem P h.1 m
 
@@ -80,6 +80,7 @@ all_perm P (Permᴰ.swap e f) h = (subst P f h.1.0, (subst P e h.0, h.1.1))
 all_perm P (Permᴰ.trans d e) h = all_perm P e (all_perm P d h)
 
 pub mem_perm : {A : Type 0} (x : A) {l m : List A} → Permᴰ l m → Memᴰ x l → Memᴰ x m
+mem_perm {A = A} x Permᴰ.nil m = elim m [ ]
 mem_perm x (Permᴰ.cons e d) (Memᴰ.head f) = Memᴰ.head (f ∙ e)
 mem_perm x (Permᴰ.cons e d) (Memᴰ.tail m) = Memᴰ.tail (mem_perm x d m)
 mem_perm x (Permᴰ.swap e f) (Memᴰ.head g) = Memᴰ.tail (Memᴰ.head (g ∙ e))
@@ -102,7 +103,7 @@ count_le p q (x ∷ l) h =
     by_test (p x) (λ e. rw (e, h.0 e) (omega arith)) (λ e. rw e (omega arith))
 
 -- a narrower test that misses one element
-pub count_lt : {A : Type 0} (p q : A → Bool) {l : List A} {x : A} → All (λ a. p a ≡ true → q a ≡ true) l
+pub count_lt : {A : Type 0} (p q : A → Bool) {x : A} {l : List A} → All (λ a. p a ≡ true → q a ≡ true) l
     → Memᴰ x l → p x ≡ false → q x ≡ true → count p l < count q l
 unfolding count
 count_lt p q h (Memᴰ.head {xs = l} e) u v = let i = count_le p q l h.1 in rw (← e, u, v) (omega arith)
@@ -159,7 +160,7 @@ unfolding filter
 filter_passes q [] = tt
 filter_passes q (x ∷ l) = by_test (q x) (λ e. rw e (e, filter_passes q l)) (λ e. rw e (filter_passes q l))
 
-pub filter_mem : {A : Type 0} (q : A → Bool) {l : List A} {x : A} → Memᴰ x l → q x ≡ true
+pub filter_mem : {A : Type 0} (q : A → Bool) {x : A} {l : List A} → Memᴰ x l → q x ≡ true
     → Memᴰ x (filter q l)
 unfolding filter
 filter_mem q (Memᴰ.head {x = y} e) h = rw (ap q (sym e) ∙ h) (Memᴰ.head e)
@@ -274,7 +275,7 @@ distinct_snoc (x ∷ l) t d e = by_test (eqb t x)
     (λ f. (all_append (λ y. y ≡ x → ⊥) l (t ∷ []) d.0 (eqb-false t x f, tt), distinct_snoc l t d.1 (rw f at e)))
 
 -- an element taken out
-remove : {A : Type 0} {l : List A} {x : A} → Memᴰ x l → (m : List A) × Permᴰ l (x ∷ m)
+remove : {A : Type 0} {x : A} {l : List A} → Memᴰ x l → (m : List A) × Permᴰ l (x ∷ m)
 remove (Memᴰ.head {xs = l} e) = (l, Permᴰ.cons (sym e) (Permᴰ.refl l))
 remove (Memᴰ.tail {x = y} m) = let r = remove m in
     (y ∷ r.0, Permᴰ.trans (Permᴰ.cons refl r.1) (Permᴰ.swap refl refl))
@@ -312,4 +313,5 @@ range_length a (suc n) = ap suc (range_length (suc a) n)
 pub range_get_d : (a n i : ℕ) → i < n → get_or (range a n) i 0 ≡ a + i
 range_get_d a zero i h = absurd (omega arith)
 range_get_d a (suc n) zero h = sym (add-zero a)
-range_get_d a (suc n) (suc i) h = let u : suc a + i ≡ a + suc i = omega arith in range_get_d (suc a) n i (omega arith) ∙ u
+range_get_d a (suc n) (suc i) h =
+    let u : suc a + i ≡ a + suc i = omega arith in range_get_d (suc a) n i (omega arith) ∙ u

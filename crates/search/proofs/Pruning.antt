@@ -78,5 +78,6 @@ module _ {G : Geometry} (E : Directory G) (O : G.Box) (k : ℕ) where
     free-from (suc n) b hb h s = step b hb s (λ c hc i sc. free-from n c hc (omega arith) sc)
 
     -- The counts of the unpruned tiles closer than a pruned tile add up to k.
-    pub pruned_by_free : (b : ℕ) → b < tiles → pruned E O k b ≡ true → k ≤ total (free_closer b) (ranked E) (all_tiles E)
+    pub pruned_by_free : (b : ℕ) → b < tiles → pruned E O k b ≡ true
+        → k ≤ total (free_closer b) (ranked E) (all_tiles E)
     pruned_by_free b hb s = free-from (count (closer_than b) (all_tiles E)) b hb (omega arith) s

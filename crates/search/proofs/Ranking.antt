@@ -35,10 +35,10 @@ strict_left : {A : Type 0} (lt : A → A → Bool) (l m : List A) → Strict lt 
 strict_left lt [] m s = tt
 strict_left lt (x ∷ l) m s = (all_left (λ y. lt x y ≡ true) l m s.0, strict_left lt l m s.1)
 
-strict_across : {A : Type 0} (lt : A → A → Bool) (l m : List A) {x y : A} → Strict lt (l ++ m) → Memᴰ x l
+strict_across : {A : Type 0} (lt : A → A → Bool) {x y : A} (l m : List A) → Strict lt (l ++ m) → Memᴰ x l
     → Memᴰ y m
     → lt x y ≡ true
-strict_across lt l m {x} {y} s (Memᴰ.head {x = z} {xs = k} e) n =
+strict_across lt {x} {y} l m s (Memᴰ.head {x = z} {xs = k} e) n =
     rw e (all_mem (λ w. lt z w ≡ true) s.0 (Memᴰ.append_right k n))
 strict_across lt l m s (Memᴰ.tail {xs = k} h) n = strict_across lt k m s.1 h n
 
@@ -197,7 +197,8 @@ module _ {G : Geometry} (E : Directory G) (k : ℕ) where
         → (Memᴰ b (first_of E k p g) → ⊥)
         → rank a b ≡ true
     first_rest a b m s out = go (Memᴰ.append_cases (first_of E k p g)
-        (rw parts (mem_perm b (Permᴰ.symm (sort_is_perm rank (places_of G p g (range 0 tiles)))) (site-placed p g b s))))
+        (rw parts (mem_perm b (Permᴰ.symm (sort_is_perm rank (places_of G p g (range 0 tiles))))
+        (site-placed p g b s))))
       where
         go : Memᴰ b (first_of E k p g) ⊎ Memᴰ b (drop k sorted) → rank a b ≡ true
         go (inl h) = absurd (out h)

@@ -135,7 +135,8 @@ module _ {G : Geometry} (E : Directory G) (O : G.Box) (k : ℕ) where
 
     -- Demand 2: "On a file that passes the full check, each list is the first k sites of the whole town".
     pub demand_2 : (read : Reading G) (g : Town G) → Agrees E g → ((t : ℕ) → t < tiles → read t ≡ accepted (g t))
-        → (ps : List Stop) → All (Within O) ps → (join E O k read ps).outcome ≡ accepted (map (λ p. first_of E k p g) ps)
+        → (ps : List Stop) → All (Within O) ps
+        → (join E O k read ps).outcome ≡ accepted (map (λ p. first_of E k p g) ps)
     demand_2 read g ag e ps hs =
         let opened = (join E O k (read_town L k g) ps).openings in
         ap (λ (r : Run (List (List Place))). r.outcome)

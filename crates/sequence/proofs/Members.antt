@@ -41,7 +41,7 @@ pub none_counted : (p : ℕ → Bool) {l : List ℕ} {a : ℕ} → count p l ≡
 unfolding count
 none_counted p {l} {a} z m = by_test (p a) (λ e. absurd (go m e z)) (λ e. e)
   where
-    go : {l : List ℕ} {a : ℕ} → Memᴰ a l → p a ≡ true → count p l ≡ 0 → ⊥
+    go : {a : ℕ} {l : List ℕ} → Memᴰ a l → p a ≡ true → count p l ≡ 0 → ⊥
     go (Memᴰ.head {x = y} q) e z = let t : p y ≡ true = rw q at e in let k = rw t at z in omega arith
     go (Memᴰ.tail {x = y} m) e z = go m e (omega arith)
 

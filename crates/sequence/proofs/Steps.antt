@@ -100,7 +100,7 @@ module _ (closer : ℕ → ℕ → Bool) where
   place_next (t ∷ l) q (suc i) h = place_next l q.1 i (omega arith)
 
   -- an element stands at a place
-  place_of : {l : List ℕ} {x : ℕ} → Memᴰ x l → (i : ℕ) × (i < length l) × (get_or l i 0 ≡ x)
+  place_of : {x : ℕ} {l : List ℕ} → Memᴰ x l → (i : ℕ) × (i < length l) × (get_or l i 0 ≡ x)
   place_of (Memᴰ.head e) = (0, omega arith, sym e)
   place_of (Memᴰ.tail m) = let r = place_of m in (suc r.0, omega (arith, r.1), r.2)
 
@@ -121,7 +121,8 @@ module _ (closer : ℕ → ℕ → Bool) where
         (λ i h. low (suc i) (omega arith)),
   )
     where
-      first : (a : ℕ) → (i : ℕ) × (i < length (t ∷ l)) × (get_or (t ∷ l) i 0 ≡ a) → closer a t ≡ true → closer a t ≡ false
+      first : (a : ℕ) → (i : ℕ) × (i < length (t ∷ l)) × (get_or (t ∷ l) i 0 ≡ a) → closer a t ≡ true
+          → closer a t ≡ false
       first a (i, h, q) e = absurd (let k = after i 0 h (omega arith) (rw q e) in omega arith)
 
   -- ---- the steps
@@ -132,7 +133,8 @@ module _ (closer : ℕ → ℕ → Bool) where
     pub once : Distinct l
     pub nexts : EachNext l
 
-  one_more : (left : List ℕ) (t : ℕ) (l : List ℕ) → IsNext closer left t → InSteps (without t left) l → InSteps left (t ∷ l)
+  one_more : (left : List ℕ) (t : ℕ) (l : List ℕ) → IsNext closer left t → InSteps (without t left) l
+      → InSteps left (t ∷ l)
   one_more left t l q r = record {
     same = same;
     once = (mem_all l (λ y m. (mem_without t left ((r.same y).1 m)).1), r.once);

@@ -95,7 +95,8 @@ module _ (s : List ℕ) (size : length s ≡ block_size) where
           tiles = read_16 s tiles_at lt (holds_right s 0 (one ++ bytes16 p ++ bytes16 n) (bytes16 t) refl h₁);
           reserved = held_zeros s reserved_at payload_at (holds_right s 0 hd gap refl h₂);
           held = holds_right s 0 (hd ++ gap) payload refl h₃;
-          unused = held_zeros s (payload_at + length payload) check_at (holds_right s 0 (hd ++ gap ++ payload) rest u h);
+          unused = held_zeros s (payload_at + length payload) check_at
+              (holds_right s 0 (hd ++ gap ++ payload) rest u h);
           check = check;
         }
 
@@ -160,7 +161,8 @@ module _ (a : ℕ) (s : List ℕ) (i : ℕ) (boxes : List ℤ) (counts cues : Li
   box_held : Bytes s → entry_box a s i ≡ box_of a boxes t → Holds s (entry_offset a i) (box_bytes a boxes t)
   unfolding box_bytes entry_box box_of
   box_held byte e =
-      holds-joined s end 4 (entry_offset a i) 0 (numbers_per_box a) (λ k m. length-number (box_number a boxes t (0 + k)))
+      holds-joined s end 4 (entry_offset a i) 0 (numbers_per_box a)
+      (λ k m. length-number (box_number a boxes t (0 + k)))
       (λ n l. holds_run (held_signed s (entry_offset a i + number_offset n) byte)
       (ap bytes_signed (ends_only a (entry_number a s i) (box_number a boxes t) e n l) ∙ ap end (sym (zero-add n))))
 

@@ -17,7 +17,8 @@ use Rattle.blocks.specs.Block.{axes_in, header_in, kind_due}
 use Rattle.blocks.specs.Directory.{directory_blocks, entries_due, entry_offset, entry_box, entry_count, entry_muted}
 use Rattle.blocks.specs.Directory.{directory_padding}
 use Rattle.blocks.specs.Layout.{block_size, kind_at, tiles_at, reserved_at, payload_at, check_at, entry_size}
-use Rattle.blocks.specs.Layout.{payload_size, entries_per_block, site_size, max_sites, max_tiles, directory_kind, tile_kind}
+use Rattle.blocks.specs.Layout.{payload_size, entries_per_block, site_size, max_sites, max_tiles, directory_kind}
+use Rattle.blocks.specs.Layout.{tile_kind}
 use Rattle.blocks.specs.declared.header.Header.{Header}
 use Rattle.codec.specs.Zeros.{zeros}
 use Rattle.codec.specs.Number.{limit16, Bytes, u16_at}

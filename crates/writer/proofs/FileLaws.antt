@@ -39,7 +39,8 @@ pub record Reads (f : List ℕ) (h : Header) (s : Supply) : Type 0 where
 
 -- entry i of directory block p is that of tile 24 * p + i, with height of 17 * p + i
 entry_of : (a p i : ℕ) → KnownAxes a → i < entries_per_block a →
-    ((entries_per_block a * p + i) / entries_per_block a ≡ p) × ((entries_per_block a * p + i) % entries_per_block a ≡ i)
+    ((entries_per_block a * p + i) / entries_per_block a ≡ p)
+    × ((entries_per_block a * p + i) % entries_per_block a ≡ i)
 entry_of a p i =
     by_axes (λ a. i < entries_per_block a → ((entries_per_block a * p + i) / entries_per_block a ≡ p)
     × ((entries_per_block a * p + i) % entries_per_block a ≡ i))
@@ -110,7 +111,8 @@ module _ (s : Supply) where
           let g = holds_right f 0 (joined directory_part 0 d) (joined tile 0 (tiles_of s)) u h in
           let e = holds-each f tile block_size (block_size * d) 0 (tiles_of s) tile-width g t l in
           let m = length-tile t l in
-          holds-part (holds_run e (ap tile (zero-add t))) block_size (block_size * (d + t)) 0 (omega arith) (omega arith)
+          holds-part (holds_run e (ap tile (zero-add t))) block_size (block_size * (d + t)) 0
+          (omega arith) (omega arith)
 
       blocks-file : ((p : ℕ) → p < directory_blocks (headed s) → Holds (block_at f p) 0 (directory_part p)) →
           ((t : ℕ) → t < tiles_of s → Holds (block_at f (tile_position (headed s) t)) 0 (tile t)) →

@@ -17,7 +17,8 @@ use Rattle.blocks.specs.Directory.{entry_offset, entry_number, entry_box, entry_
 use Rattle.blocks.specs.Layout.{count_offset, entries_per_block}
 use Rattle.blocks.specs.declared.header.Header.{Header}
 use Rattle.codec.specs.Number.{limit32, limit_signed, Bytes, u32_at, i32_at}
-use Rattle.encode.specs.Supply.{Supply, axes_of, header_of, tiles_of, numbers_per_box, box_number, box_of, count_of, offset}
+use Rattle.encode.specs.Supply.{Supply, axes_of, header_of, tiles_of, numbers_per_box, box_number, box_of, count_of}
+use Rattle.encode.specs.Supply.{offset}
 use Rattle.encode.specs.Supply.{site_total}
 use Rattle.geometry.specs.Around.{row}
 use Rattle.geometry.specs.Axes.{KnownAxes}
@@ -257,7 +258,8 @@ module _ (f : List ℕ) (s : Supply) (g : GoodSupply s) (r : Reads f (header_of 
   unfolding box_of
   boxes_only =
       let n = numbers_per_box (axes_of s) in
-      joined_same (λ t. box_numbers (box_at f h t)) (λ t. tabulate (box_number (axes_of s) s.boxes t) 0 n) 0 (tiles_of s)
+      joined_same (λ t. box_numbers (box_at f h t)) (λ t. tabulate (box_number (axes_of s) s.boxes t) 0 n) 0
+      (tiles_of s)
       (λ t l. let q = zero-add t in
       rw q (ap box_numbers (r.box t l) ∙ numbers_of (axes_of s) (box_number (axes_of s) s.boxes t)))
       ∙ parts s.boxes (pos 0) (λ t. n * t) (λ t. n) (mul-zero n) (λ t. omega arith) g.numbers

@@ -44,7 +44,8 @@ pub write_exactly : (s : Supply) (room n : ℕ) →
     × (n ≡ file_length (header_of (axes_of s) s.counts)) → write_call s room ≡ accepted n)
 unfolding write_call
 write_exactly s room n = (
-  λ e. let h = and_then_accepted (write_tests s room) (λ _. accepted (file_length (header_of (axes_of s) s.counts))) e in
+  λ e. let length_told = λ (_ : Unit). accepted (file_length (header_of (axes_of s) s.counts)) in
+      let h = and_then_accepted (write_tests s room) length_told e in
       let g = tests_good s room h.1 in
       (g.0, g.1, sym (accepted_injective h.2)),
   λ h. call_accepted s room (tests_enough s room h.0 h.1) ∙ ap accepted (sym h.2),

@@ -16,7 +16,8 @@ use Rattle.base.specs.Tabulate.{joined}
 use Rattle.blocks.specs.Directory.{directory_blocks}
 use Rattle.blocks.specs.Layout.{block_size, max_sites, max_tiles}
 use Rattle.encode.specs.Encode.{directory_bytes, tile_bytes_of, file_bytes, file_length}
-use Rattle.encode.specs.Supply.{Supply, axes_of, header_of, tiles_of, numbers_per_box, box_of, count_of, offset, site_total}
+use Rattle.encode.specs.Supply.{Supply, axes_of, header_of, tiles_of, numbers_per_box, box_of, count_of, offset}
+use Rattle.encode.specs.Supply.{site_total}
 use Rattle.geometry.specs.Around.{equal_columns, row}
 use Rattle.geometry.specs.Axes.{KnownAxes, Columns}
 use Rattle.geometry.specs.Box.{valid_box, inside}

@@ -9,7 +9,7 @@ pub returns-then-ranks_before : goal.returns-then-ranks_before
 returns-then-ranks_before c =
     let g = c.loop-left.invariant in
     let ahead = sym c.ranks_before.ensures ∙ c.if-ranks_before.true in
-    (g.few, gap_stop g c.loop-left-test.true c.place_at-y.result c.place_at-y.ensures ahead)
+    record { gap = g.few; filled = gap_stop g c.loop-left-test.true c.place_at-y.result c.place_at-y.ensures ahead }
 
 pub loop-left-preserved : goal.loop-left-preserved
 loop-left-preserved c =
@@ -17,4 +17,4 @@ loop-left-preserved c =
     gap_turn c.loop-left.invariant c.loop-left-test.true c.place_at-y.result c.place_at-y.ensures behind
 
 pub returns : goal.returns
-returns c = let g = c.loop-left.invariant in (g.few, gap_bottom g c.loop-left-test.false)
+returns c = let g = c.loop-left.invariant in record { gap = g.few; filled = gap_bottom g c.loop-left-test.false }

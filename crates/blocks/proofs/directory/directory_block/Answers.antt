@@ -35,18 +35,18 @@ padding : (c : After-directory_padding) →
     let n = entries_due (header_in c.args.s.now) c.args.p in
     c.directory_padding.result ≡ directory_padding c.args.first.axes c.args.s.now n
 padding c =
-    c.directory_padding.ensures ∙ ap (directory_padding c.args.first.axes c.args.s.now) (due search)
+    c.directory_padding.ensures ∙ ap (directory_padding c.args.first.axes c.args.s.now) (c.entries_due-due.ensures.0 ∙ ap (λ k. entries_due k c.args.p) c.header_in-h.ensures.0)
 
 valid : (c : After-entries_valid) →
     let n = entries_due (header_in c.args.s.now) c.args.p in
     c.entries_valid.result ≡ every (entry_valid c.args.first.axes c.args.s.now) n
 valid c =
-    c.entries_valid.ensures ∙ ap (every (entry_valid c.args.first.axes c.args.s.now)) (due search)
+    c.entries_valid.ensures ∙ ap (every (entry_valid c.args.first.axes c.args.s.now)) (c.entries_due-due.ensures.0 ∙ ap (λ k. entries_due k c.args.p) c.header_in-h.ensures.0)
 
 -- what each test that passed has shown
 passed_start : (c : Else-start-ne0) →
     block_start (directory_kind c.args.first.axes) c.args.s.now c.args.p ≡ accepted tt
-passed_start c = number_accepted _ _ (start search) c.if-start-ne0.false
+passed_start c = number_accepted _ _ (c.start_number-start.ensures ∙ ap (λ kind. block_start kind c.args.s.now c.args.p) c.directory_kind.ensures) c.if-start-ne0.false
 
 passed_length : (c : Else-not-length_fits) →
     length_fits c.args.first.axes c.args.n ≡ true
@@ -58,19 +58,16 @@ passed-position c = equal c.u16_at.ensures.0 refl c.if-u16_at-p.false
 
 passed-tiles : (c : Else-not-tiles_due) →
     tiles_due (header_in c.args.s.now) c.args.first (c.args.n / block_size) ≡ true
-passed-tiles c = passed (tiles search) c.if-not-tiles_due.false
+passed-tiles c = passed (c.tiles_due.ensures ∙ ap (λ k. tiles_due k c.args.first (c.args.n / block_size)) c.header_in-h.ensures.0) c.if-not-tiles_due.false
 
 passed-entries : (c : Else-u16_at-due) →
     eqb (entries_in c.args.s.now) (entries_due (header_in c.args.s.now) c.args.p) ≡ true
-passed-entries c = equal c.u16_at-2.ensures.0 (due search) c.if-u16_at-due.false
+passed-entries c = equal c.u16_at-2.ensures.0 (c.entries_due-due.ensures.0 ∙ ap (λ k. entries_due k c.args.p) c.header_in-h.ensures.0) c.if-u16_at-due.false
 
 passed-padding : (c : Else-not-directory_padding) →
     let n = entries_due (header_in c.args.s.now) c.args.p in
     directory_padding c.args.first.axes c.args.s.now n ≡ true
-passed-padding c = passed (padding search) c.if-not-directory_padding.false
-
-abbrev back : Else-not-tiles_due → Else-start-ne0
-back c = search
+passed-padding c = passed (c.directory_padding.ensures ∙ ap (directory_padding c.args.first.axes c.args.s.now) (c.entries_due-due.ensures.0 ∙ ap (λ k. entries_due k c.args.p) c.header_in-h.ensures.0)) c.if-not-directory_padding.false
 
 -- the block's axes, by its kind, are block 0's
 axes : (c : After-header_in-h) →
@@ -79,24 +76,24 @@ axes c =
     let a = c.args.first.axes in
     ap (λ h. h.axes) c.header_in-h.ensures.0
     ∙ axes_of_kind a c.args.s.now c.requires.2 (start_kind (directory_kind a) c.args.s.now c.args.p
-    (passed_start search))
+    (number_accepted _ _ (c.start_number-start.ensures ∙ ap (λ kind. block_start kind c.args.s.now c.args.p) c.directory_kind.ensures) c.if-start-ne0.false))
 
 pub returns-then-start-ne0 : goal.returns-then-start-ne0
 unfolding directory_block
 returns-then-start-ne0 c =
-    c.refused.ensures ∙ sym (rw (number_refused _ _ (start search) c.if-start-ne0.true))
+    c.refused.ensures ∙ sym (rw (number_refused _ _ (start (goal.at.returns-then-start-ne0 c).After-start_number-start) c.if-start-ne0.true))
 
 pub returns-then-not-length_fits : goal.returns-then-not-length_fits
 unfolding directory_block
 returns-then-not-length_fits c =
-    c.refused-then-not-length_fits.ensures ∙ sym (rw (passed_start search, failed c.length_fits.ensures c.if-not-length_fits.true))
+    c.refused-then-not-length_fits.ensures ∙ sym (rw (passed_start (goal.at.returns-then-not-length_fits c).Else-start-ne0, failed c.length_fits.ensures c.if-not-length_fits.true))
 
 pub returns-then-u16_at-p : goal.returns-then-u16_at-p
 unfolding directory_block
 returns-then-u16_at-p c =
     c.refused-then-u16_at-p.ensures ∙ sym (rw (
-      passed_start search,
-      passed_length search,
+      passed_start (goal.at.returns-then-u16_at-p c).Else-start-ne0,
+      passed_length (goal.at.returns-then-u16_at-p c).Else-not-length_fits,
       unequal c.u16_at.ensures.0 refl c.if-u16_at-p.true,
     ))
 
@@ -108,10 +105,10 @@ pub returns-then-not-tiles_due : goal.returns-then-not-tiles_due
 unfolding directory_block
 returns-then-not-tiles_due c =
     c.refused-then-not-tiles_due.ensures ∙ sym (rw (
-      passed_start search,
-      passed_length search,
-      passed-position search,
-      failed (tiles search) c.if-not-tiles_due.true,
+      passed_start (goal.at.returns-then-not-tiles_due c).Else-start-ne0,
+      passed_length (goal.at.returns-then-not-tiles_due c).Else-not-length_fits,
+      passed-position (goal.at.returns-then-not-tiles_due c).Else-u16_at-p,
+      failed (tiles (goal.at.returns-then-not-tiles_due c).After-tiles_due) c.if-not-tiles_due.true,
     ))
 
 pub entries_due-due-requires : goal.entries_due-due-requires
@@ -122,56 +119,56 @@ pub returns-then-u16_at-due : goal.returns-then-u16_at-due
 unfolding directory_block
 returns-then-u16_at-due c =
     c.refused-then-u16_at-due.ensures ∙ sym (rw (
-      passed_start search,
-      passed_length search,
-      passed-position search,
-      passed-tiles search,
-      unequal c.u16_at-2.ensures.0 (due search) c.if-u16_at-due.true,
+      passed_start (goal.at.returns-then-u16_at-due c).Else-start-ne0,
+      passed_length (goal.at.returns-then-u16_at-due c).Else-not-length_fits,
+      passed-position (goal.at.returns-then-u16_at-due c).Else-u16_at-p,
+      passed-tiles (goal.at.returns-then-u16_at-due c).Else-not-tiles_due,
+      unequal c.u16_at-2.ensures.0 (due (goal.at.returns-then-u16_at-due c).After-entries_due-due) c.if-u16_at-due.true,
     ))
 
 pub directory_padding-requires : goal.directory_padding-requires
 directory_padding-requires c =
-    (c.requires.2, rw (axes search) at c.entries_due-due.ensures.1, c.requires.0)
+    (c.requires.2, rw (axes (goal.at.directory_padding-requires c).After-header_in-h) at c.entries_due-due.ensures.1, c.requires.0)
 
 pub returns-then-not-directory_padding : goal.returns-then-not-directory_padding
 unfolding directory_block
 returns-then-not-directory_padding c =
     c.refused-then-not-directory_padding.ensures ∙ sym (rw (
-      passed_start search,
-      passed_length search,
-      passed-position search,
-      passed-tiles search,
-      passed-entries search,
-      failed (padding search) c.if-not-directory_padding.true,
+      passed_start (goal.at.returns-then-not-directory_padding c).Else-start-ne0,
+      passed_length (goal.at.returns-then-not-directory_padding c).Else-not-length_fits,
+      passed-position (goal.at.returns-then-not-directory_padding c).Else-u16_at-p,
+      passed-tiles (goal.at.returns-then-not-directory_padding c).Else-not-tiles_due,
+      passed-entries (goal.at.returns-then-not-directory_padding c).Else-u16_at-due,
+      failed (padding (goal.at.returns-then-not-directory_padding c).After-directory_padding) c.if-not-directory_padding.true,
     ))
 
 pub entries_valid-requires : goal.entries_valid-requires
 entries_valid-requires c =
-    (c.requires.2, rw (axes search) at c.entries_due-due.ensures.1, c.requires.0)
+    (c.requires.2, rw (axes (goal.at.entries_valid-requires c).After-header_in-h) at c.entries_due-due.ensures.1, c.requires.0)
 
 pub returns-then-not-entries_valid : goal.returns-then-not-entries_valid
 unfolding directory_block
 returns-then-not-entries_valid c =
     c.refused-then-not-entries_valid.ensures ∙ sym (rw (
-      passed_start (back (goal.at.returns-then-not-entries_valid c).Else-not-tiles_due),
-      passed_length search,
-      passed-position search,
-      passed-tiles search,
-      passed-entries search,
-      passed-padding search,
-      failed (valid search) c.if-not-entries_valid.true,
+      passed_start (goal.at.returns-then-not-entries_valid c).Else-start-ne0,
+      passed_length (goal.at.returns-then-not-entries_valid c).Else-not-length_fits,
+      passed-position (goal.at.returns-then-not-entries_valid c).Else-u16_at-p,
+      passed-tiles (goal.at.returns-then-not-entries_valid c).Else-not-tiles_due,
+      passed-entries (goal.at.returns-then-not-entries_valid c).Else-u16_at-due,
+      passed-padding (goal.at.returns-then-not-entries_valid c).Else-not-directory_padding,
+      failed (valid (goal.at.returns-then-not-entries_valid c).After-entries_valid) c.if-not-entries_valid.true,
     ))
 
 pub returns : goal.returns
 unfolding directory_block
 returns c =
     sym (rw (
-      passed_start (back (goal.at.returns c).Else-not-tiles_due),
-      passed_length search,
-      passed-position search,
-      passed-tiles search,
-      passed-entries search,
-      passed-padding search,
-      passed (valid search) c.if-not-entries_valid.false,
+      passed_start (goal.at.returns c).Else-start-ne0,
+      passed_length (goal.at.returns c).Else-not-length_fits,
+      passed-position (goal.at.returns c).Else-u16_at-p,
+      passed-tiles (goal.at.returns c).Else-not-tiles_due,
+      passed-entries (goal.at.returns c).Else-u16_at-due,
+      passed-padding (goal.at.returns c).Else-not-directory_padding,
+      passed (valid (goal.at.returns c).After-entries_valid) c.if-not-entries_valid.false,
       c.header_in-h.ensures.0,
     ))

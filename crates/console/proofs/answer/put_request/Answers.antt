@@ -19,18 +19,18 @@ fits c =
     omega (arith, c.head_length-start.ensures, c.stop_count-n.ensures, (request s).stops)
 
 -- each array has the coordinates of n stops at its front
-xs-read : (c : After-read_coordinates) → (take c.stop_count-n.result c.read_coordinates.new.1.1.1.0
+xs-read : (c : After-read_coordinates) → (take c.stop_count-n.result c.read_coordinates.new.out
     ≡ coordinates c.args.input.now 8 c.stop_count-n.result)
 xs-read c = stored_all _ 8 _ _ _ c.read_coordinates.ensures
 
-ys-read : (c : After-read_coordinates-2) → (take c.stop_count-n.result c.read_coordinates-2.new.1.1.1.0
+ys-read : (c : After-read_coordinates-2) → (take c.stop_count-n.result c.read_coordinates-2.new.out
     ≡ coordinates c.args.input.now 12 c.stop_count-n.result)
 ys-read c = stored_all _ 12 _ _ _ c.read_coordinates-2.ensures
 
-xs-length : (c : After-read_coordinates) → (c.stop_count-n.result ≡ length (take c.stop_count-n.result c.read_coordinates.new.1.1.1.0))
+xs-length : (c : After-read_coordinates) → (c.stop_count-n.result ≡ length (take c.stop_count-n.result c.read_coordinates.new.out))
 xs-length c = sym (ap length (xs-read c) ∙ length-coordinates _ 8 _)
 
-ys-length : (c : After-read_coordinates-2) → (c.stop_count-n.result ≡ length (take c.stop_count-n.result c.read_coordinates-2.new.1.1.1.0))
+ys-length : (c : After-read_coordinates-2) → (c.stop_count-n.result ≡ length (take c.stop_count-n.result c.read_coordinates-2.new.out))
 ys-length c = sym (ap length (ys-read c) ∙ length-coordinates _ 12 _)
 
 pub stop_count-n-requires : goal.stop_count-n-requires
@@ -61,14 +61,14 @@ slice_bounds-put_join-start c = fits c
 
 pub slice_bounds-xs-end : goal.slice_bounds-xs-end
 slice_bounds-xs-end c =
-    omega (arith, c.stop_count-n.ensures, (request (goal.at.slice_bounds-xs-end c).Start).few, c.read_coordinates.kept.1.1.1.0)
+    omega (arith, c.stop_count-n.ensures, (request (goal.at.slice_bounds-xs-end c).Start).few, c.read_coordinates.auto.out)
 
 pub slice_bounds-put_join-end-2 : goal.slice_bounds-put_join-end-2
 slice_bounds-put_join-end-2 c = xs-length (goal.at.slice_bounds-put_join-end-2 c).After-read_coordinates
 
 pub slice_bounds-ys-end : goal.slice_bounds-ys-end
 slice_bounds-ys-end c =
-    omega (arith, c.stop_count-n.ensures, (request (goal.at.slice_bounds-ys-end c).Start).few, c.read_coordinates-2.kept.1.1.1.0)
+    omega (arith, c.stop_count-n.ensures, (request (goal.at.slice_bounds-ys-end c).Start).few, c.read_coordinates-2.auto.out)
 
 pub slice_bounds-put_join-end-3 : goal.slice_bounds-put_join-end-3
 slice_bounds-put_join-end-3 c = ys-length (goal.at.slice_bounds-put_join-end-3 c).After-read_coordinates-2

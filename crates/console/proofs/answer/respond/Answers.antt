@@ -10,20 +10,20 @@ use Rattle.console.proofs.answer.respond.Goals as goal
 
 pub put_request-requires : goal.put_request-requires
 put_request-requires c =
-    (sym c.well-formed.ensures ∙ c.if-well_formed.true, search rules)
+    (sym c.well_formed-2.ensures ∙ c.if-well_formed.true, search rules)
 
 pub returns-then-well_formed : goal.returns-then-well_formed
 unfolding output
 returns-then-well_formed c =
     let room : output_room ≤ length c.args.out.now = search rules in
     let end = c.put_request.ensures in
-    (rw (sym c.well-formed.ensures ∙ c.if-well_formed.true) end.0, in_room room end.0 end.1)
+    (rw (sym c.well_formed-2.ensures ∙ c.if-well_formed.true) end.0, in_room room end.0 end.1)
 
 pub returns : goal.returns
 unfolding output
 returns c =
     let room : output_room ≤ length c.args.out.now = search rules in
     let end = c.put_text.ensures in (
-      rw (sym c.well-formed.ensures ∙ c.if-well_formed.false) end,
+      rw (sym c.well_formed-2.ensures ∙ c.if-well_formed.false) end,
       in_room {n = output_room} room end (omega (arith, end.end)),
     )

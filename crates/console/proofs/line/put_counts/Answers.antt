@@ -10,19 +10,22 @@ use Rattle.console.proofs.line.put_counts.Goals as goal
 use Rattle.console.proofs.line.put_counts.Goals.{After-put_labelled-after_opened, After-put_labelled-after_pruned, After-put_labelled-after_tiles}
 
 -- the room left after each part
-after-tiles : (c : After-put_labelled-after_tiles) → c.put_labelled-after_tiles.result + 37 ≤ length c.put_labelled-after_tiles.new.0
+after-tiles : (c : After-put_labelled-after_tiles) → c.put_labelled-after_tiles.result + 37 ≤ length c.put_labelled-after_tiles.new.out
 after-tiles c =
     room_after counts_room 37 c.put_labelled-after_tiles.ensures c.requires
     (omega (arith, labelled_32 (text_bytes "tiles ") c.args.tiles c.ranges.tiles.fits))
 
-after-opened : (c : After-put_labelled-after_opened) → c.put_labelled-after_opened.result + 19 ≤ length c.put_labelled-after_opened.new.0
+after-opened : (c : After-put_labelled-after_opened) → c.put_labelled-after_opened.result + 19 ≤ length c.put_labelled-after_opened.new.out
 after-opened c =
-    room_after 37 19 c.put_labelled-after_opened.ensures (after-tiles search)
+    room_after 37 19 c.put_labelled-after_opened.ensures (room_after counts_room 37 c.put_labelled-after_tiles.ensures c.requires
+    (omega (arith, labelled_32 (text_bytes "tiles ") c.args.tiles c.ranges.tiles.fits)))
     (omega (arith, labelled_32 (text_bytes " opened ") c.args.opened c.ranges.opened.fits))
 
-after-pruned : (c : After-put_labelled-after_pruned) → c.put_labelled-after_pruned.result + 1 ≤ length c.put_labelled-after_pruned.new.0
+after-pruned : (c : After-put_labelled-after_pruned) → c.put_labelled-after_pruned.result + 1 ≤ length c.put_labelled-after_pruned.new.out
 after-pruned c =
-    room_after 19 1 c.put_labelled-after_pruned.ensures (after-opened search)
+    room_after 19 1 c.put_labelled-after_pruned.ensures (room_after 37 19 c.put_labelled-after_opened.ensures (room_after counts_room 37 c.put_labelled-after_tiles.ensures c.requires
+    (omega (arith, labelled_32 (text_bytes "tiles ") c.args.tiles c.ranges.tiles.fits)))
+    (omega (arith, labelled_32 (text_bytes " opened ") c.args.opened c.ranges.opened.fits)))
     (omega (arith, labelled_32 (text_bytes " struck ") c.args.pruned c.ranges.pruned.fits))
 
 pub put_labelled-after_tiles-requires : goal.put_labelled-after_tiles-requires
@@ -31,14 +34,14 @@ put_labelled-after_tiles-requires c =
 
 pub put_labelled-after_opened-requires : goal.put_labelled-after_opened-requires
 put_labelled-after_opened-requires c =
-    omega (arith, after-tiles search, digits_32 c.args.opened c.ranges.opened.fits)
+    omega (arith, after-tiles (goal.at.put_labelled-after_opened-requires c).After-put_labelled-after_tiles, digits_32 c.args.opened c.ranges.opened.fits)
 
 pub put_labelled-after_pruned-requires : goal.put_labelled-after_pruned-requires
 put_labelled-after_pruned-requires c =
-    omega (arith, after-opened search, digits_32 c.args.pruned c.ranges.pruned.fits)
+    omega (arith, after-opened (goal.at.put_labelled-after_pruned-requires c).After-put_labelled-after_opened, digits_32 c.args.pruned c.ranges.pruned.fits)
 
 pub put_text-requires : goal.put_text-requires
-put_text-requires c = after-pruned search
+put_text-requires c = after-pruned (goal.at.put_text-requires c).After-put_labelled-after_pruned
 
 pub returns : goal.returns
 unfolding counts_line

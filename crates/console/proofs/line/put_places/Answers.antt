@@ -25,7 +25,7 @@ loop-j-init c = (omega arith, omega arith, refl, parts_start _ _ _ _)
 
 pub put_place-next-requires : goal.put_place-next-requires
 put_place-next-requires c =
-    omega (arith, c.requires.0, c.loop-j.invariant.1, c.loop-j.invariant.2)
+    omega (arith, c.requires.used_in_bounds, c.loop-j.invariant.1, c.loop-j.invariant.2)
 
 pub loop-j-preserved : goal.loop-j-preserved
 unfolding text_at

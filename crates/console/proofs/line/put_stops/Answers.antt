@@ -12,9 +12,9 @@ loop-i-init c = (omega arith, omega arith, refl, parts_start _ _ _ _)
 pub put_stop-next-requires : goal.put_stop-next-requires
 put_stop-next-requires c =
     let l = c.loop-i in
-    let inside = turn_inside c.args.n c.args.k c.args.used l.i (omega arith) c.requires.0.2 in (
-      omega (arith, c.requires.0.0, c.requires.0.1, l.inv.1, l.inv.2),
-      (omega (arith, inside, c.requires.1.0), omega (arith, inside, c.requires.1.1), omega (arith, inside, c.requires.1.2)),
+    let inside = turn_inside c.args.n c.args.k c.args.used l.i (omega arith) c.requires.n_in_bounds.2 in (
+      omega (arith, c.requires.n_in_bounds.0, c.requires.n_in_bounds.1, l.inv.1, l.inv.2),
+      (omega (arith, inside, c.requires.k_in_bounds.0), omega (arith, inside, c.requires.k_in_bounds.1), omega (arith, inside, c.requires.k_in_bounds.2)),
     )
 
 pub loop-i-preserved : goal.loop-i-preserved
@@ -25,7 +25,7 @@ loop-i-preserved c =
     let lines = stop_line a.dist.now a.site.now a.cue.now a.k a.used in
     let short = stop_short a.dist.now a.site.now a.cue.now
     (λ i. omega (arith, c.shared_slice_known-1.given i)) (λ i. omega (arith, c.shared_slice_known-2-1.given i))
-    (λ i. omega (arith, c.shared_slice_known-3-1.given i)) a.k a.used l.i c.requires.0.1
+    (λ i. omega (arith, c.shared_slice_known-3-1.given i)) a.k a.used l.i c.requires.n_in_bounds.1
     (omega (arith, c.ranges.n.fits)) in (
       omega arith,
       omega (arith, short, w.end, l.inv.1),

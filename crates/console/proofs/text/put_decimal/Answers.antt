@@ -13,10 +13,10 @@ long : (c : After-width-w) → c.width-w.result ≡ length (decimal c.args.n)
 long c = c.width-w.ensures ∙ sym (decimal-width c.args.n)
 
 pub put_digits-requires : goal.put_digits-requires
-put_digits-requires c = omega (arith, c.requires, long search)
+put_digits-requires c = omega (arith, c.requires, long (goal.at.put_digits-requires c).After-width-w)
 
 pub overflow_add-result : goal.overflow_add-result
-overflow_add-result c = rw (long search) (search (c.requires, rules))
+overflow_add-result c = rw (long (goal.at.overflow_add-result c).After-width-w) (search (c.requires, rules))
 
 pub returns : goal.returns
 unfolding decimal

@@ -1,4 +1,4 @@
-use Prim.Native.Nat.{◌-◌, ◌≤◌}
+use Prim.Native.Nat.{◌≤◌}
 use native.Mathlib.Omega.{arith}
 use lib.ListN.{get_or}
 use borrow.Author.Rules.{rules}
@@ -14,13 +14,12 @@ returns-then-far-e c =
     record { after = i.0; within = i.1; none = i.2; below = λ _. search rules }
 
 pub loop-e-preserved : goal.loop-e-preserved
-loop-e-preserved c =
-    (
-      search rules,
-      search rules,
-      up_to_next (λ i. c.args.near ≤ get_or c.args.far.now i 0) c.args.from c.loop-e.e c.loop-e.invariant.2
-          c.if-far-e.false,
-    )
+loop-e-preserved c = (
+  search rules,
+  search rules,
+  up_to_next (λ i. c.args.near ≤ get_or c.args.far.now i 0) c.args.from c.loop-e.e c.loop-e.invariant.2
+      c.if-far-e.false,
+)
 
 pub returns : goal.returns
 returns c =

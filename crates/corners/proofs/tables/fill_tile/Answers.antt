@@ -1,4 +1,4 @@
-use Prim.Native.Nat.{◌+◌, ◌-◌, ◌*◌, ◌<◌}
+use Prim.Native.Nat.{◌+◌, ◌*◌, ◌<◌}
 use mathlib.Core.Path.{◌≡◌, refl, ◌∙◌}
 use native.Mathlib.Omega.{arith}
 use lib.ListN.{get_or, set, length-set}
@@ -42,17 +42,17 @@ max_dist_within-requires c =
     (known (goal.at.max_dist_within-requires c).Start, (rw c.box_at-b.ensures valid, c.corner_of.ensures.1.valid))
 
 pub overflow_mul-far : goal.overflow_mul-far
-overflow_mul-far c = let r = room search in omega (arith, c.requires.2)
+overflow_mul-far c = let r = room (goal.at.overflow_mul-far c).After-max_dist_within in omega (arith, c.requires.2)
 
 pub overflow_add-far : goal.overflow_add-far
-overflow_add-far c = let r = room search in omega (arith, c.requires.2)
+overflow_add-far c = let r = room (goal.at.overflow_add-far c).After-max_dist_within in omega (arith, c.requires.2)
 
 pub offset_bounds-far-c : goal.offset_bounds-far-c
-offset_bounds-far-c c = let r = room search in omega (arith, c.requires.2)
+offset_bounds-far-c c = let r = room (goal.at.offset_bounds-far-c c).After-max_dist_within in omega (arith, c.requires.2)
 
 pub bounds-far-c : goal.bounds-far-c
 bounds-far-c c =
-    let r = room search in
+    let r = room (goal.at.bounds-far-c c).After-max_dist_within in
     omega (arith, c.requires.2, c.requires.3, c.loop-c.invariant.1)
 
 pub loop-c-preserved : goal.loop-c-preserved

@@ -33,25 +33,25 @@ pub loop-left-preserved : goal.loop-left-preserved
 loop-left-preserved c =
     let a = c.args in
     let p = c.put_i32 in
-    let k : length p.last.0 ≡ length c.loop-left.d = p.kept.0 in
+    let k : length p.new.d ≡ length c.loop-left.d = p.auto.d in
     let m = numbers_per_box a.axes in
     let g : ℕ → List ℕ = λ k. bytes_signed (box_number a.axes a.boxes.now a.t k) in
     let z = get_or a.boxes.now c.loop-left.i (pos 0) in
-    let wrote : p.last.0 ≡ over c.loop-left.d c.loop-left.at (g (m - c.loop-left.false)) =
+    let wrote : p.new.d ≡ over c.loop-left.d c.loop-left.at (g (m - c.loop-left.left)) =
     simp (local_i32 z c.put_i32-arg-in-loop-left-1.given) at p.ensures
     ∙ ap (λ j. over c.loop-left.d c.loop-left.at (bytes_signed (get_or a.boxes.now j (pos 0)))) c.loop-left.invariant.1 in
-    let next : m - (c.loop-left.false - 1) ≡ m - c.loop-left.false + 1 = omega (arith, c.loop-left.invariant.0, c.loop-left-test) in (
+    let next : m - (c.loop-left.left - 1) ≡ m - c.loop-left.left + 1 = omega (arith, c.loop-left.invariant.0, c.loop-left-test) in (
       omega (arith, c.loop-left.invariant.0),
       omega (arith, c.loop-left.invariant.1, next),
       omega (arith, k, c.loop-left.invariant.2, c.loop-left-test),
       omega (arith, k, c.loop-left.invariant.3),
-      ap (λ j. over p.last.0 (c.loop-left.at + 4) (joined g j (c.loop-left.false - 1))) next
-          ∙ joined_turn g c.loop-left.d c.loop-left.at (c.loop-left.at + 4) (m - c.loop-left.false) c.loop-left.false
-          (search rules) wrote (ap (λ w. c.loop-left.at + (goal.at.loop-left-preserved c).After-put_i32) (sym (length-number _))) ∙ c.loop-left.invariant.4,
+      ap (λ j. over p.new.d (c.loop-left.at + 4) (joined g j (c.loop-left.left - 1))) next
+          ∙ joined_turn g c.loop-left.d c.loop-left.at (c.loop-left.at + 4) (m - c.loop-left.left) c.loop-left.left
+          (search rules) wrote (ap (λ w. c.loop-left.at + w) (sym (length-number _))) ∙ c.loop-left.invariant.4,
     )
 
 pub returns : goal.returns
 returns c =
     let a = c.args in
     joined_end (λ k. bytes_signed (box_number a.axes a.boxes.now a.t k)) c.loop-left.d c.loop-left.at
-    (numbers_per_box a.axes - c.loop-left.false) c.loop-left.false (search rules) ∙ c.loop-left.invariant.4
+    (numbers_per_box a.axes - c.loop-left.left) c.loop-left.left (search rules) ∙ c.loop-left.invariant.4

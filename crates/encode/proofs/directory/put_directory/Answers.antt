@@ -50,14 +50,14 @@ put_directory_block-site-requires c =
 pub loop-left-preserved : goal.loop-left-preserved
 loop-left-preserved c =
     let p = c.put_directory_block-site in
-    let k : length p.last.0 ≡ length c.loop-left.d = p.kept.0 in
+    let k : length p.new.d ≡ length c.loop-left.d = p.auto.d in
     let a = c.args in
     let w = length-directory_block a.axes a.boxes.now a.counts.now a.cues.now c.loop-left.p in (
       omega (arith, c.loop-left.invariant, c.loop-left-test),
       omega (arith, k, c.loop-left.invariant),
       joined_turn (block (goal.at.loop-left-preserved c).Start) c.loop-left.d
           (block_size * c.loop-left.p) (block_size * (c.loop-left.p + 1)) c.loop-left.p
-          c.loop-left.false (search rules) p.ensures.0 (omega (arith, w)) ∙ c.loop-left.invariant.2,
+          c.loop-left.left (search rules) p.ensures.0 (omega (arith, w)) ∙ c.loop-left.invariant.2,
       λ some. p.ensures.1
           ∙ ap (offset c.args.counts.now) (due_next (header_of c.args.axes c.args.counts.now) c.loop-left.p
           (omega (arith, c.loop-left.invariant.0, some))),
@@ -66,5 +66,5 @@ loop-left-preserved c =
 pub returns : goal.returns
 returns c =
     joined_end (block (goal.at.returns c).Start) c.loop-left.d
-    (block_size * c.loop-left.p) c.loop-left.p c.loop-left.false (search rules)
+    (block_size * c.loop-left.p) c.loop-left.p c.loop-left.left (search rules)
     ∙ c.loop-left.invariant.2

@@ -28,8 +28,9 @@ few c =
 
 used-end : (c : After-entry_offset-used) → c.entry_offset-used.result ≤ check_at
 used-end c =
+    let due = c.entries_due-n.ensures.0 ∙ ap (λ h. entries_due h c.args.p) c.header_of.ensures in
     rw c.entry_offset-used.ensures.1 (entries_end c.args.axes c.entries_due-n.result c.requires.0
-    (few c))
+    (rw due (due_few (header_of c.args.axes c.args.counts.now) c.args.p)))
 
 pub entries_due-n-requires : goal.entries_due-n-requires
 entries_due-n-requires c =
@@ -38,7 +39,7 @@ entries_due-n-requires c =
 
 pub entry_offset-used-requires : goal.entry_offset-used-requires
 entry_offset-used-requires c =
-    (c.requires.0, few search)
+    (c.requires.0, few (goal.at.entry_offset-used-requires c).After-entries_due-n)
 
 pub overflow_mul-entries_per_block : goal.overflow_mul-entries_per_block
 overflow_mul-entries_per_block c =
@@ -58,7 +59,7 @@ put_entries-next-requires c =
     let last : c.entries_per_block.result * a.p + c.entries_due-n.result ≤ length a.counts.now =
     omega (arith, within, d, first) in (
       c.requires.0,
-      omega (arith, end, c.requires.1, c.put_head.auto.0, c.put_zeros.auto.0),
+      omega (arith, end, c.requires.1, c.put_head.auto.d, c.put_zeros.auto.d),
       rw c.requires.2 (mul-le-mul_left (numbers_per_box a.axes) last),
       last,
       c.requires.5,
@@ -67,12 +68,12 @@ put_entries-next-requires c =
 
 pub overflow_add-at-4 : goal.overflow_add-at-4
 overflow_add-at-4 c =
-    let end = used-end search in
+    let end = used-end (goal.at.overflow_add-at-4 c).After-entry_offset-used in
     search rules
 
 pub put_zeros-requires-2 : goal.put_zeros-requires-2
 put_zeros-requires-2 c =
-    let end = used-end search in
+    let end = used-end (goal.at.put_zeros-requires-2 c).After-entry_offset-used in
     search rules
 
 pub put_checksum-requires : goal.put_checksum-requires
@@ -80,10 +81,10 @@ put_checksum-requires c =
     omega (
       arith,
       c.requires.1,
-      c.put_head.auto.0,
-      c.put_zeros.auto.0,
-      c.put_entries-next.auto.0,
-      c.put_zeros-2.auto.0,
+      c.put_head.auto.d,
+      c.put_zeros.auto.d,
+      c.put_entries-next.auto.d,
+      c.put_zeros-2.auto.d,
     )
 
 pub returns : goal.returns
@@ -104,7 +105,7 @@ returns c =
           (c.put_head.ensures ∙ ap (λ k. over a.d.now at (head_bytes k a.p n t)) c.directory_kind.ensures)
           c.put_zeros.ensures
           (c.put_entries-next.ensures.0
-          ∙ ap (λ k. over c.put_zeros.new.0 (at + payload_at) (joined g k n)) from) c.put_zeros-2.ensures
+          ∙ ap (λ k. over c.put_zeros.new.d (at + payload_at) (joined g k n)) from) c.put_zeros-2.ensures
           c.put_checksum.ensures
           ∙ ap (λ k. over a.d.now at (block_bytes (head_bytes kind a.p k t) (joined g first k))) (due (goal.at.returns c).After-entries_due-n),
       c.put_entries-next.ensures.1 ∙ ap (λ k. offset a.counts.now (k + n)) from

@@ -20,10 +20,10 @@ within c =
     omega (arith, c.requires.4, c.requires.5, c.wide-n.ensures.0, here)
 
 pub muted_from-requires : goal.muted_from-requires
-muted_from-requires c = omega (arith, within search)
+muted_from-requires c = omega (arith, within (goal.at.muted_from-requires c).After-wide-n)
 
 pub overflow_add-result : goal.overflow_add-result
-overflow_add-result c = let w = within search in search rules
+overflow_add-result c = let w = within (goal.at.overflow_add-result c).After-wide-n in search rules
 
 pub returns : goal.returns
 returns c =
@@ -36,7 +36,7 @@ returns c =
           c.put_box.ensures
           (c.put_u16.ensures ∙ ap (λ k. over c.put_box.new.d (a.at + k) (bytes16 c.wide-n.result))
           c.count_offset.ensures
-          ∙ ap (λ n. over c.put_box.new.d (a.at + count_offset a.axes) (bytes16 (goal.at.returns c).After-put_u16)) e)
+          ∙ ap (λ n. over c.put_box.new.d (a.at + count_offset a.axes) (bytes16 n)) e)
           (c.put_u16-2.ensures
           ∙ ap (λ k. over c.put_u16.new.d (a.at + k) (bytes16 c.muted_from.result))
           c.muted_offset.ensures

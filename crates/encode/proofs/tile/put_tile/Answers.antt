@@ -25,17 +25,17 @@ put_sites-requires c =
 
 pub overflow_add-at-4 : goal.overflow_add-at-4
 overflow_add-at-4 c =
-    let end = used-end search in
+    let end = used-end (goal.at.overflow_add-at-4 c).After-site_offset-used in
     search rules
 
 pub overflow_add-at-5 : goal.overflow_add-at-5
 overflow_add-at-5 c =
-    let end = used-end search in
+    let end = used-end (goal.at.overflow_add-at-5 c).After-site_offset-used in
     search rules
 
 pub put_zeros-requires-2 : goal.put_zeros-requires-2
 put_zeros-requires-2 c =
-    let end = used-end search in
+    let end = used-end (goal.at.put_zeros-requires-2 c).After-site_offset-used in
     search rules
 
 pub returns : goal.returns

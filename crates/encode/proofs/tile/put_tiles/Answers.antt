@@ -64,7 +64,7 @@ pub loop-t-preserved : goal.loop-t-preserved
 loop-t-preserved c =
     let a = c.args in
     let p = c.put_tile in
-    let k : length p.last.0 ≡ length c.loop-t.d = p.kept.0 in
+    let k : length p.new.d ≡ length c.loop-t.d = p.auto.d in
     let n = c.wide-n.ensures.0 in
     let spots = take a.axes (a.xs.now ∷ a.ys.now ∷ a.zs.now ∷ []) in
     let g = tile_bytes_of a.axes a.counts.now spots a.cues.now in
@@ -79,7 +79,7 @@ loop-t-preserved c =
       omega (arith, offset_next a.counts.now t, c.loop-t.invariant.1, n),
       search rules,
       omega (arith, k, c.loop-t.invariant.3),
-      ap (λ k. over p.last.0 (block_size * (c.loop-t.p + 1)) (joined g (t + 1) k)) m
+      ap (λ k. over p.new.d (block_size * (c.loop-t.p + 1)) (joined g (t + 1) k)) m
           ∙ joined_turn g c.loop-t.d (block_size * c.loop-t.p) (block_size * (c.loop-t.p + 1)) t
           (length a.counts.now - t) (search rules)
           (p.ensures ∙ ap (over c.loop-t.d (block_size * c.loop-t.p)) e) (omega (arith, w)) ∙ c.loop-t.invariant.4,

@@ -38,8 +38,8 @@ pub overflow_mul-result : goal.overflow_mul-result
 overflow_mul-result c = fits c.args.d c.ranges.d
 
 pub overflow_cast-result : goal.overflow_cast-result
-overflow_cast-result c = rw (to_z-of_z {w = w32} (fits c.args.d c.ranges.d), square c.args.d c.ranges.d)
+overflow_cast-result c = rw (to_z-of_z {w = w64} (fits c.args.d c.ranges.d), square c.args.d c.ranges.d)
     (tt, record { fits = omega (arith, bound c.args.d c.ranges.d) })
 
 pub returns : goal.returns
-returns c = rw (to_z-of_z {w = w32} (fits c.args.d c.ranges.d), square c.args.d c.ranges.d)
+returns c = rw (to_z-of_z {w = w64} (fits c.args.d c.ranges.d), square c.args.d c.ranges.d)

@@ -1,7 +1,9 @@
 use Prim.Native.Nat.{ℕ, ◌+◌, ◌≤◌, ◌<◌}
 use mathlib.Core.Bool.{true}
+use mathlib.Core.List.{List}
 use mathlib.Core.Path.{◌≡◌}
 use native.Mathlib.Omega.{arith}
+use lib.IntN.{ℤ}
 use mir.Facts.{to_z-of_z}
 use mir.Syntax.{w32}
 use mir.Val.{SFits}
@@ -22,24 +24,24 @@ valid : (s : Start) (i : ℕ) → i < s.args.axes
 valid s i l =
     valid_at s.args.b s.args.p s.args.axes (omega arith) (omega arith) s.requires.1.0 s.requires.1.1 i l
 
-abbrev square-at : Start → ℕ → ℕ
-square-at s i = square (coordinate s.args.p i) (closest (axis_at s.args.b i) (coordinate s.args.p i))
+abbrev square-at : List (List ℤ) → List ℤ → ℕ → ℕ
+square-at b p i = square (coordinate p i) (closest (axis_at b i) (coordinate p i))
 
-bounded : (s : Start) (i : ℕ) → i < s.args.axes → square-at s i ≤ axis_bound
+bounded : (s : Start) (i : ℕ) → i < s.args.axes → square-at s.args.b s.args.p i ≤ axis_bound
 bounded s i l =
     let v = valid s i l in
     closest_bound (axis_at s.args.b i) (coordinate s.args.p i) (axis (axis_at s.args.b i) v.0)
     (limited (coordinate s.args.p i) v.1)
 
-plan : (c : After-min_square-2) → c.min_square.result + c.min_square-2.result ≡ square-at s 0 + square-at s 1
+plan : (c : After-min_square-2) → c.min_square.result + c.min_square-2.result ≡ square-at c.args.b c.args.p 0 + square-at c.args.b c.args.p 1
 plan c =
     let px : SFits w32 (coordinate c.args.p 0) = sfits_of c.min_square-arg-2-1.given in
     let py : SFits w32 (coordinate c.args.p 1) = sfits_of c.min_square-arg-4-1.given in
-    let ex : c.min_square.result ≡ square-at s 0 = simp (to_z-of_z {w = w32} px) at c.min_square.ensures in
-    let ey : c.min_square-2.result ≡ square-at s 1 = simp (to_z-of_z {w = w32} py) at c.min_square-2.ensures in
+    let ex : c.min_square.result ≡ square-at c.args.b c.args.p 0 = simp (to_z-of_z {w = w32} px) at c.min_square.ensures in
+    let ey : c.min_square-2.result ≡ square-at c.args.b c.args.p 1 = simp (to_z-of_z {w = w32} py) at c.min_square-2.ensures in
     omega arith
 
-height : (c : After-min_square-then-axes-eq-HEIGHT) → c.min_square-then-axes-eq-HEIGHT.result ≡ square-at s 2
+height : (c : After-min_square-then-axes-eq-HEIGHT) → c.min_square-then-axes-eq-HEIGHT.result ≡ square-at c.args.b c.args.p 2
 height c =
     let pz : SFits w32 (coordinate c.args.p 2) = sfits_of c.min_square-arg-then-axes-eq-HEIGHT-2-1.given in
     simp (to_z-of_z {w = w32} pz) at c.min_square-then-axes-eq-HEIGHT.ensures

@@ -1,7 +1,9 @@
 use Prim.Native.Nat.{ℕ, ◌+◌, ◌≤◌, ◌<◌}
 use mathlib.Core.Bool.{true}
+use mathlib.Core.List.{List}
 use mathlib.Core.Path.{◌≡◌}
 use native.Mathlib.Omega.{arith}
+use lib.IntN.{ℤ}
 use mir.Facts.{to_z-of_z}
 use mir.Syntax.{w32}
 use mir.Val.{SFits}
@@ -23,27 +25,27 @@ valid s i l = (
   within_at s.args.q s.args.axes (omega arith) s.requires.1.1 i l,
 )
 
-abbrev square-at : Start → ℕ → ℕ
-square-at s i = square (coordinate s.args.p i) (coordinate s.args.q i)
+abbrev square-at : List ℤ → List ℤ → ℕ → ℕ
+square-at p q i = square (coordinate p i) (coordinate q i)
 
-bounded : (s : Start) (i : ℕ) → i < s.args.axes → square-at s i ≤ axis_bound
+bounded : (s : Start) (i : ℕ) → i < s.args.axes → square-at s.args.p s.args.q i ≤ axis_bound
 bounded s i l =
     let v = valid s i l in
     let x = coordinate s.args.p i in
     let y = coordinate s.args.q i in
     square_bound x y (limited x v.0) (limited y v.1)
 
-plan : (c : After-square-2) → c.square.result + c.square-2.result ≡ square-at s 0 + square-at s 1
+plan : (c : After-square-2) → c.square.result + c.square-2.result ≡ square-at c.args.p c.args.q 0 + square-at c.args.p c.args.q 1
 plan c =
     let px : SFits w32 (coordinate c.args.p 0) = sfits_of c.square-arg-1.given in
     let qx : SFits w32 (coordinate c.args.q 0) = sfits_of c.square-arg-2-1.given in
     let py : SFits w32 (coordinate c.args.p 1) = sfits_of c.square-arg-3-1.given in
     let qy : SFits w32 (coordinate c.args.q 1) = sfits_of c.square-arg-4-1.given in
-    let ex : c.square.result ≡ square-at s 0 = simp (to_z-of_z {w = w32} px, to_z-of_z {w = w32} qx) at c.square.ensures in
-    let ey : c.square-2.result ≡ square-at s 1 = simp (to_z-of_z {w = w32} py, to_z-of_z {w = w32} qy) at c.square-2.ensures in
+    let ex : c.square.result ≡ square-at c.args.p c.args.q 0 = simp (to_z-of_z {w = w32} px, to_z-of_z {w = w32} qx) at c.square.ensures in
+    let ey : c.square-2.result ≡ square-at c.args.p c.args.q 1 = simp (to_z-of_z {w = w32} py, to_z-of_z {w = w32} qy) at c.square-2.ensures in
     omega arith
 
-height : (c : After-square-then-axes-eq-HEIGHT) → c.square-then-axes-eq-HEIGHT.result ≡ square-at s 2
+height : (c : After-square-then-axes-eq-HEIGHT) → c.square-then-axes-eq-HEIGHT.result ≡ square-at c.args.p c.args.q 2
 height c =
     let pz : SFits w32 (coordinate c.args.p 2) = sfits_of c.square-arg-then-axes-eq-HEIGHT-1.given in
     let qz : SFits w32 (coordinate c.args.q 2) = sfits_of c.square-arg-then-axes-eq-HEIGHT-2-1.given in

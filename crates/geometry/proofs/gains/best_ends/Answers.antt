@@ -26,4 +26,4 @@ returns c =
     let x : c.best_end-x.result ≡ best_end c.args.o c.args.e c.args.b = c.best_end-x.ensures in
     let y = simp x at (simp (to_z-of_z {w = w32} kx) at c.farthest-y.ensures) in
     let z = simp x at (simp (to_z-of_z {w = w32} kx) at c.closest-z.ensures) in
-    (to_z-of_z {w = w32} kx ∙ x, (to_z-of_z {w = w32} ky ∙ y, to_z-of_z {w = w32} kz ∙ z))
+    record { o = to_z-of_z {w = w32} kx ∙ x; e = to_z-of_z {w = w32} ky ∙ y; b = to_z-of_z {w = w32} kz ∙ z }

@@ -1,4 +1,3 @@
-use mir.Syntax.{w32}
 use Prim.Native.Nat.{ℕ, ◌≤◌}
 use mathlib.Core.Path.{◌≡◌, ◌∙◌}
 use native.Mathlib.Omega.{arith}
@@ -22,5 +21,5 @@ overflow_sub-result c = fits c.args.far c.args.near c.requires.0 c.requires.1
 
 pub returns : goal.returns
 returns c =
-    to_z-of_z {w = w32} (fits c.args.far c.args.near c.requires.0 c.requires.1)
+    to_z-of_z {w = w64} (fits c.args.far c.args.near c.requires.0 c.requires.1)
     ∙ signed c.args.far c.args.near c.requires.0 c.requires.1

@@ -1,4 +1,3 @@
-use mir.Syntax.{w32}
 use mir.Facts.{to_z-of_z}
 use mir.Syntax.{w64}
 use mir.Val.{SFits}
@@ -10,4 +9,4 @@ pub returns : goal.returns
 unfolding closer
 returns c =
     let m : SFits w64 c.margin_within.result = sfits_of c.margin_within.type_inv in
-    rw (to_z-of_z {w = w32} m, c.margin_within.ensures)
+    rw (to_z-of_z {w = w64} m, c.margin_within.ensures)

@@ -1,10 +1,10 @@
 use mathlib.Core.Path.{◌≡◌, refl, sym, ◌∙◌}
 use native.Mathlib.Omega.{arith}
-use lib.ListN.{length, length-map}
+use lib.ListN.{length}
 use mir.Facts.{to_z-of_z}
-use mir.Syntax.{w32}
+use mir.Syntax.{w32, w64}
 use mir.Val.{SFits}
-use borrow.Author.Rules.{sfits_of}
+use borrow.Author.Rules.{rules}
 use Rattle.geometry.specs.Axes.{coordinate}
 use Rattle.geometry.specs.Calls.{reached_of3, reached_in}
 use Rattle.geometry.proofs.ByAxis.{each, next, same-reached, take-each}
@@ -13,22 +13,22 @@ use Rattle.geometry.proofs.margin.high_points.Goals as goal
 pub returns : goal.returns
 unfolding reached_of3 reached_in each
 returns c =
-    let told = c.struct_told-1.given in
     let m = c.args.m in
-    let fits-o0 : SFits w32 (coordinate m.o 0) = sfits_of c.result-1.given in
-    let fits-o1 : SFits w32 (coordinate m.o 1) = sfits_of c.result-2-1.given in
-    let fits-o2 : SFits w32 (coordinate m.o 2) = sfits_of c.result-3-1.given in
-    let fits-e0 : SFits w32 (coordinate m.e 0) = sfits_of c.result-4-1.given in
-    let fits-e1 : SFits w32 (coordinate m.e 1) = sfits_of c.result-5-1.given in
-    let fits-e2 : SFits w32 (coordinate m.e 2) = sfits_of c.result-6-1.given in
-    let fits-b0 : SFits w32 (coordinate m.b 0) = sfits_of c.result-7-1.given in
-    let fits-b1 : SFits w32 (coordinate m.b 1) = sfits_of c.result-8-1.given in
-    let fits-b2 : SFits w32 (coordinate m.b 2) = sfits_of c.result-9-1.given in
-    let lo : length m.o ≡ 3 = simp length-map at told.1.0.1.0.1 in
-    let le : length m.e ≡ 3 = simp length-map at told.1.1.0.1.0.1 in
-    let lb : length m.b ≡ 3 = simp length-map at told.1.1.1.0.1.0.1 in
+    let fits : SFits w64 m.margin = search rules in
+    let fits-o0 : SFits w32 (coordinate m.o 0) = search rules in
+    let fits-o1 : SFits w32 (coordinate m.o 1) = search rules in
+    let fits-o2 : SFits w32 (coordinate m.o 2) = search rules in
+    let fits-e0 : SFits w32 (coordinate m.e 0) = search rules in
+    let fits-e1 : SFits w32 (coordinate m.e 1) = search rules in
+    let fits-e2 : SFits w32 (coordinate m.e 2) = search rules in
+    let fits-b0 : SFits w32 (coordinate m.b 0) = search rules in
+    let fits-b1 : SFits w32 (coordinate m.b 1) = search rules in
+    let fits-b2 : SFits w32 (coordinate m.b 2) = search rules in
+    let lo : length m.o ≡ 3 = omega arith in
+    let le : length m.e ≡ 3 = omega arith in
+    let lb : length m.b ≡ 3 = omega arith in
     same-reached
-    (to_z-of_z {w = w32} (sfits_of told.0.1))
+    (to_z-of_z {w = w64} fits)
     (next (to_z-of_z {w = w32} fits-o0) (next (to_z-of_z {w = w32} fits-o1) (next (to_z-of_z {w = w32} fits-o2) refl))
     ∙ sym (take-each m.o 3 (omega arith)))
     (next (to_z-of_z {w = w32} fits-e0) (next (to_z-of_z {w = w32} fits-e1) (next (to_z-of_z {w = w32} fits-e2) refl))

@@ -10,14 +10,16 @@ use Rattle.geometry.proofs.margin.margin.Goals as goal
 use Rattle.geometry.proofs.margin.margin.Goals.{After-valid_boxes}
 
 -- the test of the padded boxes is that of the boxes
-tested : (c : After-valid_boxes) → c.valid_boxes.result ≡ (valid_box c.args.o && valid_box c.args.e) && valid_box c.args.b
+tested : (c : After-valid_boxes)
+    → c.valid_boxes.result ≡ (valid_box c.args.o && valid_box c.args.e) && valid_box c.args.b
 tested c =
     rw (c.pad_box-po.ensures, c.pad_box-pe.ensures, c.pad_box-pb.ensures) at c.valid_boxes.ensures
 
 pub returns-then-not-valid_boxes : goal.returns-then-not-valid_boxes
 unfolding margin_call
 returns-then-not-valid_boxes c =
-    rw (c.bad_box.ensures.0, c.bad_box.ensures.1, failed (tested (goal.at.returns-then-not-valid_boxes c).After-valid_boxes) c.if-not-valid_boxes.true)
+    let t = tested (goal.at.returns-then-not-valid_boxes c).After-valid_boxes in
+    rw (c.bad_box.ensures.0, c.bad_box.ensures.1, failed t c.if-not-valid_boxes.true)
 
 pub margin_points-requires : goal.margin_points-requires
 margin_points-requires c = (search rules, all_valid _ _ _ (passed c.valid_boxes.ensures c.if-not-valid_boxes.false))

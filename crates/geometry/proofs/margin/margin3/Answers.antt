@@ -1,6 +1,9 @@
-use mathlib.Core.Bool.{◌&&◌}
+use mathlib.Core.Bool.{Bool, ◌&&◌}
+use mathlib.Core.List.{List}
 use mathlib.Core.Path.{◌≡◌, ap, ◌∙◌}
-use lib.ListN.{take}
+use native.Mathlib.Omega.{arith}
+use lib.IntN.{ℤ}
+use lib.ListN.{length, take}
 use lib.Seq.{take_all}
 use borrow.Author.Rules.{rules}
 use Rattle.base.specs.Refusal.{accepted}
@@ -9,24 +12,21 @@ use Rattle.geometry.specs.Box.{valid_box}
 use Rattle.geometry.specs.Calls.{margin_call}
 use Rattle.geometry.proofs.ByAxis.{all_valid}
 use Rattle.geometry.proofs.margin.margin3.Goals as goal
-use Rattle.geometry.proofs.margin.margin3.Goals.{After-valid_boxes, Start}
 
 -- three axes are all of them
-whole : (s : Start) → (take 3 s.args.o ≡ s.args.o)
-    × ((take 3 s.args.e ≡ s.args.e) × (take 3 s.args.b ≡ s.args.b))
-whole s = (
-  take_all 3 s.args.o (search rules),
-  (take_all 3 s.args.e (search rules), take_all 3 s.args.b (search rules)),
-)
+whole : (o : List (List ℤ)) → length o ≡ 3 → take 3 o ≡ o
+whole o l = take_all 3 o (omega arith)
 
-tested : (c : After-valid_boxes) → c.valid_boxes.result ≡ (valid_box c.args.o && valid_box c.args.e) && valid_box c.args.b
-tested c =
-    rw ((whole s).0, (whole s).1.0, (whole s).1.1) at c.valid_boxes.ensures
+tested : (o e b : List (List ℤ)) (r : Bool) → length o ≡ 3 → length e ≡ 3 → length b ≡ 3
+    → r ≡ (valid_box (take 3 o) && valid_box (take 3 e)) && valid_box (take 3 b)
+    → r ≡ (valid_box o && valid_box e) && valid_box b
+tested o e b r lo le lb t = rw (whole o lo, whole e le, whole b lb) at t
 
 pub returns-then-not-valid_boxes : goal.returns-then-not-valid_boxes
 unfolding margin_call
 returns-then-not-valid_boxes c =
-    rw (c.bad_box.ensures.0, c.bad_box.ensures.1, failed (tested (goal.at.returns-then-not-valid_boxes c).After-valid_boxes) c.if-not-valid_boxes.true)
+    let t = tested c.args.o c.args.e c.args.b _ (omega arith) (omega arith) (omega arith) c.valid_boxes.ensures in
+    rw (c.bad_box.ensures.0, c.bad_box.ensures.1, failed t c.if-not-valid_boxes.true)
 
 pub margin_points-requires : goal.margin_points-requires
 margin_points-requires c = (search rules, all_valid _ _ _ (passed c.valid_boxes.ensures c.if-not-valid_boxes.false))
@@ -34,6 +34,11 @@ margin_points-requires c = (search rules, all_valid _ _ _ (passed c.valid_boxes.
 pub returns : goal.returns
 unfolding margin_call
 returns c =
-    rw (passed (tested (goal.at.returns c).After-valid_boxes) c.if-not-valid_boxes.false)
+    let o = c.args.o in
+    let e = c.args.e in
+    let b = c.args.b in
+    let t = tested o e b _ (omega arith) (omega arith) (omega arith) c.valid_boxes.ensures in
+    rw (passed t c.if-not-valid_boxes.false)
     (ap accepted
-    (c.high_points.ensures ∙ (rw ((whole (goal.at.returns c).Start).0, (whole (goal.at.returns c).Start).1.0, (whole (goal.at.returns c).Start).1.1) at c.margin_points.ensures)))
+    (c.high_points.ensures
+    ∙ (rw (whole o (omega arith), whole e (omega arith), whole b (omega arith)) at c.margin_points.ensures)))

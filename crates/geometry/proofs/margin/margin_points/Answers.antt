@@ -4,9 +4,9 @@ use native.Mathlib.Omega.{arith}
 use lib.IntN.{ℤ}
 use lib.ListN.{length}
 use mir.Facts.{to_z-of_z}
-use mir.Syntax.{Width}
+use mir.Syntax.{Width, w32, w64}
 use mir.Val.{SFits, to_z, of_z}
-use borrow.Author.Rules.{sfits_of}
+use borrow.Author.Rules.{sfits_of, rules}
 use Rattle.geometry.specs.Axes.{axis_at}
 use Rattle.geometry.specs.Calls.{reached_in}
 use Rattle.geometry.proofs.BestEnd.{Valid}
@@ -48,16 +48,16 @@ returns-then-axes-eq-HEIGHT c =
     let h : c.args.axes ≡ 3 = c.if-axes-eq-HEIGHT.true in
     rw h
     (same-reached
-    (kept (sfits_of c.margin_within-margin.type_inv) (rw h at c.margin_within-margin.ensures))
-    (next (kept (sfits_of c.struct_told-1.given.0.1) c.best_ends-x.ensures.0)
-    (next (kept (sfits_of c.struct_told-then-axes-eq-HEIGHT-1.given.0.1) c.best_ends-y.ensures.0)
-    (next (kept (sfits_of c.struct_told-then-axes-eq-HEIGHT-2-1.given.0.1) c.best_ends-z.ensures.0) refl)))
-    (next (kept (sfits_of c.struct_told-then-axes-eq-HEIGHT-3-1.given.1.0.1) c.best_ends-x.ensures.1.0)
-    (next (kept (sfits_of c.struct_told-then-axes-eq-HEIGHT-4-1.given.1.0.1) c.best_ends-y.ensures.1.0)
-    (next (kept (sfits_of c.struct_told-then-axes-eq-HEIGHT-5-1.given.1.0.1) c.best_ends-z.ensures.1.0) refl)))
-    (next (kept (sfits_of c.struct_told-then-axes-eq-HEIGHT-6-1.given.1.1.0.1) c.best_ends-x.ensures.1.1)
-    (next (kept (sfits_of c.struct_told-then-axes-eq-HEIGHT-7-1.given.1.1.0.1) c.best_ends-y.ensures.1.1)
-    (next (kept (sfits_of c.struct_told-then-axes-eq-HEIGHT-8-1.given.1.1.0.1) c.best_ends-z.ensures.1.1) refl)))
+    (kept {w = w64} (sfits_of c.margin_within-margin.type_inv) (rw h at c.margin_within-margin.ensures))
+    (next (kept {w = w32} (search rules) c.best_ends-x.ensures.o)
+    (next (kept {w = w32} (search rules) c.best_ends-y.ensures.o)
+    (next (kept {w = w32} (search rules) c.best_ends-z.ensures.o) refl)))
+    (next (kept {w = w32} (search rules) c.best_ends-x.ensures.e)
+    (next (kept {w = w32} (search rules) c.best_ends-y.ensures.e)
+    (next (kept {w = w32} (search rules) c.best_ends-z.ensures.e) refl)))
+    (next (kept {w = w32} (search rules) c.best_ends-x.ensures.b)
+    (next (kept {w = w32} (search rules) c.best_ends-y.ensures.b)
+    (next (kept {w = w32} (search rules) c.best_ends-z.ensures.b) refl)))
     ∙ sym (reached-each c.args.o c.args.e c.args.b 3 (omega arith) (omega arith) (omega arith)))
 
 pub returns-else-axes-eq-HEIGHT : goal.returns-else-axes-eq-HEIGHT
@@ -67,11 +67,11 @@ returns-else-axes-eq-HEIGHT c =
     let h : c.args.axes ≡ 2 = on_plan (goal.at.returns-else-axes-eq-HEIGHT c).Else-axes-eq-HEIGHT in
     rw h
     (same-reached
-    (kept (sfits_of c.margin_within-margin.type_inv) (rw h at c.margin_within-margin.ensures))
-    (next (kept (sfits_of c.struct_told-else-axes-eq-HEIGHT-1.given.0.1) c.best_ends-x.ensures.0)
-    (next (kept (sfits_of c.struct_told-else-axes-eq-HEIGHT-2-1.given.0.1) c.best_ends-y.ensures.0) refl))
-    (next (kept (sfits_of c.struct_told-else-axes-eq-HEIGHT-3-1.given.1.0.1) c.best_ends-x.ensures.1.0)
-    (next (kept (sfits_of c.struct_told-else-axes-eq-HEIGHT-4-1.given.1.0.1) c.best_ends-y.ensures.1.0) refl))
-    (next (kept (sfits_of c.struct_told-else-axes-eq-HEIGHT-5-1.given.1.1.0.1) c.best_ends-x.ensures.1.1)
-    (next (kept (sfits_of c.struct_told-else-axes-eq-HEIGHT-6-1.given.1.1.0.1) c.best_ends-y.ensures.1.1) refl))
+    (kept {w = w64} (sfits_of c.margin_within-margin.type_inv) (rw h at c.margin_within-margin.ensures))
+    (next (kept {w = w32} (search rules) c.best_ends-x.ensures.o)
+    (next (kept {w = w32} (search rules) c.best_ends-y.ensures.o) refl))
+    (next (kept {w = w32} (search rules) c.best_ends-x.ensures.e)
+    (next (kept {w = w32} (search rules) c.best_ends-y.ensures.e) refl))
+    (next (kept {w = w32} (search rules) c.best_ends-x.ensures.b)
+    (next (kept {w = w32} (search rules) c.best_ends-y.ensures.b) refl))
     ∙ sym (reached-each c.args.o c.args.e c.args.b 2 (omega arith) (omega arith) (omega arith)))

@@ -32,15 +32,15 @@ module _ (s : Start) where
   cols = take s.args.h.axes three
 
   count : stop_count cols ≡ length s.args.xs.now
-  count = take_count s.args.h.axes (omega (arith, s.pre.0.0.0)) three
+  count = take_count s.args.h.axes (omega (arith, s.requires.0.0.0)) three
 
   all-places : stop_count cols * s.args.k ≡ length s.args.xs.now * s.args.k
   all-places = ap (λ n. n * s.args.k) count
 
   long : (length s.args.ys.now ≡ length s.args.xs.now)
       × (length s.args.zs.now ≡ length s.args.xs.now)
-  long = same-columns s.args.h.axes s.args.xs.now s.args.ys.now s.args.zs.now s.pre.0
-      s.pre.1.args.same
+  long = same-columns s.args.h.axes s.args.xs.now s.args.ys.now s.args.zs.now s.requires.0
+      s.requires.1.args.same
 
 -- the box around the stops, on the axes of the town
 box : (a : After-around) → region_of a.args.h a.around.result ≡ around (cols s)
@@ -53,20 +53,20 @@ abbrev start : After-mark_pruned-pruned → Start
 start m = search
 
 begins : (m : After-mark_pruned-pruned) →
-    lent m.clear_places.new.dist m.clear_places.new.site m.clear_places.new.site.1.0
-    m.mark_pruned-pruned.new.1.1.1.1.0 ≡ started (start m).requires.1
+    lent m.clear_places.new.dist m.clear_places.new.site m.clear_places.new.cue
+    m.mark_pruned-pruned.new.marks ≡ started (start m).requires.1
 begins m =
-    begun (start m).requires.1 (rw (all-places (start m)) m.clear_places.ensures) (box a) m.mark_pruned-pruned.ensures.1
+    begun (start m).requires.1 (rw (all-places (start m)) m.clear_places.ensures) (box a) m.mark_pruned-pruned.ensures.marks_after
 
 abbrev before : After-gather_stops → After-mark_pruned-pruned
 before g = search
 
 points : (g : After-gather_stops)
-    → take (length (start (before g)).args.xs.now) g.gather_stops.new.1.1.1.0
+    → take (length (start (before g)).args.xs.now) g.gather_stops.new.stops
     ≡ stops_of (three (start (before g)))
 points g =
     let s = start (before g) in
-    points_gathered (three s) _ g.gather_stops.ensures (omega (arith, s.pre.1.args.few, count s))
+    points_gathered (three s) _ g.gather_stops.ensures (omega (arith, s.requires.1.args.few, count s))
 
 -- each has room for three axes, and on those of the town it is a stop of the call
 roomy : (s : Start) → All (λ p. length p ≡ 3) (stops_of (three s))
@@ -84,11 +84,11 @@ abbrev pruning : After-serve → After-mark_pruned-pruned
 pruning v = before (gathered v)
 
 tried : (v : After-serve) → Attempted (start (pruning v)).requires.1 (serving_outcome v.serve.result)
-    (lent v.serve.new.1.1.1.1.0 v.serve.new.1.1.1.1.1.0 v.serve.new.1.1.1.1.1.1.0
-    v.serve.new.1.1.1.1.1.1.1.0)
+    (lent v.serve.new.dist v.serve.new.site v.serve.new.cue
+    v.serve.new.marks)
 tried v =
     let m = pruning v in
-    attempted (start m).pre.1 (begins m) (rw (points (gathered v), stops-are (start m)) at v.serve.ensures)
+    attempted (start m).requires.1 (begins m) (rw (points (gathered v), stops-are (start m)) at v.serve.ensures)
 
 bytes : (m : After-mark_pruned-pruned) → Bytes (start m).args.f.now
 bytes m = λ i. omega (arith, m.shared_slice_known-1.given i)
@@ -98,16 +98,16 @@ few m = tiles_few (start m).args.f.now (start m).args.h (start m).requires.1.dir
 
 -- no slice has got longer or shorter
 lengths : (v : After-serve) → let a = (start (pruning v)).args in
-    (length v.serve.new.1.1.1.1.0 ≡ length a.dist.now)
-    × (length v.serve.new.1.1.1.1.1.0 ≡ length a.site.now)
-    × (length v.serve.new.1.1.1.1.1.1.0 ≡ length a.cue.now)
-    × (length v.serve.new.1.1.1.1.1.1.1.0 ≡ length a.marks.now)
+    (length v.serve.new.dist ≡ length a.dist.now)
+    × (length v.serve.new.site ≡ length a.site.now)
+    × (length v.serve.new.cue ≡ length a.cue.now)
+    × (length v.serve.new.marks ≡ length a.marks.now)
 lengths v =
     let s = v.serve.auto.1.1.1.1 in (
-      s.0 ∙ v.clear_places.kept.0,
-      s.1.0 ∙ v.clear_places.kept.1.0,
-      s.1.1.0 ∙ v.clear_places.kept.1.1.0,
-      s.1.1.1.0 ∙ (pruning v).mark_pruned.auto.1.1.1.1.0,
+      s.0 ∙ v.clear_places.auto.dist,
+      s.1.0 ∙ v.clear_places.auto.site,
+      s.1.1.0 ∙ v.clear_places.auto.cue,
+      s.1.1.1.0 ∙ (pruning v).mark_pruned-pruned.auto.marks,
     )
 
 -- ---- it was served
@@ -135,29 +135,29 @@ mark_pruned-pruned-requires c =
 pub gather_stops-requires : goal.gather_stops-requires
 gather_stops-requires c =
     let s = start (goal.at.gather_stops-requires c).After-mark_pruned-pruned in
-    ((long s).0, (long s).1, omega (arith, s.pre.1.args.few, count s))
+    ((long s).0, (long s).1, omega (arith, s.requires.1.args.few, count s))
 
 pub slice_bounds-stops-end : goal.slice_bounds-stops-end
 slice_bounds-stops-end c =
     let s = start (before (goal.at.slice_bounds-stops-end c).After-gather_stops) in
-    omega (arith, s.pre.1.args.few, count s)
+    omega (arith, s.requires.1.args.few, count s)
 
 pub slice_bounds-serve-end : goal.slice_bounds-serve-end
 slice_bounds-serve-end c =
     let s = start (before (goal.at.slice_bounds-serve-end c).After-gather_stops) in
     omega (
       arith,
-      s.pre.1.args.few,
+      s.requires.1.args.few,
       count s,
-      c.gather_stops.kept.1.1.1.0,
-      length-take (length s.args.xs.now) c.gather_stops.new.ys.1.1.0,
+      c.gather_stops.auto.stops,
+      length-take (length s.args.xs.now) c.gather_stops.new.stops,
     )
 
 pub serve-requires : goal.serve-requires
 serve-requires c =
     let m = before (goal.at.serve-requires c).After-gather_stops in
     let s = start m in
-    (rw (points (goal.at.serve-requires c).After-gather_stops) (roomy s), rw (points (goal.at.serve-requires c).After-gather_stops, stops-are s) (stops_ready s.pre.1 (begins m)))
+    (rw (points (goal.at.serve-requires c).After-gather_stops) (roomy s), rw (points (goal.at.serve-requires c).After-gather_stops, stops-are s) (stops_ready s.requires.1 (begins m)))
 
 pub count_opened-opened-requires : goal.count_opened-opened-requires
 count_opened-opened-requires c =
@@ -166,7 +166,7 @@ count_opened-opened-requires c =
 pub overflow_cast-result : goal.overflow_cast-result
 overflow_cast-result c =
     let m = pruning (goal.at.overflow_cast-result c).After-serve in
-    omega (arith, used_few (start m).pre.1 (bytes m) (tried (goal.at.overflow_cast-result c).After-serve) (ap serving_outcome c.in-Served.is))
+    omega (arith, used_few (start m).requires.1 (bytes m) (tried (goal.at.overflow_cast-result c).After-serve) (ap serving_outcome c.in-Served.is))
 
 pub overflow_cast-result-in-Served : goal.overflow_cast-result-in-Served
 overflow_cast-result-in-Served c = omega (arith, few (pruning (goal.at.overflow_cast-result-in-Served c).After-serve))
@@ -176,7 +176,7 @@ overflow_cast-result-in-Served-2 c =
     omega (arith, few (pruning (goal.at.overflow_cast-result-in-Served-2 c).After-serve), c.count_opened-opened.ensures.1)
 
 pub overflow_cast-result-in-Served-3 : goal.overflow_cast-result-in-Served-3
-overflow_cast-result-in-Served-3 c = omega (arith, few (goal.at.overflow_cast-result-in-Served-3 c).After-mark_pruned-pruned, c.mark_pruned-pruned.ensures.0.1)
+overflow_cast-result-in-Served-3 c = omega (arith, few (goal.at.overflow_cast-result-in-Served-3 c).After-mark_pruned-pruned, c.mark_pruned-pruned.ensures.value.1)
 
 pub shape_of-dist-in-Served : goal.shape_of-dist-in-Served
 shape_of-dist-in-Served c = (lengths (goal.at.shape_of-dist-in-Served c).After-serve).0
@@ -194,8 +194,8 @@ pub returns-in-Served : goal.returns-in-Served
 returns-in-Served c =
     let m = pruning (goal.at.returns-in-Served c).After-serve in
     let x = (start m).args in
-    run_answers (start m).pre.1 (bytes m) (tried (goal.at.returns-in-Served c).After-serve) (ap serving_outcome c.in-Served.is)
-    (m.mark_pruned.ensures.0.0 ∙ ap (λ b. pruned_count (entries x.f.now x.h) b x.k) (box (goal.at.returns-in-Served c).After-around))
+    run_answers (start m).requires.1 (bytes m) (tried (goal.at.returns-in-Served c).After-serve) (ap serving_outcome c.in-Served.is)
+    (m.mark_pruned-pruned.ensures.value.0 ∙ ap (λ b. pruned_count (entries x.f.now x.h) b x.k) (box (goal.at.returns-in-Served c).After-around))
     c.count_opened-opened.ensures.0
 
 pub shape_of-dist-in-Refused : goal.shape_of-dist-in-Refused
@@ -213,4 +213,4 @@ shape_of-marks-in-Refused c = (lengths (goal.at.shape_of-marks-in-Refused c).Aft
 pub returns-in-Refused : goal.returns-in-Refused
 returns-in-Refused c =
     let m = pruning (goal.at.returns-in-Refused c).After-serve in
-    run_refuses (start m).pre.1 (bytes m) (tried (goal.at.returns-in-Refused c).After-serve) (ap serving_outcome c.in-Refused.is)
+    run_refuses (start m).requires.1 (bytes m) (tried (goal.at.returns-in-Refused c).After-serve) (ap serving_outcome c.in-Refused.is)

@@ -26,24 +26,24 @@ returns-then-not-valid_reach c =
     rw (failed c.valid_reach.ensures c.if-not-valid_reach.true) refl
 
 pub overflow_mul-square : goal.overflow_mul-square
-overflow_mul-square c = omega (arith, square-small search)
+overflow_mul-square c = omega (arith, square-small (goal.at.overflow_mul-square c).Else-not-valid_reach)
 
 pub overflow_mul-last : goal.overflow_mul-last
-overflow_mul-last c = omega (arith, square-small search)
+overflow_mul-last c = omega (arith, square-small (goal.at.overflow_mul-last c).Else-not-valid_reach)
 
 pub returns-then-d-last : goal.returns-then-d-last
 unfolding level_call
 returns-then-d-last c =
-    rw (reach-valid search, lt-ltb (last_heard c.args.reach) c.args.d (omega arith)) refl
+    rw (reach-valid (goal.at.returns-then-d-last c).Else-not-valid_reach, lt-ltb (last_heard c.args.reach) c.args.d (omega arith)) refl
 
 pub quotient_of-requires : goal.quotient_of-requires
 quotient_of-requires c =
-    let r = reach-small search in
-    let s = square-small search in
+    let r = reach-small (goal.at.quotient_of-requires c).Else-not-valid_reach in
+    let s = square-small (goal.at.quotient_of-requires c).Else-not-valid_reach in
     (omega arith, omega arith)
 
 pub returns : goal.returns
 unfolding level_call
 returns c =
-    rw (reach-valid search, le-ltb (last_heard c.args.reach) c.args.d (omega arith))
+    rw (reach-valid (goal.at.returns c).Else-not-valid_reach, le-ltb (last_heard c.args.reach) c.args.d (omega arith))
     (ap (λ x. accepted (level x)) c.quotient_of.ensures)

@@ -1,4 +1,3 @@
-use Prim.Native.Nat.{◌-◌}
 use Rattle.list.proofs.Clearing.{clearing_starts, clearing_turn, clearing_done}
 use Rattle.list.proofs.clear.clear32.Goals as goal
 

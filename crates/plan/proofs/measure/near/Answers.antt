@@ -12,4 +12,4 @@ min_dist_within-requires c =
 
 pub returns : goal.returns
 returns c =
-    c.min_dist_within.ensures ∙ ap (λ b. min_dist (goal.at.returns c).After-box_at (stop_of c.args.h c.args.p)) c.box_at.ensures
+    c.min_dist_within.ensures ∙ ap (λ b. min_dist b (stop_of c.args.h c.args.p)) c.box_at.ensures

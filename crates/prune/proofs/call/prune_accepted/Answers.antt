@@ -6,7 +6,7 @@ use lib.Dec.{eqb}
 use lib.ListN.{length, take}
 use lib.Seq.{length-take-le}
 use borrow.Author.Rules.{rules}
-use borrow.Author.Tests.{not-true, not-false, eq-eqb, ne_eqb, le-leb, lt-leb}
+use borrow.Author.Tests.{eq-eqb, ne_eqb, le-leb, lt-leb}
 use Rattle.blocks.specs.Layout.{max_tiles}
 use Rattle.geometry.specs.Box.{valid_box}
 use Rattle.search.specs.Limits.{valid_k}
@@ -18,7 +18,7 @@ use Rattle.prune.proofs.call.prune_accepted.Goals.{Else-h-axes, Else-not-valid_b
 -- what the tests passed show
 good_k : (c : Else-not-valid_k) → valid_k c.args.k ≡ true
 good_k c =
-    sym c.valid_k.ensures ∙ not-false c.valid_k.result c.if-not-valid_k.false
+    sym c.valid_k.ensures ∙ c.if-not-valid_k.false
 
 same-axes : (c : Else-h-axes) → c.args.h.axes ≡ c.args.axes
 same-axes c = c.if-h-axes.false
@@ -28,11 +28,11 @@ axes-are : (s : Start) → length (take s.args.axes s.args.o) ≡ s.args.axes
 axes-are s = length-take-le s.args.axes s.args.o (search rules)
 
 good-axes : (c : Else-h-axes) → eqb c.args.h.axes (length (take c.args.axes c.args.o)) ≡ true
-good-axes c = rw (axes-are s) (eq-eqb _ _ (same-axes c))
+good-axes c = rw (length-take-le c.args.axes c.args.o (search rules)) (eq-eqb _ _ c.if-h-axes.false)
 
 good-box : (c : Else-not-valid_box) → valid_box (take c.args.axes c.args.o) ≡ true
 good-box c =
-    sym c.valid_box.ensures ∙ not-false c.valid_box.result c.if-not-valid_box.false
+    sym c.valid_box.ensures ∙ c.if-not-valid_box.false
 
 most : (s : Start) → s.args.h.tiles ≤ max_tiles
 most s = tiles_few s.args.f.now s.args.h s.requires.0
@@ -40,24 +40,24 @@ most s = tiles_few s.args.f.now s.args.h s.requires.0
 pub returns-then-not-valid_k : goal.returns-then-not-valid_k
 unfolding prune_call marks_after
 returns-then-not-valid_k c =
-    let bad = sym c.valid_k.ensures ∙ not-true c.valid_k.result c.if-not-valid_k.true in
-    rw (c.requires.0, bad) (c.refused.ensures, refl)
+    let bad = sym c.valid_k.ensures ∙ c.if-not-valid_k.true in
+    rw (c.requires.0, bad) record { result_value = c.refused.ensures; marks_after = refl }
 
 pub returns-then-h-axes : goal.returns-then-h-axes
 unfolding prune_call marks_after
 returns-then-h-axes c =
-    rw (c.requires.0, good_k (goal.at.returns-then-h-axes c).Else-not-valid_k, axes-are (goal.at.returns-then-h-axes c).Start, ne_eqb _ _ c.if-h-axes.true) (c.refused-then-h-axes.ensures, refl)
+    rw (c.requires.0, good_k (goal.at.returns-then-h-axes c).Else-not-valid_k, axes-are (goal.at.returns-then-h-axes c).Start, ne_eqb _ _ c.if-h-axes.true) record { result_value = c.refused-then-h-axes.ensures; marks_after = refl }
 
 pub returns-then-not-valid_box : goal.returns-then-not-valid_box
 unfolding prune_call marks_after
 returns-then-not-valid_box c =
-    let bad = sym c.valid_box.ensures ∙ not-true c.valid_box.result c.if-not-valid_box.true in
-    rw (c.requires.0, good_k (goal.at.returns-then-not-valid_box c).Else-not-valid_k, good-axes (goal.at.returns-then-not-valid_box c).Else-h-axes, bad) (c.refused-then-not-valid_box.ensures, refl)
+    let bad = sym c.valid_box.ensures ∙ c.if-not-valid_box.true in
+    rw (c.requires.0, good_k (goal.at.returns-then-not-valid_box c).Else-not-valid_k, good-axes (goal.at.returns-then-not-valid_box c).Else-h-axes, bad) record { result_value = c.refused-then-not-valid_box.ensures; marks_after = refl }
 
 pub returns-then-marks-h : goal.returns-then-marks-h
 unfolding prune_call marks_after
 returns-then-marks-h c =
-    rw (c.requires.0, good_k (goal.at.returns-then-marks-h c).Else-not-valid_k, good-axes (goal.at.returns-then-marks-h c).Else-h-axes, good-box (goal.at.returns-then-marks-h c).Else-not-valid_box, lt-leb _ _ c.if-marks-h.true) (c.refused-then-marks-h.ensures, refl)
+    rw (c.requires.0, good_k (goal.at.returns-then-marks-h c).Else-not-valid_k, good-axes (goal.at.returns-then-marks-h c).Else-h-axes, good-box (goal.at.returns-then-marks-h c).Else-not-valid_box, lt-leb _ _ c.if-marks-h.true) record { result_value = c.refused-then-marks-h.ensures; marks_after = refl }
 
 pub mark_pruned-count-requires : goal.mark_pruned-count-requires
 mark_pruned-count-requires c =
@@ -69,11 +69,11 @@ overflow_cast-tiles c = omega (arith, most (goal.at.overflow_cast-tiles c).Start
 
 pub overflow_cast-pruned : goal.overflow_cast-pruned
 overflow_cast-pruned c =
-    omega (arith, most (goal.at.overflow_cast-pruned c).Start, c.mark_pruned-count.ensures.0.1)
+    omega (arith, most (goal.at.overflow_cast-pruned c).Start, c.mark_pruned-count.ensures.value.1)
 
 pub returns : goal.returns
 unfolding prune_call marks_after
 returns c =
     let e = c.mark_pruned-count.ensures in
     rw (c.requires.0, good_k (goal.at.returns c).Else-not-valid_k, good-axes (goal.at.returns c).Else-h-axes, good-box (goal.at.returns c).Else-not-valid_box, le-leb _ _ c.if-marks-h.false, sym (same-axes (goal.at.returns c).Else-h-axes))
-    (rw e.0.0, rw c.requires.0 e.1)
+    record { result_value = rw e.value.0; marks_after = rw c.requires.0 e.marks_after }

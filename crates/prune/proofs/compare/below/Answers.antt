@@ -1,5 +1,6 @@
 use Prim.Native.Nat.{ℕ, ◌+◌, ◌*◌}
 use mathlib.Core.Bool.{Bool}
+use mathlib.Core.List.{List}
 use mathlib.Core.Path.{◌≡◌, sym, ◌∙◌}
 use native.Mathlib.Nat.{zero-add}
 use native.Mathlib.Omega.{arith}
@@ -13,15 +14,16 @@ use Rattle.base.proofs.Every.{every-same}
 use Rattle.prune.specs.Inner.Tables.{below_all}
 use Rattle.prune.proofs.CornerTables.{corners-few, every_parts}
 use Rattle.prune.proofs.compare.below.Goals as goal
-use Rattle.prune.proofs.compare.below.Goals.{After-below_four-low, Start}
+use Rattle.prune.proofs.compare.below.Goals.{After-below_four-low}
 
 -- the test of one corner
-abbrev test : Start → ℕ → Bool
-test s i = ltb (get_or s.args.far.now (i * max_tiles + s.args.e) 0) (get_or s.args.near i 0)
+abbrev test : List ℕ → List ℕ → ℕ → ℕ → Bool
+test far near e i = ltb (get_or far (i * max_tiles + e) 0) (get_or near i 0)
 
 -- the first four
-low : (c : After-below_four-low) → c.below_four-low.result ≡ every (test s) 4
-low c = c.below_four-low.ensures ∙ every-same _ (test s) 4 (λ i l. rw (zero-add i))
+low : (c : After-below_four-low) → c.below_four-low.result ≡ every (test c.args.far.now c.args.near c.args.e) 4
+low c =
+    c.below_four-low.ensures ∙ every-same _ (test c.args.far.now c.args.near c.args.e) 4 (λ i l. rw (zero-add i))
 
 pub below_four-low-requires : goal.below_four-low-requires
 below_four-low-requires c =
@@ -37,7 +39,9 @@ pub returns-then-h-eq-HEIGHT : goal.returns-then-h-eq-HEIGHT
 unfolding below_all
 returns-then-h-eq-HEIGHT c =
     let e : c.args.h.axes ≡ 3 = omega arith in
-    rw e (c.both.ensures ∙ rw (low (goal.at.returns-then-h-eq-HEIGHT c).After-below_four-low, c.below_four.ensures) (sym (every_parts (test (goal.at.returns-then-h-eq-HEIGHT c).Start) 4 4)))
+    let l = low (goal.at.returns-then-h-eq-HEIGHT c).After-below_four-low in
+    let parts = every_parts (test c.args.far.now c.args.near c.args.e) 4 4 in
+    rw e (c.both.ensures ∙ rw (l, c.below_four.ensures) (sym parts))
 
 pub returns-else-h-eq-HEIGHT : goal.returns-else-h-eq-HEIGHT
 unfolding below_all

@@ -1,10 +1,10 @@
 use Prim.Native.Nat.{◌+◌, ◌-◌, ◌*◌}
-use mathlib.Core.Logic.{⊎_elim}
 use native.Mathlib.Omega.{arith}
 use borrow.Author.Rules.{rules}
 use Rattle.blocks.specs.Layout.{max_tiles}
 use Rattle.prune.proofs.CornerTables.{corners-few}
 use Rattle.prune.proofs.marking.middle_tile.Goals as goal
+use Rattle.prune.proofs.marking.middle_tile.Goals.{then-sum-least, else-sum-least}
 
 pub overflow_sub-opposite : goal.overflow_sub-opposite
 overflow_sub-opposite c =
@@ -21,13 +21,15 @@ loop-t-init c =
 
 pub overflow_add-sum-in-loop-t : goal.overflow_add-sum-in-loop-t
 overflow_add-sum-in-loop-t c =
-    let far = c.shared_slice_known-in-loop-t-2-1.given in
+    let far = c.type_inv.far in
     omega (arith, far c.loop-t.t, far ((c.corners.result - 1) * max_tiles + c.loop-t.t))
 
 pub loop-t-preserved : goal.loop-t-preserved
-loop-t-preserved c =
-    (
-      ⊎_elim (λ w. rw w.1 (omega arith)) (λ w. rw w.1 (omega (arith, c.loop-t.invariant.0))) c.if-sum-least.branch,
-      omega arith,
-      c.loop-t.invariant.2,
-    )
+loop-t-preserved c = (
+  elim c.if-sum-least.branch [
+    | then-sum-least w ↦ rw w.middle-is (omega arith)
+    | else-sum-least w ↦ rw w.middle-is (omega (arith, c.loop-t.invariant.0))
+  ],
+  omega arith,
+  c.loop-t.invariant.2,
+)

@@ -18,14 +18,14 @@ use Rattle.prune.proofs.marking.prune_all.Goals as goal
 use Rattle.prune.proofs.marking.prune_all.Goals.{Start}
 
 most : (s : Start) → s.args.h.tiles ≤ max_tiles
-most s = tiles_few s.args.f.now s.args.h s.requires.0.0
+most s = tiles_few s.args.f.now s.args.h s.requires.f_value.0
 
 abbrev test : Start → ℕ → Bool
 test s = pruned (entries s.args.f.now s.args.h) (region_of s.args.h s.args.o) s.args.k
 
 pub middle_tile-middle-requires : goal.middle_tile-middle-requires
 middle_tile-middle-requires c =
-    (known_axes c.args.f.now c.args.h c.requires.0.0, most (goal.at.middle_tile-middle-requires c).Start, c.requires.1.long)
+    (known_axes c.args.f.now c.args.h c.requires.f_value.0, most (goal.at.middle_tile-middle-requires c).Start, c.requires.far_table.long)
 
 pub loop-t-init : goal.loop-t-init
 unfolding pruned_count prune_marks
@@ -35,10 +35,14 @@ loop-t-init c =
 
 pub prune_tile-x-requires : goal.prune_tile-x-requires
 prune_tile-x-requires c =
-    ((record { dir = c.requires.0.0; below = search rules }, c.requires.0.2, c.middle_tile-middle.ensures), c.requires.1)
+    record {
+      tile_of =
+          (record { dir = c.requires.f_value.0; below = search rules }, c.requires.f_value.2, c.middle_tile-middle.ensures);
+      far_table = c.requires.far_table;
+    }
 
 pub bounds-marks-t : goal.bounds-marks-t
-bounds-marks-t c = omega (arith, c.requires.0.1)
+bounds-marks-t c = omega (arith, c.requires.f_value.1)
 
 pub overflow_cast-count : goal.overflow_cast-count
 overflow_cast-count c =
@@ -68,8 +72,10 @@ shape_of-marks c = c.loop-t.invariant.2
 pub returns : goal.returns
 returns c =
     let past : c.args.h.tiles ≤ c.loop-t.t = search rules in
-    let q = count_done (test (goal.at.returns c).Start) c.loop-t.t c.args.h.tiles past in (
-      (omega (arith, q, c.loop-t.invariant.3), omega arith),
-      table_done (λ i. bit (test (goal.at.returns c).Start i)) c.loop-t.marks c.loop-t.t c.loop-t.t c.args.h.tiles past
-          ∙ c.loop-t.invariant.4,
-    )
+    let q = count_done (test (goal.at.returns c).Start) c.loop-t.t c.args.h.tiles past in
+    record {
+      value = (omega (arith, q, c.loop-t.invariant.3), omega arith);
+      marks_after =
+          table_done (λ i. bit (test (goal.at.returns c).Start i)) c.loop-t.marks c.loop-t.t c.loop-t.t c.args.h.tiles past
+          ∙ c.loop-t.invariant.4;
+    }

@@ -10,9 +10,9 @@ use Rattle.prune.proofs.marking.prune_tile.Goals.{After-reaches}
 sums : (c : After-reaches) → c.reaches.result
     ≡ pruned (entries c.args.f.now c.args.h) (region_of c.args.h c.args.o) c.args.k c.args.t
 sums c =
-    let tile = c.requires.0.0 in
+    let tile = c.requires.tile_of.0 in
     c.reaches.ensures ∙ sum_prunes c.args.f.now c.args.h tile.dir (region_of c.args.h c.args.o)
-    c.requires.0.1 c.requires.1 c.args.t tile.below c.near_from.result c.near_from.ensures
+    c.requires.tile_of.1 c.requires.far_table c.args.t tile.below c.near_from.result c.near_from.ensures
     c.args.k
 
 pub returns-then-reaches : goal.returns-then-reaches

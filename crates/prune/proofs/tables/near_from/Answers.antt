@@ -1,4 +1,4 @@
-use Prim.Native.Nat.{◌-◌, ◌<◌}
+use Prim.Native.Nat.{◌<◌}
 use mathlib.Core.Path.{◌≡◌, refl, ◌∙◌}
 use native.Mathlib.Omega.{arith}
 use lib.ListN.{get_or, set, length-set}
@@ -21,7 +21,7 @@ known s = known_axes s.args.f.now s.args.h s.requires.0.dir
 -- there is room for the corner
 room : (c : After-near) → c.loop-c.c < max_corners
 room c =
-    omega (arith, c.corners-n.ensures, (corners-few c.args.h (known s)).1)
+    omega (arith, c.corners-n.ensures, (corners-few c.args.h (known_axes c.args.f.now c.args.h c.requires.0.dir)).1)
 
 pub corners-n-requires : goal.corners-n-requires
 corners-n-requires c = known (goal.at.corners-n-requires c).Start
@@ -37,7 +37,7 @@ near-requires c =
     (c.requires.0, c.corner_of.ensures.1)
 
 pub offset_bounds-near-c : goal.offset_bounds-near-c
-offset_bounds-near-c c = let r = room c in search rules
+offset_bounds-near-c c = let r = room (goal.at.offset_bounds-near-c c).After-near in search rules
 
 pub bounds-near-c : goal.bounds-near-c
 bounds-near-c c = let r = room (goal.at.bounds-near-c c).After-near in search rules

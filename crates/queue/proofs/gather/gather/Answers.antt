@@ -13,10 +13,6 @@ loop-t-init c =
     let a = c.args in
     gathering_starts (waits (entries a.f.now a.h) a.marks.now) a.h.tiles a.order.now
 
-pub offset_bounds-order-m : goal.offset_bounds-order-m
-offset_bounds-order-m c =
-    omega (arith, c.good.1.1.1.0.1)
-
 pub overflow_add-m : goal.overflow_add-m
 overflow_add-m c = omega (arith, bit_byte c.waits.result, bit-small c.waits.result)
 

@@ -1,11 +1,11 @@
 use Prim.Native.Nat.{ℕ, ◌-◌, ◌<◌, ◌≤◌}
-use mathlib.Core.Logic.{⊎_elim}
 use native.Mathlib.Omega.{arith}
 use lib.ListN.{get_or}
 use Rattle.queue.specs.Inner.Keys.{none}
 use Rattle.queue.proofs.Scanning.{scanning_starts, scanning_new, scanning_same, scanning_done}
 use Rattle.queue.proofs.Scanning.{like_last}
 use Rattle.queue.proofs.keys.next_key.Goals as goal
+use Rattle.queue.proofs.keys.next_key.Goals.{then-keys-j-2, else-keys-j-2}
 
 pub loop-j-init : goal.loop-j-init
 loop-j-init c =
@@ -23,10 +23,10 @@ loop-j-preserved c =
     let j = c.loop-j.j in
     let inside = c.loop-j-test.true in
     let above : c.args.bound < get_or keys j 0 = omega (arith, c.requires.1.bounded j inside, c.if-keys-j.false) in
-    ⊎_elim
-    (λ w. rw (w.2, w.3) (scanning_new c.loop-j.invariant inside above w.0.taken))
-    (λ w. rw (w.1, w.2) (scanning_same c.loop-j.invariant inside above w.0.left))
-    c.if-keys-j-2.branch
+    elim c.if-keys-j-2.branch [
+      then-keys-j-2 w ↦ rw (w.at-is, w.key-is) (scanning_new c.loop-j.invariant inside above w.if-keys-j-2.true)
+      | else-keys-j-2 w ↦ rw (w.at-is, w.key-is) (scanning_same c.loop-j.invariant inside above w.if-keys-j-2.false)
+    ]
 
 pub earlier_key-requires : goal.earlier_key-requires
 earlier_key-requires c =

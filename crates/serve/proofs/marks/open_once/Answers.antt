@@ -17,16 +17,16 @@ returns-then-marks-t-eq-OPENED c =
     let marks = c.args.marks.now in
     let t = c.args.t in
     let opens = c.requires.2 t c.requires.0.below c.if-marks-t-eq-OPENED.true in
-    rw opens (
-      ap accepted c.count.ensures.0,
-      sym (ap (set marks t) (sym c.if-marks-t-eq-OPENED.true) ∙ set-get_or marks t 0),
-    )
+    rw opens (record {
+      result_value = ap accepted c.count.ensures.0;
+      marks_after = sym (ap (set marks t) (sym c.if-marks-t-eq-OPENED.true) ∙ set-get_or marks t 0);
+    })
 
 pub returns-in_default : goal.returns-in_default
 returns-in_default c =
     let d = told opening_outcome c.open_tile-answer.ensures c.in_default.is in
     let q = and_then_refused (opening_of c.args.f.now c.args.h c.args.t) (λ l. length l) d in
-    rw q (ap opening_outcome c.in_default.is, refl)
+    rw q (record { result_value = ap opening_outcome c.in_default.is; marks_after = refl })
 
 pub bounds-marks-t-2 : goal.bounds-marks-t-2
 bounds-marks-t-2 c = omega (arith, c.requires.0.below, c.requires.1)
@@ -35,4 +35,4 @@ pub returns : goal.returns
 returns c =
     let a = and_then_accepted (opening_of c.args.f.now c.args.h c.args.t) (λ l. accepted (length l))
     (told opening_outcome c.open_tile-answer.ensures c.in-Opened.is) in
-    rw a.1 (ap opening_outcome c.in-Opened.is ∙ sym a.2, refl)
+    rw a.1 (record { result_value = ap opening_outcome c.in-Opened.is ∙ sym a.2; marks_after = refl })

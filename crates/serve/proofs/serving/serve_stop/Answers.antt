@@ -15,63 +15,39 @@ use Rattle.queue.proofs.Waiting.{keyed_start, living_start, living_fewer, index_
 use Rattle.serve.specs.Inner.Serving.{serving_outcome, after_tile}
 use Rattle.serve.proofs.TileLoop.{tile_starts, tile_none, tile_full, tile_refused, tile_next}
 use Rattle.serve.proofs.serving.serve_stop.Goals as goal
-use Rattle.serve.proofs.serving.serve_stop.Goals.{After-take_tile-answer, At-loop-h, Else-key, Else-last_ahead, Start}
+use Rattle.serve.proofs.serving.serve_stop.Goals.{After-take_tile-answer, Else-key, Else-last_ahead}
 
 -- ---- facts, each at the place where it first holds
 
--- at the loop's head no slice has got longer or shorter
-abbrev start : At-loop-h → Start
-start l = search
-
 -- a key is left: it is that of a tile that waits
-abbrev head : Else-key → At-loop-h
-head c = search
-
 key_left : (c : Else-key) → c.next_key-least.result.key < none
 key_left c = omega (arith, c.if-key.false, c.next_key-least.type_inv)
 
-index_below : (c : Else-key) → c.next_key-least.result.at < length
-    (start (head c)).args.order.now
-index_below c =
-    index_at (head c).loop.invariant.1.keyed c.next_key-least.result c.next_key-least.ensures (key_left c)
+index_below : (c : Else-key) → c.next_key-least.result.at < length c.args.order.now
+index_below c = index_at c.loop-h.invariant.1.keyed c.next_key-least.result c.next_key-least.ensures (key_left c)
 
-tile-below : (c : Else-key)
-    → get_or (start (head c)).args.order.now c.next_key-least.result.at 0 < (start (head c)).args.h.tiles
+tile-below : (c : Else-key) → get_or c.args.order.now c.next_key-least.result.at 0 < c.args.h.tiles
 tile-below c =
-    tile_in_order (head c).loop.invariant.1.keyed c.next_key-least.result c.next_key-least.ensures
-    (key_left c) (λ t. t < (start (head c)).args.h.tiles) (start (head c)).pre.tiles
+    tile_in_order c.loop-h.invariant.1.keyed c.next_key-least.result c.next_key-least.ensures (key_left c)
+    (λ t. t < c.args.h.tiles) c.requires.tiles
 
 -- it is not: the tile is taken
-abbrev kept-key : Else-last_ahead → Else-key
-kept-key c = search
-
 not_full : (c : Else-last_ahead) →
-    let i = kept-key c in
-    let l = head i in
-    let r = i.before.next-key.result in
-    last_ahead (start l).args.target.k
-    (places (lists l.loop.dist l.loop.site l.loop.cue) (start l).args.target.at l.loop.used)
-    r.key (get_or (start l).args.order.now r.at 0) ≡ false
-not_full c = sym (c.last_ahead.ensures (head (kept-key c)).loop.cue) ∙ c.if-last_ahead.false
-
--- after it the slices are still as long
-abbrev taken : After-take_tile-answer → Else-last_ahead
-taken c = search
-
-abbrev turned : After-take_tile-answer → At-loop-h
-turned c = head (kept-key (taken c))
+    let r = c.next_key-least.result in
+    last_ahead c.args.target.k
+    (places (lists c.loop-h.dist c.loop-h.site c.loop-h.cue) c.args.target.at c.loop-h.used)
+    r.key (get_or c.args.order.now r.at 0) ≡ false
+not_full c = sym (c.last_ahead.ensures c.loop-h.cue) ∙ c.if-last_ahead.false
 
 -- what the tile made of the slices, and what it answered
-slices-taken : (x : After-take_tile-answer) →
-    let l = turned x in
-    let i = kept-key (taken x) in
-    let a = (start l).args in
-    let t = get_or a.order.now i.before.next-key.result.at 0 in
-    lent x.take_tile-answer.new.1.1.1.1.1.0 x.take_tile-answer.new.1.1.1.1.1.1.0
-    x.take_tile-answer.new.1.1.1.1.1.1.1.0 x.take_tile-answer.new.1.1.1.1.1.1.1.1.0
-    ≡ after_tile a.h t a.target l.loop.used (opening_of a.f.now a.h t)
-    (lent l.loop.dist l.loop.site l.loop.cue l.loop.marks)
-slices-taken x = x.take_tile-answer.ensures.1
+slices-taken : (c : After-take_tile-answer) →
+    let a = c.args in
+    let t = get_or a.order.now c.next_key-least.result.at 0 in
+    lent c.take_tile-answer.new.dist c.take_tile-answer.new.site c.take_tile-answer.new.cue
+    c.take_tile-answer.new.marks
+    ≡ after_tile a.h t a.target c.loop-h.used (opening_of a.f.now a.h t)
+    (lent c.loop-h.dist c.loop-h.site c.loop-h.cue c.loop-h.marks)
+slices-taken c = c.take_tile-answer.ensures.marks_after
 
 pub fill_keys-requires : goal.fill_keys-requires
 fill_keys-requires c =
@@ -102,16 +78,14 @@ returns-then-key c =
 
 pub offset_bounds-order-j : goal.offset_bounds-order-j
 offset_bounds-order-j c =
-    let s = start (head c) in
-    omega (arith, index_below c, s.good.1.1.0.1)
+    omega (arith, index_below (goal.at.offset_bounds-order-j c).Else-key)
 
 pub bounds-order-j : goal.bounds-order-j
 bounds-order-j c = index_below (goal.at.bounds-order-j c).Else-key
 
 pub overflow_cast-t : goal.overflow_cast-t
 overflow_cast-t c =
-    let s = start (head (goal.at.overflow_cast-t c).Else-key) in
-    omega (arith, tile-below (goal.at.overflow_cast-t c).Else-key, tiles_few s.args.f.now s.args.h s.pre.dir)
+    omega (arith, tile-below (goal.at.overflow_cast-t c).Else-key, tiles_few c.args.f.now c.args.h c.requires.dir)
 
 pub last_ahead-requires : goal.last_ahead-requires
 last_ahead-requires c =
@@ -121,16 +95,14 @@ last_ahead-requires c =
 -- the list is full ahead of the key
 pub returns-then-last_ahead : goal.returns-then-last_ahead
 returns-then-last_ahead c =
-    let l = head (goal.at.returns-then-last_ahead c).Else-key in
     let n = c.next_key-least in
-    let full = sym (c.last_ahead.ensures l.loop.cue) ∙ c.if-last_ahead.true in
-    tile_full l.loop.inv.1 n.result n.ensures (key_left (goal.at.returns-then-last_ahead c).Else-key) full
+    let full = sym (c.last_ahead.ensures c.loop-h.cue) ∙ c.if-last_ahead.true in
+    tile_full c.loop-h.invariant.1 n.result n.ensures (key_left (goal.at.returns-then-last_ahead c).Else-key) full
 
 pub take_tile-answer-requires : goal.take_tile-answer-requires
 take_tile-answer-requires c =
-    let l = head (goal.at.take_tile-answer-requires c).Else-key in
-    let p = (start l).pre in
-    let t = l.loop.inv.1 in
+    let p = c.requires in
+    let t = c.loop-h.invariant.1 in
     record {
       tile = record { dir = p.dir; below = tile-below (goal.at.take_tile-answer-requires c).Else-key };
       stop = p.stop;
@@ -141,50 +113,45 @@ take_tile-answer-requires c =
 
 pub returns-in_default : goal.returns-in_default
 returns-in_default c =
-    let l = turned (goal.at.returns-in_default c).After-take_tile-answer in
-    let i = kept-key (taken (goal.at.returns-in_default c).After-take_tile-answer) in
-    let a = (start l).args in
-    let n = i.before.next-key in
+    let a = c.args in
+    let n = c.next_key-least in
     let t = get_or a.order.now n.result.at 0 in
     let e = c.in_default.is in
-    let d = and_then_refused (opening_of a.f.now a.h t) _ (told serving_outcome c.take_tile-answer.ensures.0 e) in
+    let d = and_then_refused (opening_of a.f.now a.h t) _ (told serving_outcome c.take_tile-answer.ensures.result_value e) in
     let same = rw d at (slices-taken (goal.at.returns-in_default c).After-take_tile-answer) in
     rw (ap serving_outcome e, same)
-    (tile_refused l.loop.inv.1 n.result n.ensures (key_left i) (not_full (taken (goal.at.returns-in_default c).After-take_tile-answer)) _ _ d)
+    (tile_refused c.loop-h.invariant.1 n.result n.ensures (key_left (goal.at.returns-in_default c).Else-key) (not_full (goal.at.returns-in_default c).Else-last_ahead) _ _ d)
 
 pub offset_bounds-keys-j : goal.offset_bounds-keys-j
 offset_bounds-keys-j c =
-    omega (arith, index_below (kept-key (taken (goal.at.offset_bounds-keys-j c).After-take_tile-answer)), (start (turned (goal.at.offset_bounds-keys-j c).After-take_tile-answer)).good.1.1.0.1)
+    omega (arith, index_below (goal.at.offset_bounds-keys-j c).Else-key)
 
 pub bounds-keys-j : goal.bounds-keys-j
 bounds-keys-j c =
-    omega (arith, index_below (kept-key (taken (goal.at.bounds-keys-j c).After-take_tile-answer)), (turned (goal.at.bounds-keys-j c).After-take_tile-answer).loop.inv.1.keyed.long)
+    omega (arith, index_below (goal.at.bounds-keys-j c).Else-key, c.loop-h.invariant.1.keyed.long)
 
 pub overflow_add-from : goal.overflow_add-from
 overflow_add-from c =
-    omega (arith, index_below (kept-key (taken (goal.at.overflow_add-from c).After-take_tile-answer)), (start (turned (goal.at.overflow_add-from c).After-take_tile-answer)).good.1.1.0.0)
+    omega (arith, index_below (goal.at.overflow_add-from c).Else-key)
 
 -- the tile opened, and the walk goes on
 pub loop-h-smaller : goal.loop-h-smaller
 loop-h-smaller c =
-    let i = kept-key (taken (goal.at.loop-h-smaller c).After-take_tile-answer) in
-    let n = i.before.next-key in
-    living_fewer (turned (goal.at.loop-h-smaller c).After-take_tile-answer).loop.inv.1.keyed n.result n.ensures (key_left i)
+    let n = c.next_key-least in
+    living_fewer c.loop-h.invariant.1.keyed n.result n.ensures (key_left (goal.at.loop-h-smaller c).Else-key)
 
 pub loop-h-preserved : goal.loop-h-preserved
 loop-h-preserved c =
-    let l = turned (goal.at.loop-h-preserved c).After-take_tile-answer in
-    let i = kept-key (taken (goal.at.loop-h-preserved c).After-take_tile-answer) in
-    let a = (start l).args in
-    let n = i.before.next-key in
+    let a = c.args in
+    let n = c.next_key-least in
     let t = get_or a.order.now n.result.at 0 in
-    let turn = l.loop.inv.1 in
+    let turn = c.loop-h.invariant.1 in
     let d = and_then_accepted (opening_of a.f.now a.h t) _
-    (told serving_outcome c.take_tile-answer.ensures.0 c.in-Served.is) in
+    (told serving_outcome c.take_tile-answer.ensures.result_value c.in-Served.is) in
     let same = rw d.1 at (slices-taken (goal.at.loop-h-preserved c).After-take_tile-answer) in
-    let next = tile_next turn n.result n.ensures (key_left i) (not_full (taken (goal.at.loop-h-preserved c).After-take_tile-answer)) d.0 d.1 (tile-below i)
-    (omega (arith, (start l).pre.marks, turn.long)) (sym (accepted_injective d.2)) in (
-      length-set l.loop.keys n.result.at none ∙ l.loop.inv.0,
+    let next = tile_next turn n.result n.ensures (key_left (goal.at.loop-h-preserved c).Else-key) (not_full (goal.at.loop-h-preserved c).Else-last_ahead) d.0 d.1 (tile-below (goal.at.loop-h-preserved c).Else-key)
+    (omega (arith, c.requires.marks, turn.long)) (sym (accepted_injective d.2)) in (
+      length-set c.loop-h.keys n.result.at none ∙ c.loop-h.invariant.0,
       rw same next,
-      passed_next l.loop.keys (length a.order.now) n.result n.ensures (key_left i) turn.keyed.long,
+      passed_next c.loop-h.keys (length a.order.now) n.result n.ensures (key_left (goal.at.loop-h-preserved c).Else-key) turn.keyed.long,
     )

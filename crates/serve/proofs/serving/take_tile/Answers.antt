@@ -13,7 +13,7 @@ use Rattle.serve.proofs.serving.take_tile.Goals.{In-Opened}
 opened : (c : In-Opened) → (Opens c.args.f.now c.args.h c.args.t)
 opened c =
     let a = and_then_accepted (opening_of c.args.f.now c.args.h c.args.t) (λ l. accepted (length l))
-    (told opening_outcome c.open_once.ensures.0 c.in-Opened.is) in
+    (told opening_outcome c.open_once.ensures.result_value c.in-Opened.is) in
     a.1 ∙ ap accepted (opens_own_town c.args.f.now c.args.h c.args.t a.1)
 
 pub add_tile-requires : goal.add_tile-requires
@@ -23,13 +23,13 @@ add_tile-requires c =
 pub returns-in-Opened : goal.returns-in-Opened
 returns-in-Opened c =
     let e = opened (goal.at.returns-in-Opened c).In-Opened in
-    let m = rw e at c.open_once.ensures.1 in
+    let m = rw e at c.open_once.ensures.marks_after in
     let added = c.add_tile.ensures in
-    rw e (ap accepted added.number, rw (m, added.laid))
+    rw e (record { result_value = ap accepted added.number; marks_after = rw (m, added.laid) })
 
 pub returns-in-Refused : goal.returns-in-Refused
 returns-in-Refused c =
     let d = and_then_refused (opening_of c.args.f.now c.args.h c.args.t) (λ l. length l)
-    (told opening_outcome c.open_once.ensures.0 c.in-Refused.is) in
-    let m = rw d at c.open_once.ensures.1 in
-    rw d (refl, rw m)
+    (told opening_outcome c.open_once.ensures.result_value c.in-Refused.is) in
+    let m = rw d at c.open_once.ensures.marks_after in
+    rw d (record { result_value = refl; marks_after = rw m })

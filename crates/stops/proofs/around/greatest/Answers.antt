@@ -24,12 +24,12 @@ loop-i-preserved c =
     let k : SFits w32 c.greater-a.result = sfits_of c.greater-a.type_inv in
     let e = simp (to_z-of_z {w = w32} x) at c.greater-a.ensures in (
       omega arith,
-      rw (to_z-of_z {w = w32} k, e) (foremost_turn (λ a b. lt_z b a) xs (to_z w32 l.a) l.i
+      rw (to_z-of_z {w = w32} k, e) (foremost_turn (λ a b. lt_z b a) xs (to_z w32 l.a-bits) l.i
           c.loop-i-test.true ∙ l.invariant.1),
     )
 
 pub returns : goal.returns
 returns c =
     let l = c.loop-i in
-    foremost_done (λ a b. lt_z b a) c.args.xs.now (to_z w32 l.a) l.i
+    foremost_done (λ a b. lt_z b a) c.args.xs.now (to_z w32 l.a-bits) l.i
     c.loop-i-test.false ∙ l.invariant.1

@@ -24,12 +24,12 @@ loop-i-preserved c =
     let k : SFits w32 c.lesser-a.result = sfits_of c.lesser-a.type_inv in
     let e = simp (to_z-of_z {w = w32} x) at c.lesser-a.ensures in (
       omega arith,
-      rw (to_z-of_z {w = w32} k, e) (foremost_turn lt_z xs (to_z w32 l.a) l.i c.loop-i-test.true
+      rw (to_z-of_z {w = w32} k, e) (foremost_turn lt_z xs (to_z w32 l.a-bits) l.i c.loop-i-test.true
           ∙ l.invariant.1),
     )
 
 pub returns : goal.returns
 returns c =
     let l = c.loop-i in
-    foremost_done lt_z c.args.xs.now (to_z w32 l.a) l.i c.loop-i-test.false
+    foremost_done lt_z c.args.xs.now (to_z w32 l.a-bits) l.i c.loop-i-test.false
     ∙ l.invariant.1

@@ -1,5 +1,5 @@
 use Prim.Native.Nat.{◌-◌}
-use mathlib.Core.List.{List}
+use mathlib.Core.List.{List, [], ◌∷◌}
 use mathlib.Core.Path.{◌≡◌, ap, sym, ◌∙◌}
 use native.Mathlib.Omega.{arith}
 use lib.IntN.{ℤ}
@@ -16,25 +16,25 @@ use Rattle.stops.proofs.around.valid_stops.Goals as goal
 use Rattle.stops.proofs.around.valid_stops.Goals.{After-valid_point, Start}
 
 -- the columns of a call
-all : Start → List (List ℤ)
-all s = cols s.args.xs.now s.args.ys.now s.args.zs.now
+abbrev all : List ℤ → List ℤ → List ℤ → List (List ℤ)
+all xs ys zs = xs ∷ ys ∷ zs ∷ []
 
 -- what the test says of the stop looked at
 tested : (c : After-valid_point) →
-    (c.valid_point.result ≡ valid_stop (take c.args.axes (all s)) c.loop-i.i)
-unfolding valid_stop all
+    (c.valid_point.result ≡ valid_stop (take c.args.axes (all c.args.xs.now c.args.ys.now c.args.zs.now)) c.loop-i.i)
+unfolding valid_stop
 tested c =
     c.valid_point.ensures ∙ ap (λ p. valid_point (take c.args.axes p)) c.stop_at.ensures
-    ∙ ap valid_point (take_row c.args.axes (all s) c.loop-i.i)
+    ∙ ap valid_point (take_row c.args.axes (all c.args.xs.now c.args.ys.now c.args.zs.now) c.loop-i.i)
 
 -- the tests of all stops are as many as there are x
 tests : (s : Start) →
-    let t = valid_stop (take s.args.axes (all s)) in
-    stops_valid (take s.args.axes (all s)) ≡ every t (length s.args.xs.now)
-unfolding stops_valid all
+    let t = valid_stop (take s.args.axes (all s.args.xs.now s.args.ys.now s.args.zs.now)) in
+    stops_valid (take s.args.axes (all s.args.xs.now s.args.ys.now s.args.zs.now)) ≡ every t (length s.args.xs.now)
+unfolding stops_valid
 tests s =
     let n = s.args.axes in
-    ap (every (valid_stop (take n (all s)))) (take_count n (omega (arith, s.requires.0.0)) (all s))
+    ap (every (valid_stop (take n (all s.args.xs.now s.args.ys.now s.args.zs.now)))) (take_count n (omega (arith, s.requires.0.0)) (all s.args.xs.now s.args.ys.now s.args.zs.now))
 
 pub loop-i-init : goal.loop-i-init
 loop-i-init c = (omega arith, λ j h. absurd (omega arith))
@@ -45,18 +45,15 @@ stop_at-requires c =
     (t, rw c.requires.1 t, rw c.requires.2 t)
 
 pub returns-then-not-valid_point : goal.returns-then-not-valid_point
-unfolding all
 returns-then-not-valid_point c =
-    let v = sym (tested (goal.at.returns-then-not-valid_point c).After-valid_point) ∙ not-true c.valid_point.result c.if-not-valid_point.true in
+    let v = sym (tested (goal.at.returns-then-not-valid_point c).After-valid_point) ∙ c.if-not-valid_point.true in
     sym (tests (goal.at.returns-then-not-valid_point c).Start ∙ every_fails _ (length c.args.xs.now) c.loop-i.i c.loop-i-test.true v)
 
 pub loop-i-preserved : goal.loop-i-preserved
-unfolding all
 loop-i-preserved c =
-    let v = sym (tested (goal.at.loop-i-preserved c).After-valid_point) ∙ not-false c.valid_point.result c.if-not-valid_point.false in
+    let v = sym (tested (goal.at.loop-i-preserved c).After-valid_point) ∙ c.if-not-valid_point.false in
     (omega arith, below_more _ _ c.loop-i.invariant.1 v)
 
 pub returns : goal.returns
-unfolding all
 returns c =
     sym (tests (goal.at.returns c).Start ∙ every_holds _ (length c.args.xs.now) (λ j h. c.loop-i.invariant.1 j (omega arith)))

@@ -1,9 +1,14 @@
 use Prim.Native.Nat.{◌-◌}
+use mathlib.Core.List.{List, [], ◌∷◌}
 use mathlib.Core.Path.{refl, ◌∙◌}
 use native.Mathlib.Omega.{arith}
+use lib.IntN.{ℤ}
 use lib.ListN.{length, length-set}
 use Rattle.stops.proofs.StopLaws.{points_start, points_turn, points_done}
 use Rattle.stops.proofs.stop.gather_stops.Goals as goal
+
+abbrev cols : List ℤ → List ℤ → List ℤ → List (List ℤ)
+cols xs ys zs = xs ∷ ys ∷ zs ∷ []
 
 pub loop-i-init : goal.loop-i-init
 loop-i-init c =
@@ -14,10 +19,6 @@ pub stop_at-requires : goal.stop_at-requires
 stop_at-requires c =
     let t = c.loop-i-test.true in
     (omega (arith, t), omega (arith, c.requires.0, t), omega (arith, c.requires.1, t))
-
-pub offset_bounds-stops-i : goal.offset_bounds-stops-i
-offset_bounds-stops-i c =
-    omega (arith, c.loop-i-test.true, c.requires.2, c.good.1.1.1.0)
 
 pub bounds-stops-i : goal.bounds-stops-i
 bounds-stops-i c =

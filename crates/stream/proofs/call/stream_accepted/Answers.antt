@@ -27,7 +27,7 @@ good-axes c = rw (axes-are s) (eq-eqb _ _ (same-axes c))
 
 good-box : (c : Else-not-valid_box) → valid_box (take c.args.axes c.args.o) ≡ true
 good-box c =
-    sym c.valid_box.ensures ∙ not-false c.valid_box.result c.if-not-valid_box.false
+    sym c.valid_box.ensures ∙ c.if-not-valid_box.false
 
 most : (s : Start) → s.args.h.tiles ≤ max_tiles
 most s = tiles_few s.args.f.now s.args.h s.requires.0
@@ -40,7 +40,7 @@ returns-then-h-axes c =
 pub returns-then-not-valid_box : goal.returns-then-not-valid_box
 unfolding stream_call order_after
 returns-then-not-valid_box c =
-    let bad = sym c.valid_box.ensures ∙ not-true c.valid_box.result c.if-not-valid_box.true in
+    let bad = sym c.valid_box.ensures ∙ c.if-not-valid_box.true in
     rw (c.requires.0, good-axes (goal.at.returns-then-not-valid_box c).Else-h-axes, bad) (c.refused-then-not-valid_box.ensures, refl)
 
 pub returns-then-order-h : goal.returns-then-order-h

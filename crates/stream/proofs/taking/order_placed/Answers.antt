@@ -19,9 +19,9 @@ fill_least-requires c =
 pub settle_all-requires : goal.settle_all-requires
 settle_all-requires c =
     let table = c.requires.1.1 in
-    (c.requires.0, (c.requires.1.0, ((table.0, table.1, c.fill_least.kept.1.1.0, c.fill_least.ensures), (refl, refl, all_free max_tiles))))
+    (c.requires.0, (c.requires.1.0, ((table.0, table.1, c.fill_least.auto.least, c.fill_least.ensures), (refl, refl, all_free max_tiles))))
 
 pub take_all-requires : goal.take_all-requires
 take_all-requires c =
     let table = c.requires.1.1 in
-    (c.requires.0, (c.requires.1.0, ((table.0, table.1, c.settle_all.kept.1.1.1.1.1.1.0, c.settle_all.kept.1.1.1.1.1.1.1.0, table.2), c.settle_all.ensures)))
+    (c.requires.0, (c.requires.1.0, ((table.0, table.1, c.settle_all.auto.waits, c.settle_all.auto.from, table.2), c.settle_all.ensures)))

@@ -1,4 +1,4 @@
-use Prim.Native.Nat.{ℕ, ◌+◌, ◌-◌, ◌≤◌}
+use Rattle.std.specs.Prelude.{ℕ, ℤ, List, ◌+◌, ◌≤◌}
 use mathlib.Core.Bool.{Bool}
 use mathlib.Core.List.{[], ◌∷◌}
 use mathlib.Core.Path.{◌≡◌, refl, sym, ◌∙◌}
@@ -14,24 +14,24 @@ use Rattle.encode.proofs.SupplyLaws.{offset_next, offset_within}
 use Rattle.writer.specs.Write.{tile_fits}
 use Rattle.writer.proofs.WriteLaws.{tile_test}
 use Rattle.writer.proofs.supply.tiles_inside.Goals as goal
-use Rattle.writer.proofs.supply.tiles_inside.Goals.{After-sites_fit, After-wide-n, Start}
+use Rattle.writer.proofs.supply.tiles_inside.Goals.{After-sites_fit, After-wide-n}
 
 -- test 10 of a tile
-abbrev fit : Start → ℕ → Bool
-fit s =
-    let a = s.args in
-    tile_fits a.axes a.boxes.now a.counts.now (take a.axes (a.xs.now ∷ a.ys.now ∷ a.zs.now ∷ []))
+abbrev fit : ℕ → List ℤ → List ℕ → List ℤ → List ℤ → List ℤ → ℕ → Bool
+fit axes boxes counts xs ys zs = tile_fits axes boxes counts (take axes (xs ∷ ys ∷ zs ∷ []))
 
 -- the sites of the tile lie in the lists
 sites-within : (c : After-wide-n) →
     c.loop-t.first + c.wide-n.result ≤ site_total c.args.counts.now
 sites-within c =
     let counts = c.args.counts.now in
-    omega (arith, c.loop-t.invariant.0, c.wide-n.ensures, offset_within counts c.loop-t.t (length counts) (search rules))
+    let within = offset_within counts c.loop-t.t (length counts) (search rules) in
+    omega (arith, c.loop-t.invariant.0, c.wide-n.ensures, within)
 
 -- what the call answers is the test of the tile
 tile-tested : (c : After-sites_fit) →
-    c.sites_fit.result ≡ fit s c.loop-t.t
+    let a = c.args in
+    c.sites_fit.result ≡ fit a.axes a.boxes.now a.counts.now a.xs.now a.ys.now a.zs.now c.loop-t.t
 tile-tested c =
     c.sites_fit.ensures ∙ tile_test _ _ _ _ _ c.box_of.ensures c.loop-t.invariant.0 c.wide-n.ensures.0
 
@@ -46,27 +46,29 @@ box_of-requires c =
     (c.requires.0, omega (arith, within, c.requires.1))
 
 pub sites_fit-requires : goal.sites_fit-requires
-sites_fit-requires c = omega (arith, sites-within search, c.requires)
+sites_fit-requires c = omega (arith, sites-within (goal.at.sites_fit-requires c).After-wide-n, c.requires)
 
 pub returns-then-not-sites_fit : goal.returns-then-not-sites_fit
 returns-then-not-sites_fit c =
     let a = c.args in
-    sym (every_fails (fit (goal.at.returns-then-not-sites_fit c).Start)
-    (length a.counts.now) c.loop-t.t (search rules) (failed (tile-tested search) c.if-not-sites_fit.true))
+    let place = (goal.at.returns-then-not-sites_fit c).After-sites_fit in
+    sym (every_fails (fit a.axes a.boxes.now a.counts.now a.xs.now a.ys.now a.zs.now)
+    (length a.counts.now) c.loop-t.t (search rules) (failed (tile-tested place) c.if-not-sites_fit.true))
 
 pub overflow_add-first : goal.overflow_add-first
-overflow_add-first c = omega (arith, sites-within search, c.requires)
+overflow_add-first c = omega (arith, sites-within (goal.at.overflow_add-first c).After-wide-n, c.requires)
 
 pub loop-t-preserved : goal.loop-t-preserved
 loop-t-preserved c =
+    let place = (goal.at.loop-t-preserved c).After-sites_fit in
     let next = offset_next c.args.counts.now c.loop-t.t in (
       omega (arith, next, c.loop-t.invariant.0, c.wide-n.ensures),
       search rules,
-      below_more _ _ c.loop-t.invariant.2 (passed (tile-tested search) c.if-not-sites_fit.false),
+      below_more _ _ c.loop-t.invariant.2 (passed (tile-tested place) c.if-not-sites_fit.false),
     )
 
 pub returns : goal.returns
 returns c =
     let a = c.args in
-    sym (every_holds (fit (goal.at.returns c).Start)
+    sym (every_holds (fit a.axes a.boxes.now a.counts.now a.xs.now a.ys.now a.zs.now)
     (length a.counts.now) (λ i h. c.loop-t.invariant.2 i (omega arith)))

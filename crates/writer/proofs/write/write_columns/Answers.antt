@@ -1,4 +1,4 @@
-use Prim.Native.Nat.{◌≤◌}
+use Rattle.std.specs.Prelude.{ℕ, ℤ, List, ◌≤◌}
 use mathlib.Core.List.{[], ◌∷◌}
 use mathlib.Core.Path.{◌≡◌, sym, ap, ◌∙◌}
 use native.Mathlib.Omega.{arith}
@@ -14,26 +14,31 @@ use Rattle.writer.proofs.WriteLaws.{columns_axes, columns-long, file_row}
 use Rattle.writer.proofs.write.write_columns.Goals as goal
 use Rattle.writer.proofs.write.write_columns.Goals.{Else-failed-ne0, Start}
 
-abbrev given : Start → Supply
-given s =
-    let a = s.args in
-    supply a.boxes.now a.counts.now (take a.axes (a.xs.now ∷ a.ys.now ∷ a.zs.now ∷ []))
-    a.cues.now
+-- the lists as one value, and its axes
+abbrev given : ℕ → List ℤ → List ℕ → List ℤ → List ℤ → List ℤ → List ℕ → Supply
+given axes boxes counts xs ys zs cues = supply boxes counts (take axes (xs ∷ ys ∷ zs ∷ [])) cues
 
-own-axes : (s : Start) → axes_of (given s) ≡ s.args.axes
+own-axes : (s : Start) →
+    let a = s.args in
+    axes_of (given a.axes a.boxes.now a.counts.now a.xs.now a.ys.now a.zs.now a.cues.now) ≡ a.axes
 own-axes s =
     let a = s.args in columns_axes a.axes a.xs.now a.ys.now a.zs.now s.requires.0
 
 accepted-tests : (c : Else-failed-ne0) →
-    write_tests (given s) (length c.args.out.now) ≡ accepted tt
+    let a = c.args in
+    write_tests (given a.axes a.boxes.now a.counts.now a.xs.now a.ys.now a.zs.now a.cues.now) (length a.out.now)
+    ≡ accepted tt
 accepted-tests c =
     number_accepted c.failed_test-failed.result 0 c.failed_test-failed.ensures c.if-failed-ne0.false
 
 good : (c : Else-failed-ne0) →
-    GoodSupply (given s) × (file_length (header_of c.args.axes c.args.counts.now) ≤ length c.args.out.now)
+    let a = c.args in
+    GoodSupply (given a.axes a.boxes.now a.counts.now a.xs.now a.ys.now a.zs.now a.cues.now)
+    × (file_length (header_of a.axes a.counts.now) ≤ length a.out.now)
 good c =
+    let a = c.args in
     let g = tests_good _ _ (accepted-tests c) in
-    (g.0, rw (own-axes s) at g.1)
+    (g.0, rw (columns_axes a.axes a.xs.now a.ys.now a.zs.now c.requires.0) at g.1)
 
 -- the columns have the lengths that the tests ask for; of a plan town the third is the second again
 columns : (c : Else-failed-ne0) →
@@ -48,22 +53,23 @@ pub returns-then-failed-ne0 : goal.returns-then-failed-ne0
 returns-then-failed-ne0 c =
     let a = c.args in
     let n = c.failed_test-failed in
-    let s = given (goal.at.returns-then-failed-ne0 c).Start in
+    let s = given a.axes a.boxes.now a.counts.now a.xs.now a.ys.now a.zs.now a.cues.now in
     let e = call_refused s (length a.out.now) (number_refused n.result 0 n.ensures c.if-failed-ne0.true) in
-    (sym e, sym (exit_refused s a.out.now e))
+    record { answer = sym e; output = sym (exit_refused s a.out.now e) }
 
 pub put_directory-requires : goal.put_directory-requires
 unfolding file_length
 put_directory-requires c =
-    let g = good search in
-    (c.requires.0, omega (arith, g.1), rw (own-axes (goal.at.put_directory-requires c).Start) at g.0.numbers, g.0.most, g.0.cues)
+    let g = good (goal.at.put_directory-requires c).Else-failed-ne0 in
+    let axes = own-axes (goal.at.put_directory-requires c).Start in
+    (c.requires.0, omega (arith, g.1), rw axes at g.0.numbers, g.0.most, g.0.cues)
 
 pub put_tiles-requires : goal.put_tiles-requires
 put_tiles-requires c =
-    let g = good search in
-    let l = columns search in (
+    let g = good (goal.at.put_tiles-requires c).Else-failed-ne0 in
+    let l = columns (goal.at.put_tiles-requires c).Else-failed-ne0 in (
       c.requires.0,
-      omega (arith, g.1, c.put_directory.kept.0),
+      omega (arith, g.1, c.put_directory.auto.d),
       g.0.most,
       rw (own-axes (goal.at.put_tiles-requires c).Start) at g.0.counts,
       l.0,
@@ -74,17 +80,19 @@ put_tiles-requires c =
 
 pub file_length-requires : goal.file_length-requires
 file_length-requires c =
-    let g = good search in
+    let g = good (goal.at.file_length-requires c).Else-failed-ne0 in
     rw c.header_of.ensures (c.requires.0, g.0.most)
 
 pub returns : goal.returns
 returns c =
+    let at = goal.at.returns c in
     let a = c.args in
-    let s = given (goal.at.returns c).Start in
-    let e = call_accepted s (length a.out.now) (accepted-tests search) in (
-      ap accepted (c.file_length.ensures ∙ ap file_length c.header_of.ensures
-          ∙ ap (λ n. file_length (header_of n a.counts.now)) (sym (own-axes (goal.at.returns c).Start))) ∙ sym e,
-      file_row s a.out.now {d₁ = c.put_directory.new.d} (rw (own-axes (goal.at.returns c).Start) c.put_directory.ensures)
-          (rw (own-axes (goal.at.returns c).Start) c.put_tiles.ensures)
-          ∙ sym (exit_accepted s a.out.now e),
-    )
+    let s = given a.axes a.boxes.now a.counts.now a.xs.now a.ys.now a.zs.now a.cues.now in
+    let axes = own-axes at.Start in
+    let e = call_accepted s (length a.out.now) (accepted-tests at.Else-failed-ne0) in record {
+      answer = ap accepted (c.file_length.ensures ∙ ap file_length c.header_of.ensures
+          ∙ ap (λ n. file_length (header_of n a.counts.now)) (sym axes)) ∙ sym e;
+      output = file_row s a.out.now {d₁ = c.put_directory.new.d} (rw axes c.put_directory.ensures)
+          (rw axes c.put_tiles.ensures)
+          ∙ sym (exit_accepted s a.out.now e);
+    }
