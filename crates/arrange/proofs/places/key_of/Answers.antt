@@ -26,7 +26,7 @@ small c =
     let v = c.corner_of.ensures.1 in
     let same : length q ≡ length (box_at f h t) = v.axes ∙ sym (box_axes f h t) in
     let valid = (entry_of_accepted f h t c.requires.0.dir c.requires.0.below).0 in
-    let few : length q ≤ 3 = rw v.axes (known s).1 in
+    let few : length q ≤ 3 = rw v.axes (known_axes f h c.requires.0.dir).1 in
     let far : c.max_dist_within-far.result ≡ max_dist (box_at f h t) q =
     c.max_dist_within-far.ensures ∙ ap (λ z. max_dist z q) c.box_at.ensures in
     omega (arith, far, max-dist_bounded (box_at f h t) q valid v.valid same)

@@ -1,11 +1,10 @@
 use Prim.Native.Nat.{◌-◌, ◌≤◌}
-use mathlib.Core.Logic.{⊎_elim}
 use native.Mathlib.Omega.{arith}
 use lib.ListN.{length}
 use borrow.Author.Rules.{rules}
 use Rattle.arrange.proofs.Listing.{same_self, same_then, same_exchange}
 use Rattle.arrange.proofs.sorting.comb.Goals as goal
-use Rattle.arrange.proofs.sorting.comb.Goals.{At-loop-i}
+use Rattle.arrange.proofs.sorting.comb.Goals.{At-loop-i, else-a-i, then-a-i}
 
 -- the table is as long as it was
 room : (l : At-loop-i) → l.args.n ≤ length l.loop-i.a
@@ -28,11 +27,13 @@ pub loop-i-preserved : goal.loop-i-preserved
 loop-i-preserved c =
     let i = c.loop-i.i in (
       search rules,
-      ⊎_elim
-          (λ w. rw w.5 (same_then c.loop-i.invariant.1 (rw w.2.ensures
-          (same_exchange c.loop-i.a (i - c.args.gap) i c.args.n (search rules) (search rules) (room (goal.at.loop-i-preserved c).At-loop-i)))))
-          (λ w. rw w.1 c.loop-i.invariant.1)
-          c.if-a-i.branch,
+      elim c.if-a-i.branch [
+        | then-a-i w ↦
+            let changed = same_exchange c.loop-i.a (i - c.args.gap) i c.args.n (search rules) (search rules)
+            (room (goal.at.loop-i-preserved c).At-loop-i) in
+            rw w.a-is (same_then c.loop-i.invariant.1 (rw w.exchange.ensures changed))
+        | else-a-i w ↦ rw w.a-is c.loop-i.invariant.1
+      ],
     )
 
 pub shape_of-a : goal.shape_of-a
