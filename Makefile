@@ -20,8 +20,8 @@ lib:
 	@$(MAKE) --silent --no-print-directory libraries
 	@echo "target/lib/libnearby.a and target/lib/libnearby.so, with include/nearby.h"
 
-# rt knows itself what has to be proved again, and leaves what it made in out/ of the crate's folder. `rt ci` clears that
-# folder, so the program and the library are copied to target/. `rt run` also runs the program, here on no input.
+# rt knows itself what has to be proved again, and leaves what it made in out/ of the crate's folder. `rt ci` clears
+# that folder, so the program and the library are copied to target/. `rt run` also runs the program, here on no input.
 program:
 	@mkdir -p target/bin
 	@(cd crates/nearby && rt run </dev/null) >target/run.log 2>&1 || { cat target/run.log; exit 1; }
