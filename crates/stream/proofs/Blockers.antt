@@ -12,7 +12,6 @@ use lib.ListN.{get_or}
 use borrow.Author.Tests.{ltb-true}
 use Rattle.base.specs.Refusal.{accepted}
 use Rattle.blocks.specs.Directory.{directory}
-use Rattle.blocks.specs.Layout.{max_tiles}
 use Rattle.blocks.specs.declared.header.Header.{Header}
 use Rattle.corners.specs.Inner.Tables.{FarTable, NearTable, below_all}
 use Rattle.plan.specs.Inner.Seam.{ValidRegion, corner_count}

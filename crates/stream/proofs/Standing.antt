@@ -1,18 +1,18 @@
 -- What the code keeps of each tile: found for one tile, kept while others are found, kept while a tile is taken.
 use Prim.Native.Nat.{ℕ, zero, suc, ◌+◌, ◌-◌, ◌<◌, ◌≤◌}
-use mathlib.Core.Bool.{Bool, true, false, not, cond, ◌&&◌}
+use mathlib.Core.Bool.{Bool, true, false, ◌&&◌}
 use mathlib.Core.List.{List}
 use mathlib.Core.Logic.{◌≢◌}
-use mathlib.Core.Path.{◌≡◌, refl, sym, ap, ◌∙◌}
+use mathlib.Core.Path.{◌≡◌, refl, sym, ◌∙◌}
 use native.Mathlib.Omega.{arith}
 use lib.Dec.{eqb, ltb}
 use lib.ListN.{get_or, length, set, replicate}
 use lib.Seq.{get_or-set_same, get_or-set_other}
-use borrow.Author.Tests.{ltb-true, ltb-false, lt-ltb, le-ltb, eqb-true, eqb-false, eq-eqb, ne_eqb}
+use borrow.Author.Tests.{ltb-true, ltb-false, eqb-true, eqb-false, eq-eqb, ne_eqb}
 use Rattle.base.proofs.Tests.{clash, by_test, and_both, both_and}
 use Rattle.arrange.specs.Inner.Places.{tile_at, Listed}
-use Rattle.stream.specs.Inner.State.{free_mark, taken_mark, is_left, LastBlocker, waits_for, Settled}
-use Rattle.stream.specs.Inner.State.{TakenBelow, Stands, Standing, Released}
+use Rattle.stream.specs.Inner.State.{free_mark, taken_mark, is_left, LastBlocker, waits_for}
+use Rattle.stream.specs.Inner.State.{Stands, Standing, Released}
 
 -- ---- the mark of a tile
 

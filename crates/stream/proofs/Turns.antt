@@ -1,9 +1,9 @@
 -- One turn of the code's loop is one step of the sequence. The tiles left are those that were not marked as taken.
-use Prim.Native.Nat.{ℕ, zero, suc, ◌+◌, ◌-◌, ◌≤◌, ◌<◌}
+use Prim.Native.Nat.{ℕ, suc, ◌+◌, ◌-◌, ◌≤◌, ◌<◌}
 use mathlib.Core.Bool.{Bool, true, false}
 use mathlib.Core.List.{List, Memᴰ}
 use mathlib.Core.Logic.{◌≢◌}
-use mathlib.Core.Path.{◌≡◌, refl, sym, ap, ◌∙◌}
+use mathlib.Core.Path.{◌≡◌, sym, ◌∙◌}
 use native.Mathlib.Numerals.{add-one}
 use native.Mathlib.Omega.{arith}
 use lib.Dec.{eqb, ltb}
@@ -11,7 +11,7 @@ use lib.ListN.{length, get_or, set}
 use lib.Seq.{get_or-set_same, get_or-set_other}
 use borrow.Author.Tests.{ltb-true, ltb-false, eqb-true, eqb-false}
 use Rattle.base.specs.Over.{over}
-use Rattle.search.specs.Lists.{range, filter, All, Distinct}
+use Rattle.search.specs.Lists.{range, filter, Distinct}
 use Rattle.base.proofs.Over.{over_nil}
 use Rattle.base.proofs.Tests.{clash, by_test}
 use Rattle.search.proofs.Lists.{all_mem, all_any, mem_all, filter_mem, filter_id, filter_same, filter-distinct}

@@ -8,11 +8,10 @@ use Rattle.base.proofs.Tests.{and_both, passed, failed}
 use Rattle.host.specs.Cab.{box_from3}
 use Rattle.host.proofs.MarginLaws.{bad_number, good_number}
 use Rattle.host.proofs.cab.nearby_margin3.Goals as goal
-use Rattle.host.proofs.cab.nearby_margin3.Goals.{After-box3_of-b, After-box3_of-e, After-box3_of-o, Start}
+use Rattle.host.proofs.cab.nearby_margin3.Goals.{After-box3_of-b, After-box3_of-e, After-box3_of-o}
 
 -- the boxes that are measured are those of the arguments
 box-o : (c : After-box3_of-o) →
-    let s : Start = c in
     c.box3_of-o.result
     ≡ box_from3 c.args.ox0 c.args.ox1 c.args.oy0 c.args.oy1 c.args.oz0 c.args.oz1
 box-o c =
@@ -27,7 +26,6 @@ box-o c =
     ) at c.box3_of-o.ensures
 
 box-e : (c : After-box3_of-e) →
-    let s : Start = c in
     c.box3_of-e.result
     ≡ box_from3 c.args.ex0 c.args.ex1 c.args.ey0 c.args.ey1 c.args.ez0 c.args.ez1
 box-e c =
@@ -42,7 +40,6 @@ box-e c =
     ) at c.box3_of-e.ensures
 
 box-b : (c : After-box3_of-b) →
-    let s : Start = c in
     c.box3_of-b.result
     ≡ box_from3 c.args.bx0 c.args.bx1 c.args.by0 c.args.by1 c.args.bz0 c.args.bz1
 box-b c =
@@ -69,6 +66,6 @@ margin_within-requires c =
 pub returns : goal.returns
 returns c =
     let fits : SFits w64 c.margin_within.result = sfits_of c.margin_within.type_inv in
-    to_z-of_z {w = w32} fits ∙ c.margin_within.ensures
+    to_z-of_z {w = w64} fits ∙ c.margin_within.ensures
     ∙ good_number _ _ _ (passed c.valid_boxes.ensures c.if-not-valid_boxes.false)
     ∙ rw (box-o (goal.at.returns c).After-box3_of-o, box-e (goal.at.returns c).After-box3_of-e, box-b (goal.at.returns c).After-box3_of-b)

@@ -5,4 +5,7 @@ use Rattle.host.proofs.files.nearby_join.Goals as goal
 pub returns : goal.returns
 returns c =
     let end = c.join.ensures in
-    (c.report_join.ensures ∙ ap (λ e. join_report e.outcome) end, ap (λ e. e.slices) end)
+    record {
+      answer = c.report_join.ensures ∙ ap (λ e. join_report e.outcome) end;
+      slices = ap (λ e. e.slices) end;
+    }

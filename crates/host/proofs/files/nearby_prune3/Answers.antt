@@ -10,4 +10,7 @@ returns c =
     let o = simp (to_z-of_z {w = w32} a.x0, to_z-of_z {w = w32} a.x1, to_z-of_z {w = w32} a.y0, to_z-of_z {w = w32} a.y1, to_z-of_z {w = w32} a.z0, to_z-of_z {w = w32} a.z1)
     at c.box3_of-o.ensures in
     let end = c.prune3.ensures in
-    (c.report_prune.ensures ∙ ap prune_report (rw o at end.0), rw o at end.1)
+    record {
+      answer = c.report_prune.ensures ∙ ap prune_report (rw o at end.result_value);
+      marks = rw o at end.marks_after;
+    }

@@ -9,4 +9,7 @@ returns c =
     let a = c.ranges in
     let o = simp (to_z-of_z {w = w32} a.x0, to_z-of_z {w = w32} a.x1, to_z-of_z {w = w32} a.y0, to_z-of_z {w = w32} a.y1) at c.box_of.ensures in
     let end = c.stream_order.ensures in
-    (c.report_stream.ensures ∙ ap stream_report (rw o at end.0), rw o at end.1)
+    record {
+      answer = c.report_stream.ensures ∙ ap stream_report (rw o at end.result_value);
+      order = rw o at end.order_after;
+    }

@@ -5,4 +5,4 @@ use Rattle.host.proofs.files.nearby_write.Goals as goal
 pub returns : goal.returns
 returns c =
     let end = c.write.ensures in
-    (c.report_write.ensures ∙ ap write_report end.0, end.1)
+    record { answer = c.report_write.ensures ∙ ap write_report end.answer; output = end.output }

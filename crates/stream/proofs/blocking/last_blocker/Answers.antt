@@ -1,5 +1,5 @@
 use Prim.Native.Nat.{ℕ, ◌-◌, ◌*◌, ◌<◌, ◌≤◌}
-use mathlib.Core.Bool.{false}
+use mathlib.Core.Bool.{false, ◌&&◌}
 use mathlib.Core.Path.{◌≡◌, sym, ◌∙◌}
 use native.Mathlib.Omega.{arith}
 use lib.Dec.{eqb, ltb}
@@ -8,6 +8,8 @@ use borrow.Author.Tests.{ltb-true, ltb-false, eqb-true, eqb-false}
 use Rattle.blocks.specs.Layout.{max_tiles}
 use Rattle.corners.specs.Inner.Tables.{below_all, LastBelow}
 use Rattle.plan.specs.Inner.Seam.{corner_count}
+use Rattle.arrange.specs.Inner.Places.{tile_at}
+use Rattle.stream.specs.Inner.State.{is_left}
 use Rattle.base.proofs.Tests.{by_test}
 use Rattle.corners.proofs.CornerTables.{corners-few, not_below}
 use Rattle.stream.proofs.blocking.last_blocker.Goals as goal
@@ -15,22 +17,22 @@ use Rattle.stream.proofs.blocking.last_blocker.Goals.{After-corners-n, Start}
 
 -- the corner that is tested first
 few : (s : Start) → (4 ≤ corner_count s.args.h) × (corner_count s.args.h ≤ 8)
-few s = corners-few s.args.h s.requires.0.0
+few s = corners-few s.args.h s.requires.known_axes.0
 
 -- a place passed over does not block
 passed : (c : After-corners-n) → (to i : ℕ) → LastBelow c.args.far.now ((c.corners-n.result - 1) * max_tiles)
     (get_or c.args.near (c.corners-n.result - 1) 0) c.args.low to i
     → (j : ℕ) → i ≤ j → j < to
-    → blocking c.args.h c.args.far.now c.args.keys.now c.args.waits.now c.args.near j ≡ false
+    → below_all c.args.h c.args.far.now c.args.near j && is_left c.args.waits.now (tile_at c.args.keys.now j) ≡ false
 passed c to i last j l u =
     let k = c.corners-n.result - 1 in
     let e : below_all c.args.h c.args.far.now c.args.near j ≡ false =
-    not_below c.args.h c.args.far.now c.args.near j k (omega (arith, (few s).0, c.corners-n.ensures))
+    not_below c.args.h c.args.far.now c.args.near j k (omega (arith, (corners-few c.args.h c.requires.known_axes.0).0, c.corners-n.ensures))
     (last.none j l u) in
     rw e
 
 pub corners-n-requires : goal.corners-n-requires
-corners-n-requires c = c.requires.0.0
+corners-n-requires c = c.requires.known_axes.0
 
 pub overflow_sub-part : goal.overflow_sub-part
 overflow_sub-part c = omega (arith, (few (goal.at.overflow_sub-part c).Start).0, c.corners-n.ensures)
@@ -53,7 +55,7 @@ bounds-near-n c =
 
 pub last_below-i-requires : goal.last_below-i-requires
 last_below-i-requires c =
-    omega (arith, (few (goal.at.last_below-i-requires c).Start).0, c.corners-n.ensures, c.requires.0.1, c.requires.0.2, c.requires.0.3)
+    omega (arith, (few (goal.at.last_below-i-requires c).Start).0, c.corners-n.ensures, c.requires.known_axes.1, c.requires.known_axes.2, c.requires.known_axes.3)
 
 pub loop-i-init : goal.loop-i-init
 loop-i-init c =
@@ -63,10 +65,15 @@ loop-i-init c =
 pub blocks_at-requires : goal.blocks_at-requires
 blocks_at-requires c =
     let i = c.loop-i.i in
-    let inside : i - 1 < c.args.h.tiles = omega (arith, c.requires.0.2) in (
-      (c.requires.0.0, c.requires.0.1, omega (arith, c.requires.0.3)),
-      (omega (arith, c.requires.0.3, c.requires.1.0), omega (arith, c.requires.1.1.below (i - 1) inside, c.requires.1.2, c.requires.0.3)),
-    )
+    let inside : i - 1 < c.args.h.tiles = omega (arith, c.requires.known_axes.2) in
+    let tile = c.requires.keys_len.1.below (i - 1) inside in
+    record {
+      known_axes = (c.requires.known_axes.0, c.requires.known_axes.1, omega (arith, c.requires.known_axes.3));
+      i_in_bounds = (
+        omega (arith, c.requires.known_axes.3, c.requires.keys_len.0),
+        omega (arith, tile, c.requires.keys_len.2, c.requires.known_axes.3),
+      );
+    }
 
 pub returns-then-blocks_at : goal.returns-then-blocks_at
 returns-then-blocks_at c =
@@ -78,7 +85,7 @@ returns-then-blocks_at c =
 
 pub last_below-i-requires-in-loop-i : goal.last_below-i-requires-in-loop-i
 last_below-i-requires-in-loop-i c =
-    omega (arith, (few (goal.at.last_below-i-requires-in-loop-i c).Start).0, c.corners-n.ensures, c.requires.0.1, c.requires.0.2, c.requires.0.3)
+    omega (arith, (few (goal.at.last_below-i-requires-in-loop-i c).Start).0, c.corners-n.ensures, c.requires.known_axes.1, c.requires.known_axes.2, c.requires.known_axes.3)
 
 pub loop-i-smaller : goal.loop-i-smaller
 loop-i-smaller c = omega (arith, c.last_below-i-in-loop-i.ensures.within)

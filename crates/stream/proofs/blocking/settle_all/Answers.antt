@@ -1,4 +1,4 @@
-use Prim.Native.Nat.{◌-◌, ◌<◌, ◌≤◌}
+use Prim.Native.Nat.{◌<◌, ◌≤◌}
 use mathlib.Core.Path.{◌≡◌, refl, ap, ◌∙◌}
 use native.Mathlib.Omega.{arith}
 use lib.Dec.{eqb}
@@ -15,18 +15,21 @@ use Rattle.stream.proofs.blocking.settle_all.Goals as goal
 use Rattle.stream.proofs.blocking.settle_all.Goals.{Start}
 
 most : (s : Start) → s.args.h.tiles ≤ max_tiles
-most s = tiles_few s.args.f.now s.args.h s.requires.0.0
+most s = tiles_few s.args.f.now s.args.h s.requires.f_value.0
 
 pub loop-b-init : goal.loop-b-init
 loop-b-init c =
-    (search rules, refl, refl, c.requires.1.1.1.2, λ j l. absurd (omega arith))
+    (search rules, refl, refl, c.requires.waits_len.2, λ j l. absurd (omega arith))
 
 pub settle_first-requires : goal.settle_first-requires
 settle_first-requires c =
-    (
-      (record { dir = c.requires.0.0; below = search rules }, c.requires.0.1),
-      (c.requires.1.0, (c.requires.1.1.0, (c.loop-b.invariant.1 ∙ c.requires.1.1.1.0, c.loop-b.invariant.2 ∙ c.requires.1.1.1.1))),
-    )
+    record {
+      tile_of = (record { dir = c.requires.f_value.0; below = search rules }, c.requires.f_value.1);
+      far_table = c.requires.far_table;
+      keys_len = c.requires.keys_len;
+      waits_len =
+          (c.loop-b.invariant.1 ∙ c.requires.waits_len.0, c.loop-b.invariant.2 ∙ c.requires.waits_len.1);
+    }
 
 pub loop-b-preserved : goal.loop-b-preserved
 loop-b-preserved c =
@@ -36,8 +39,8 @@ loop-b-preserved c =
     let closer = closer_from c.args.f.now c.args.h (region_of c.args.h c.args.o) in
     let keys = c.args.keys.now in
     let found = c.settle_first.ensures in
-    let room : b < length c.loop-b.waits = omega (arith, most (goal.at.loop-b-preserved c).Start, inv.1, c.requires.1.1.1.0) in
-    let room' : b < length c.loop-b.from = omega (arith, most (goal.at.loop-b-preserved c).Start, inv.2, c.requires.1.1.1.1) in (
+    let room : b < length c.loop-b.waits = omega (arith, most (goal.at.loop-b-preserved c).Start, inv.1, c.requires.waits_len.0) in
+    let room' : b < length c.loop-b.from = omega (arith, most (goal.at.loop-b-preserved c).Start, inv.2, c.requires.waits_len.1) in (
       search rules,
       ap length found.waits_set ∙ length-set c.loop-b.waits b found.w ∙ inv.1,
       ap length found.from_set ∙ length-set c.loop-b.from b found.r ∙ inv.2,
@@ -56,8 +59,7 @@ pub shape_of-from : goal.shape_of-from
 shape_of-from c = c.loop-b.invariant.2
 
 pub returns : goal.returns
-returns c =
-    (
-      record { settled = λ j u m. absurd (omega arith); others = λ j u m. c.loop-b.invariant.4 j (omega arith) },
-      c.loop-b.invariant.3,
-    )
+returns c = (
+  record { settled = λ j u m. absurd (omega arith); others = λ j u m. c.loop-b.invariant.4 j (omega arith) },
+  c.loop-b.invariant.3,
+)

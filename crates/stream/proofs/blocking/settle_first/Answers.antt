@@ -8,27 +8,29 @@ use Rattle.stream.proofs.blocking.settle_first.Goals as goal
 use Rattle.stream.proofs.blocking.settle_first.Goals.{Start}
 
 most : (s : Start) → s.args.h.tiles ≤ max_tiles
-most s = tiles_few s.args.f.now s.args.h s.requires.0.0.dir
+most s = tiles_few s.args.f.now s.args.h s.requires.tile_of.0.dir
 
 pub near_from-near-requires : goal.near_from-near-requires
-near_from-near-requires c = c.requires.0
+near_from-near-requires c = c.requires.tile_of
 
 pub place_before-to-requires : goal.place_before-to-requires
 place_before-to-requires c =
-    (omega (arith, most (goal.at.place_before-to-requires c).Start, c.requires.1.1.0.2), most (goal.at.place_before-to-requires c).Start)
+    (omega (arith, most (goal.at.place_before-to-requires c).Start, c.requires.keys_len.2), most (goal.at.place_before-to-requires c).Start)
 
 pub settle-requires : goal.settle-requires
 settle-requires c =
-    let table = c.requires.1.1.0 in
-    let slices = c.requires.1.1.1 in (
-      (
-        known_axes c.args.f.now c.args.h c.requires.0.0.dir,
-        c.requires.1.0.long,
+    let table = c.requires.keys_len in
+    let slices = c.requires.waits_len in
+    record {
+      known_axes = (
+        known_axes c.args.f.now c.args.h c.requires.tile_of.0.dir,
+        c.requires.far_table.long,
         c.place_before-to.ensures.within,
         most (goal.at.settle-requires c).Start,
-      ),
-      ((table.0, table.1, slices.0), (c.requires.0.0.below, slices.1)),
-    )
+      );
+      keys_len = (table.0, table.1, slices.0);
+      b_lt_tiles = (c.requires.tile_of.0.below, slices.1);
+    }
 
 pub returns : goal.returns
 returns c =
@@ -36,10 +38,10 @@ returns c =
     let h = c.args.h in
     let o = region_of h c.args.o in
     let keys = c.args.keys.now in
-    let listed = c.requires.1.1.0.1 in
+    let listed = c.requires.keys_len.1 in
     let near = c.near_from-near.result in
-    released f h c.requires.0.0.dir o c.requires.0.1 keys listed c.requires.1.0 c.requires.0.0.below near
+    released f h c.requires.tile_of.0.dir o c.requires.tile_of.1 keys listed c.requires.far_table c.requires.tile_of.0.below near
     c.near_from-near.ensures (λ i l u. absurd (omega arith)) c.place_before-to.ensures.within
-    (λ i l u _. none_nearer f h c.requires.0.0.dir o c.requires.0.1 keys listed c.requires.1.0 c.requires.0.0.below
-    near c.near_from-near.ensures c.requires.1.1.0.3 c.place_before-to.ensures i l u)
+    (λ i l u _. none_nearer f h c.requires.tile_of.0.dir o c.requires.tile_of.1 keys listed c.requires.far_table c.requires.tile_of.0.below
+    near c.near_from-near.ensures c.requires.keys_len.3 c.place_before-to.ensures i l u)
     c.settle.ensures

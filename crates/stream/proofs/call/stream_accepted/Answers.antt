@@ -6,7 +6,7 @@ use lib.Dec.{eqb}
 use lib.ListN.{length, take}
 use lib.Seq.{length-take-le}
 use borrow.Author.Rules.{rules}
-use borrow.Author.Tests.{not-true, not-false, eq-eqb, ne_eqb, le-leb, lt-leb}
+use borrow.Author.Tests.{eq-eqb, ne_eqb, le-leb, lt-leb}
 use Rattle.blocks.specs.Layout.{max_tiles}
 use Rattle.geometry.specs.Box.{valid_box}
 use Rattle.plan.proofs.Measures.{tiles_few}
@@ -23,7 +23,7 @@ axes-are : (s : Start) → length (take s.args.axes s.args.o) ≡ s.args.axes
 axes-are s = length-take-le s.args.axes s.args.o (search rules)
 
 good-axes : (c : Else-h-axes) → eqb c.args.h.axes (length (take c.args.axes c.args.o)) ≡ true
-good-axes c = rw (axes-are s) (eq-eqb _ _ (same-axes c))
+good-axes c = rw (length-take-le c.args.axes c.args.o (search rules)) (eq-eqb _ _ c.if-h-axes.false)
 
 good-box : (c : Else-not-valid_box) → valid_box (take c.args.axes c.args.o) ≡ true
 good-box c =
@@ -35,18 +35,18 @@ most s = tiles_few s.args.f.now s.args.h s.requires.0
 pub returns-then-h-axes : goal.returns-then-h-axes
 unfolding stream_call order_after
 returns-then-h-axes c =
-    rw (c.requires.0, axes-are (goal.at.returns-then-h-axes c).Start, ne_eqb _ _ c.if-h-axes.true) (c.refused.ensures, refl)
+    rw (c.requires.0, axes-are (goal.at.returns-then-h-axes c).Start, ne_eqb _ _ c.if-h-axes.true) record { result_value = c.refused.ensures; order_after = refl }
 
 pub returns-then-not-valid_box : goal.returns-then-not-valid_box
 unfolding stream_call order_after
 returns-then-not-valid_box c =
     let bad = sym c.valid_box.ensures ∙ c.if-not-valid_box.true in
-    rw (c.requires.0, good-axes (goal.at.returns-then-not-valid_box c).Else-h-axes, bad) (c.refused-then-not-valid_box.ensures, refl)
+    rw (c.requires.0, good-axes (goal.at.returns-then-not-valid_box c).Else-h-axes, bad) record { result_value = c.refused-then-not-valid_box.ensures; order_after = refl }
 
 pub returns-then-order-h : goal.returns-then-order-h
 unfolding stream_call order_after
 returns-then-order-h c =
-    rw (c.requires.0, good-axes (goal.at.returns-then-order-h c).Else-h-axes, good-box (goal.at.returns-then-order-h c).Else-not-valid_box, lt-leb _ _ c.if-order-h.true) (c.refused-then-order-h.ensures, refl)
+    rw (c.requires.0, good-axes (goal.at.returns-then-order-h c).Else-h-axes, good-box (goal.at.returns-then-order-h c).Else-not-valid_box, lt-leb _ _ c.if-order-h.true) record { result_value = c.refused-then-order-h.ensures; order_after = refl }
 
 pub put_order-requires : goal.put_order-requires
 put_order-requires c =
@@ -60,4 +60,4 @@ pub returns : goal.returns
 unfolding stream_call order_after
 returns c =
     rw (c.requires.0, good-axes (goal.at.returns c).Else-h-axes, good-box (goal.at.returns c).Else-not-valid_box, le-leb _ _ c.if-order-h.false, sym (same-axes (goal.at.returns c).Else-h-axes))
-    (refl, rw c.requires.0 c.put_order.ensures)
+    record { result_value = refl; order_after = rw c.requires.0 c.put_order.ensures }

@@ -1,4 +1,3 @@
-use Prim.Native.Nat.{◌-◌}
 use mathlib.Core.Logic.{◌≢◌}
 use native.Mathlib.Omega.{arith}
 use lib.ListN.{get_or}
@@ -15,13 +14,12 @@ returns-then-waits-t-eq-FREE c =
     record { within = c.loop-t.invariant.1; none = c.loop-t.invariant.2; found = λ _. search rules }
 
 pub loop-t-preserved : goal.loop-t-preserved
-loop-t-preserved c =
-    (
-      search rules,
-      search rules,
-      up_to_next (λ b. get_or c.args.waits.now b 0 ≢ free_mark) c.args.at c.loop-t.t c.loop-t.invariant.2
-          c.if-waits-t-eq-FREE.false,
-    )
+loop-t-preserved c = (
+  search rules,
+  search rules,
+  up_to_next (λ b. get_or c.args.waits.now b 0 ≢ free_mark) c.args.at c.loop-t.t c.loop-t.invariant.2
+      c.if-waits-t-eq-FREE.false,
+)
 
 pub returns : goal.returns
 returns c =

@@ -1,4 +1,3 @@
-use Prim.Native.Nat.{◌-◌}
 use mathlib.Core.Bool.{false}
 use mathlib.Core.Path.{◌≡◌}
 use native.Mathlib.Omega.{arith}
@@ -22,15 +21,14 @@ returns-then-waits-t-ne-TAKEN c =
     record { after = c.loop-i.invariant.0; within = c.loop-i.invariant.1; none = c.loop-i.invariant.2 }
 
 pub loop-i-preserved : goal.loop-i-preserved
-loop-i-preserved c =
-    (
-      search rules,
-      search rules,
-      up_to_next (λ j. is_left c.args.waits.now (tile_at c.args.keys.now j) ≡ false) c.args.low c.loop-i.i
-          c.loop-i.invariant.2
-          (rw (eq-eqb (get_or c.args.waits.now (tile_at c.args.keys.now c.loop-i.i) 0) taken_mark
-          (rw c.tile_at-t.ensures at c.if-waits-t-ne-TAKEN.false))),
-    )
+loop-i-preserved c = (
+  search rules,
+  search rules,
+  up_to_next (λ j. is_left c.args.waits.now (tile_at c.args.keys.now j) ≡ false) c.args.low c.loop-i.i
+      c.loop-i.invariant.2
+      (rw (eq-eqb (get_or c.args.waits.now (tile_at c.args.keys.now c.loop-i.i) 0) taken_mark
+      (rw c.tile_at-t.ensures at c.if-waits-t-ne-TAKEN.false))),
+)
 
 pub returns : goal.returns
 returns c =

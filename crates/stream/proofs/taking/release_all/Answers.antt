@@ -1,18 +1,16 @@
-use Prim.Native.Nat.{◌%◌, ◌+◌, ◌-◌, ◌≤◌, min}
-use mathlib.Core.Logic.{⊎_elim}
+use Prim.Native.Nat.{◌%◌, ◌+◌, ◌≤◌, min}
 use mathlib.Core.Path.{◌≡◌, refl, ◌∙◌}
 use native.Mathlib.Omega.{arith}
-use borrow.Author.Tests.{not-false}
 use Rattle.blocks.specs.Layout.{max_tiles}
 use Rattle.plan.specs.Inner.Seam.{region_of}
 use Rattle.plan.proofs.Measures.{tiles_few}
 use Rattle.stream.specs.Stream.{closer_from}
 use Rattle.stream.proofs.Standing.{standing_skip}
 use Rattle.stream.proofs.taking.release_all.Goals as goal
-use Rattle.stream.proofs.taking.release_all.Goals.{Start}
+use Rattle.stream.proofs.taking.release_all.Goals.{Start, else-not-none_waits, then-not-none_waits}
 
 most : (s : Start) → s.args.h.tiles ≤ max_tiles
-most s = tiles_few s.args.f.now s.args.h s.requires.0.0
+most s = tiles_few s.args.f.now s.args.h s.requires.f_value.0
 
 pub loop-first-init : goal.loop-first-init
 loop-first-init c =
@@ -23,40 +21,33 @@ loop-first-init c =
       rw none (record {
         long_waits = refl;
         long_from = refl;
-        standing = c.requires.1.1.1.1.1;
+        standing = c.requires.t_lt_tiles.1;
         same_left = λ a. refl;
         same_before = λ b l. refl;
       }),
     )
 
 pub overflow_cast-t : goal.overflow_cast-t
-overflow_cast-t c = omega (arith, most (goal.at.overflow_cast-t c).Start, c.requires.1.1.1.1.0)
+overflow_cast-t c = omega (arith, most (goal.at.overflow_cast-t c).Start, c.requires.t_lt_tiles.0)
 
 -- a group lies in the table
 pub none_waits-requires : goal.none_waits-requires
 none_waits-requires c =
-    (omega (arith, most (goal.at.none_waits-requires c).Start, c.loop-first.invariant.0, c.loop-first.invariant.3.long_waits, c.requires.1.1.0.2), c.loop-first.invariant.1)
+    (omega (arith, most (goal.at.none_waits-requires c).Start, c.loop-first.invariant.0, c.loop-first.invariant.3.long_waits, c.requires.keys_len.2), c.loop-first.invariant.1)
 
 pub release_among-before-requires : goal.release_among-before-requires
 release_among-before-requires c =
     let inv = c.loop-first.invariant in
-    let table = c.requires.1.1.0 in
-    let here : min c.loop-first.first c.args.h.tiles ≡ c.loop-first.first = omega arith in (
-      c.requires.0,
-      (
-        c.requires.1.0,
-        (
-          (table.0, table.1, inv.3.long_waits ∙ table.2, inv.3.long_from ∙ table.3),
-          (
-            (λ i m u. inv.3.same_left _ ∙ c.requires.1.1.1.0 i m u),
-            (
-              (c.requires.1.1.1.1.0, omega (arith, c.lesser-to.ensures), omega (arith, c.lesser-to.ensures)),
-              rw here at inv.3.standing,
-            ),
-          ),
-        ),
-      ),
-    )
+    let table = c.requires.keys_len in
+    let here : min c.loop-first.first c.args.h.tiles ≡ c.loop-first.first = omega arith in
+    record {
+      f_value = c.requires.f_value;
+      far_table = c.requires.far_table;
+      keys_len = (table.0, table.1, inv.3.long_waits ∙ table.2, inv.3.long_from ∙ table.3);
+      taken_below = λ i m u. inv.3.same_left _ ∙ c.requires.taken_below i m u;
+      t_lt_tiles = (c.requires.t_lt_tiles.0, omega (arith, c.lesser-to.ensures), omega (arith, c.lesser-to.ensures));
+      standing = rw here at inv.3.standing;
+    }
 
 pub loop-first-smaller : goal.loop-first-smaller
 loop-first-smaller c = omega (arith, most (goal.at.loop-first-smaller c).Start)
@@ -69,39 +60,39 @@ loop-first-preserved c =
     let closer = closer_from c.args.f.now c.args.h (region_of c.args.h c.args.o) in
     let aligned : (first + 32) % 32 ≡ 0 = omega (arith, inv.0) in
     let inside : first + 32 ≤ max_tiles = omega (arith, most (goal.at.loop-first-preserved c).Start, inv.0) in
-    ⊎_elim
-    (λ w.
-    let freed = w.3.ensures in
-    let to = c.lesser-to.ensures in
-    let here : c.lesser-to.result ≡ min (first + 32) n = to in
-    rw (w.8, w.9, w.10) (
-      aligned,
-      inside,
-      omega (arith, freed.0, inv.2),
-      record {
-        long_waits = freed.1.long_waits ∙ inv.3.long_waits;
-        long_from = freed.1.long_from ∙ inv.3.long_from;
-        standing = rw here at freed.1.standing;
-        same_left = λ a. freed.1.same_left a ∙ inv.3.same_left a;
-        same_before = λ j u. freed.1.same_before j u ∙ inv.3.same_before j (omega (arith, freed.0));
-      },
-    ))
-    (λ w.
-    let none = c.none_waits.ensures (w.0.left) in
-    rw (w.1, w.2, w.3) (
-      aligned,
-      inside,
-      inv.2,
-      record {
-        long_waits = inv.3.long_waits;
-        long_from = inv.3.long_from;
-        standing = standing_skip closer n c.args.keys.now (min (first + 32) n) (omega arith)
-            (λ b m u v. none b (omega arith) (omega arith)) inv.3.standing;
-        same_left = inv.3.same_left;
-        same_before = inv.3.same_before;
-      },
-    ))
-    c.if-not-none_waits.branch
+    elim c.if-not-none_waits.branch [
+      | then-not-none_waits w ↦
+          let freed = w.release_among-before.ensures in
+          let to = c.lesser-to.ensures in
+          let here : c.lesser-to.result ≡ min (first + 32) n = to in
+          rw (w.waits-is, w.from-is, w.before-is) (
+            aligned,
+            inside,
+            omega (arith, freed.0, inv.2),
+            record {
+              long_waits = freed.1.long_waits ∙ inv.3.long_waits;
+              long_from = freed.1.long_from ∙ inv.3.long_from;
+              standing = rw here at freed.1.standing;
+              same_left = λ a. freed.1.same_left a ∙ inv.3.same_left a;
+              same_before = λ j u. freed.1.same_before j u ∙ inv.3.same_before j (omega (arith, freed.0));
+            },
+          )
+      | else-not-none_waits w ↦
+          let none = c.none_waits.ensures w.if-not-none_waits.false in
+          rw (w.waits-is, w.from-is, w.before-is) (
+            aligned,
+            inside,
+            inv.2,
+            record {
+              long_waits = inv.3.long_waits;
+              long_from = inv.3.long_from;
+              standing = standing_skip closer n c.args.keys.now (min (first + 32) n) (omega arith)
+                  (λ b m u v. none b (omega arith) (omega arith)) inv.3.standing;
+              same_left = inv.3.same_left;
+              same_before = inv.3.same_before;
+            },
+          )
+    ]
 
 pub shape_of-waits : goal.shape_of-waits
 shape_of-waits c = c.loop-first.invariant.3.long_waits

@@ -1,6 +1,5 @@
-use Prim.Native.Nat.{ℕ, ◌+◌, ◌-◌, ◌<◌, ◌≤◌}
+use Prim.Native.Nat.{ℕ, ◌+◌, ◌<◌, ◌≤◌}
 use mathlib.Core.Bool.{true}
-use mathlib.Core.Logic.{⊎_elim}
 use mathlib.Core.Path.{◌≡◌, refl, ap, sym, ◌∙◌}
 use native.Mathlib.Omega.{arith}
 use lib.ListN.{get_or, length, length-set}
@@ -12,28 +11,28 @@ use Rattle.stream.specs.Inner.State.{is_left, taken_mark}
 use Rattle.stream.specs.Stream.{closer_from}
 use Rattle.stream.proofs.Standing.{left_by, left_same, waits_kept, stands_gone, standing_next, standing_skip}
 use Rattle.stream.proofs.taking.release_among.Goals as goal
-use Rattle.stream.proofs.taking.release_among.Goals.{At-loop-b, Start}
+use Rattle.stream.proofs.taking.release_among.Goals.{At-loop-b, Start, else-waits-b, then-waits-b}
 
 most : (s : Start) → s.args.h.tiles ≤ max_tiles
-most s = tiles_few s.args.f.now s.args.h s.requires.0.0
+most s = tiles_few s.args.f.now s.args.h s.requires.f_value.0
 
 -- there is room for tile b
 room : (l : At-loop-b) → (b : ℕ) → b < l.args.to → (b < length l.loop-b.waits) × (b < length l.loop-b.from)
 room l b u =
-    let table = l.requires.1.1.0 in
-    let inside : b < max_tiles = omega (arith, most s, l.requires.1.1.1.1.0.2) in
+    let table = l.requires.keys_len in
+    let inside : b < max_tiles = omega (arith, tiles_few l.args.f.now l.args.h l.requires.f_value.0, l.requires.t_lt_tiles.2) in
     (omega (arith, l.loop-b.invariant.3.long_waits, table.2), omega (arith, l.loop-b.invariant.3.long_from, table.3))
 
 pub loop-b-init : goal.loop-b-init
 loop-b-init c =
-    let ends = c.requires.1.1.1.1.0 in (
+    let ends = c.requires.t_lt_tiles in (
       search rules,
       ends.1,
       search rules,
       record {
         long_waits = refl;
         long_from = refl;
-        standing = c.requires.1.1.1.1.1;
+        standing = c.requires.standing;
         same_left = λ a. refl;
         same_before = λ b l. refl;
       },
@@ -41,7 +40,7 @@ loop-b-init c =
 
 pub offset_bounds-waits-b : goal.offset_bounds-waits-b
 offset_bounds-waits-b c =
-    omega (arith, most (goal.at.offset_bounds-waits-b c).Start, c.requires.1.1.1.1.0.2)
+    omega (arith, most (goal.at.offset_bounds-waits-b c).Start, c.requires.t_lt_tiles.2)
 
 pub bounds-waits-b : goal.bounds-waits-b
 bounds-waits-b c =
@@ -49,30 +48,24 @@ bounds-waits-b c =
 
 pub overflow_cast-t : goal.overflow_cast-t
 overflow_cast-t c =
-    omega (arith, most (goal.at.overflow_cast-t c).Start, c.requires.1.1.1.1.0.0)
+    omega (arith, most (goal.at.overflow_cast-t c).Start, c.requires.t_lt_tiles.0)
 
 pub release-requires : goal.release-requires
 release-requires c =
     let inv = c.loop-b.invariant in
-    let table = c.requires.1.1.0 in
-    let ends = c.requires.1.1.1.1.0 in
+    let table = c.requires.keys_len in
+    let ends = c.requires.t_lt_tiles in
     let b = c.loop-b.b in
     let inside : b < c.args.h.tiles = omega (arith, ends.2) in
     let closer = closer_from c.args.f.now c.args.h (region_of c.args.h c.args.o) in
-    let here : get_or c.loop-b.waits b 0 ≡ c.args.t = search rules in (
-      (record { dir = c.requires.0.0; below = inside }, c.requires.0.1),
-      (
-        c.requires.1.0,
-        (
-          (table.0, table.1, inv.3.long_waits ∙ table.2, inv.3.long_from ∙ table.3),
-          (
-            (λ i m u. inv.3.same_left _ ∙ c.requires.1.1.1.0 i m u),
-            stands_gone closer c.args.h.tiles c.args.keys.now (sym here)
-                (inv.3.standing.others b inside (omega arith)),
-          ),
-        ),
-      ),
-    )
+    let here : get_or c.loop-b.waits b 0 ≡ c.args.t = search rules in
+    record {
+      tile_of = (record { dir = c.requires.f_value.0; below = inside }, c.requires.f_value.1);
+      far_table = c.requires.far_table;
+      keys_len = (table.0, table.1, inv.3.long_waits ∙ table.2, inv.3.long_from ∙ table.3);
+      taken_below = λ i m u. inv.3.same_left _ ∙ c.requires.taken_below i m u;
+      stands = stands_gone closer c.args.h.tiles c.args.keys.now (sym here) (inv.3.standing.others b inside (omega arith));
+    }
 
 pub loop-b-preserved : goal.loop-b-preserved
 loop-b-preserved c =
@@ -81,45 +74,45 @@ loop-b-preserved c =
     let n = c.args.h.tiles in
     let keys = c.args.keys.now in
     let closer = closer_from c.args.f.now c.args.h (region_of c.args.h c.args.o) in
-    let ends = c.requires.1.1.1.1.0 in
-    ⊎_elim
-    (λ w.
-    let found = w.3.ensures in
-    let least = w.8.ensures in
-    let places = room (goal.at.loop-b-preserved c).At-loop-b b (search rules) in
-    let here : is_left c.loop-b.waits b ≡ true =
-    left_by c.loop-b.waits b (λ e.
-    let q : c.args.t ≡ taken_mark = sym w.0.taken ∙ e in
-    omega (arith, most (goal.at.loop-b-preserved c).Start, ends.0)) in
-    rw (w.9, w.10, w.11) (
-      omega arith,
-      omega arith,
-      omega (arith, least, inv.2),
-      record {
-        long_waits = ap length found.waits_set ∙ length-set c.loop-b.waits b found.w ∙ inv.3.long_waits;
-        long_from = ap length found.from_set ∙ length-set c.loop-b.from b found.r ∙ inv.3.long_from;
-        standing = standing_next closer n keys found places.0 places.1 here inv.3.standing;
-        same_left = λ a. left_same closer n keys found places.0 places.1 here a ∙ inv.3.same_left a;
-        same_before = λ j u.
-            waits_kept closer n keys found places.0 places.1 here j (omega (arith, least))
-            ∙ inv.3.same_before j (omega (arith, least));
-      },
-    ))
-    (λ w.
-    rw (w.1, w.2, w.3) (
-      omega arith,
-      omega arith,
-      inv.2,
-      record {
-        long_waits = inv.3.long_waits;
-        long_from = inv.3.long_from;
-        standing = standing_skip closer n keys (b + 1) (omega arith)
-            (λ j u v _. let q : j ≡ b = omega arith in rw q w.0.left) inv.3.standing;
-        same_left = inv.3.same_left;
-        same_before = inv.3.same_before;
-      },
-    ))
-    c.if-waits-b.branch
+    let ends = c.requires.t_lt_tiles in
+    elim c.if-waits-b.branch [
+      | then-waits-b w ↦
+          let found = w.release.ensures in
+          let least = w.lesser-before.ensures in
+          let places = room (goal.at.loop-b-preserved c).At-loop-b b (search rules) in
+          let here : is_left c.loop-b.waits b ≡ true =
+          left_by c.loop-b.waits b (λ e.
+          let q : c.args.t ≡ taken_mark = sym w.if-waits-b.true ∙ e in
+          omega (arith, most (goal.at.loop-b-preserved c).Start, ends.0)) in
+          rw (w.waits-is, w.from-is, w.before-is) (
+            omega arith,
+            omega arith,
+            omega (arith, least, inv.2),
+            record {
+              long_waits = ap length found.waits_set ∙ length-set c.loop-b.waits b found.w ∙ inv.3.long_waits;
+              long_from = ap length found.from_set ∙ length-set c.loop-b.from b found.r ∙ inv.3.long_from;
+              standing = standing_next closer n keys found places.0 places.1 here inv.3.standing;
+              same_left = λ a. left_same closer n keys found places.0 places.1 here a ∙ inv.3.same_left a;
+              same_before = λ j u.
+                  waits_kept closer n keys found places.0 places.1 here j (omega (arith, least))
+                  ∙ inv.3.same_before j (omega (arith, least));
+            },
+          )
+      | else-waits-b w ↦
+          rw (w.waits-is, w.from-is, w.before-is) (
+            omega arith,
+            omega arith,
+            inv.2,
+            record {
+              long_waits = inv.3.long_waits;
+              long_from = inv.3.long_from;
+              standing = standing_skip closer n keys (b + 1) (omega arith)
+                  (λ j u v _. let q : j ≡ b = omega arith in rw q w.if-waits-b.false) inv.3.standing;
+              same_left = inv.3.same_left;
+              same_before = inv.3.same_before;
+            },
+          )
+    ]
 
 pub shape_of-waits : goal.shape_of-waits
 shape_of-waits c = c.loop-b.invariant.3.long_waits

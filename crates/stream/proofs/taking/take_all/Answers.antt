@@ -1,4 +1,4 @@
-use Prim.Native.Nat.{◌-◌, ◌<◌, ◌≤◌}
+use Prim.Native.Nat.{◌<◌, ◌≤◌}
 use mathlib.Core.Path.{refl, ◌∙◌}
 use native.Mathlib.Omega.{arith}
 use lib.ListN.{length, length-set}
@@ -16,28 +16,31 @@ use Rattle.stream.proofs.taking.take_all.Goals as goal
 use Rattle.stream.proofs.taking.take_all.Goals.{After-first_free-t, Start}
 
 most : (s : Start) → s.args.h.tiles ≤ max_tiles
-most s = tiles_few s.args.f.now s.args.h s.requires.0.0
+most s = tiles_few s.args.f.now s.args.h s.requires.f_value.0
 
 strict : (s : Start)
     → StrictOrder (closer_from s.args.f.now s.args.h (region_of s.args.h s.args.o)) s.args.h.tiles
 strict s =
-    closer-strict s.args.f.now s.args.h s.requires.0.0 (region_of s.args.h s.args.o) s.requires.0.1
+    closer-strict s.args.f.now s.args.h s.requires.f_value.0 (region_of s.args.h s.args.o) s.requires.f_value.1
 
 -- what was found is a tile
 inside : (c : After-first_free-t) → c.first_free-t.result < c.args.h.tiles
 inside c =
-    first_inside (closer_from c.args.f.now c.args.h (region_of c.args.h c.args.o)) c.args.h.tiles
-    c.args.keys.now (strict s) (most s) c.loop-i.invariant.4 (search rules) c.first_free-t.ensures
+    let f = c.args.f.now in
+    let h = c.args.h in
+    let o = region_of h c.args.o in
+    first_inside (closer_from f h o) h.tiles c.args.keys.now
+    (closer-strict f h c.requires.f_value.0 o c.requires.f_value.1) (tiles_few f h c.requires.f_value.0) c.loop-i.invariant.4 (search rules) c.first_free-t.ensures
 
 -- there is room for its mark
 room : (c : After-first_free-t) → c.first_free-t.result < length c.loop-i.waits
 room c =
-    omega (arith, inside c, most s, c.loop-i.invariant.1, c.requires.1.1.0.2)
+    omega (arith, inside c, tiles_few c.args.f.now c.args.h c.requires.f_value.0, c.loop-i.invariant.1, c.requires.keys_len.2)
 
 pub loop-i-init : goal.loop-i-init
 unfolding tile_order
 loop-i-init c =
-    let start = c.requires.1.1.1 in (
+    let start = c.requires.standing in (
       omega arith,
       refl,
       refl,
@@ -48,7 +51,7 @@ loop-i-init c =
 
 pub first_free-t-requires : goal.first_free-t-requires
 first_free-t-requires c =
-    (c.loop-i.invariant.4.at_few, omega (arith, most (goal.at.first_free-t-requires c).Start, c.loop-i.invariant.1, c.requires.1.1.0.2))
+    (c.loop-i.invariant.4.at_few, omega (arith, most (goal.at.first_free-t-requires c).Start, c.loop-i.invariant.1, c.requires.keys_len.2))
 
 pub overflow_cast-order : goal.overflow_cast-order
 overflow_cast-order c =
@@ -59,7 +62,7 @@ offset_bounds-order-i c = omega (arith, most (goal.at.offset_bounds-order-i c).S
 
 pub bounds-order-i : goal.bounds-order-i
 bounds-order-i c =
-    omega (arith, c.loop-i.invariant.3, c.requires.1.1.0.4)
+    omega (arith, c.loop-i.invariant.3, c.requires.keys_len.4)
 
 pub offset_bounds-waits-t : goal.offset_bounds-waits-t
 offset_bounds-waits-t c =
@@ -71,7 +74,7 @@ bounds-waits-t c = room (goal.at.bounds-waits-t c).After-first_free-t
 pub first_left-low-requires : goal.first_left-low-requires
 first_left-low-requires c =
     let long = length-set c.loop-i.waits c.first_free-t.result taken_mark in
-    let table = c.requires.1.1.0 in (
+    let table = c.requires.keys_len in (
       c.loop-i.invariant.4.low_few,
       omega (arith, most (goal.at.first_left-low-requires c).Start, table.0),
       table.1,
@@ -82,29 +85,28 @@ pub release_all-at-requires : goal.release_all-at-requires
 release_all-at-requires c =
     let t = c.first_free-t.result in
     let long = length-set c.loop-i.waits t taken_mark in
-    let table = c.requires.1.1.0 in
+    let table = c.requires.keys_len in
     let closer = closer_from c.args.f.now c.args.h (region_of c.args.h c.args.o) in
     let keys = c.args.keys.now in
-    let n = c.args.h.tiles in (
-      c.requires.0,
-      (
-        c.requires.1.0,
-        (
-          (table.0, table.1, omega (arith, long, c.loop-i.invariant.1, table.2), c.loop-i.invariant.2 ∙ table.3),
-          (
-            gone_next closer n keys (strict (goal.at.release_all-at-requires c).Start) (most (goal.at.release_all-at-requires c).Start) c.loop-i.invariant.4 (search rules) c.first_free-t.ensures
-                (omega (arith, most (goal.at.release_all-at-requires c).Start, c.loop-i.invariant.1, table.2)) c.first_left-low.ensures,
-            (inside (goal.at.release_all-at-requires c).After-first_free-t, taken_standing closer n keys t (most (goal.at.release_all-at-requires c).Start) (room (goal.at.release_all-at-requires c).After-first_free-t) c.loop-i.invariant.4.standing),
-          ),
-        ),
-      ),
-    )
+    let n = c.args.h.tiles in
+    let start = (goal.at.release_all-at-requires c).Start in
+    let found = (goal.at.release_all-at-requires c).After-first_free-t in
+    record {
+      f_value = c.requires.f_value;
+      far_table = c.requires.far_table;
+      keys_len = (table.0, table.1, omega (arith, long, c.loop-i.invariant.1, table.2), c.loop-i.invariant.2 ∙ table.3);
+      taken_below =
+          gone_next closer n keys (strict start) (most start) c.loop-i.invariant.4 (search rules) c.first_free-t.ensures
+          (omega (arith, most start, c.loop-i.invariant.1, table.2)) c.first_left-low.ensures;
+      t_lt_tiles =
+          (inside found, taken_standing closer n keys t (most start) (room found) c.loop-i.invariant.4.standing);
+    }
 
 pub loop-i-preserved : goal.loop-i-preserved
 loop-i-preserved c =
     let t = c.first_free-t.result in
     let freed = c.release_all-at.ensures in
-    let table = c.requires.1.1.0 in
+    let table = c.requires.keys_len in
     let closer = closer_from c.args.f.now c.args.h (region_of c.args.h c.args.o) in (
       omega arith,
       freed.1.long_waits ∙ length-set c.loop-i.waits t taken_mark ∙ c.loop-i.invariant.1,
