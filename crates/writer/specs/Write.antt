@@ -12,8 +12,7 @@ use Rattle.blocks.specs.Directory.{valid_box_count}
 use Rattle.blocks.specs.Layout.{max_tiles}
 use Rattle.base.specs.Every.{every}
 use Rattle.encode.specs.Encode.{file_bytes, file_length}
-use Rattle.encode.specs.Supply.{Supply, axes_of, header_of, tiles_of, numbers_per_box, box_of, count_of, offset}
-use Rattle.encode.specs.Supply.{site_total}
+use Rattle.encode.specs.Supply.{Supply, axes_of, header_of, tiles_of, numbers_per_box, box_of, count_of, offset, site_total}
 use Rattle.geometry.specs.Around.{equal_columns, row}
 use Rattle.geometry.specs.Box.{inside}
 use Rattle.writer.specs.declared.write.WriteAnswer.{WriteAnswer}

@@ -7,22 +7,24 @@ pub put_stops-requires : goal.put_stops-requires
 put_stops-requires c =
     let fit = rw c.in-Joined.is at c.requires.printable in
     let counts = c.put_counts-next.ensures in
-    let long = fit.long in (
-      (omega (arith, counts.1, same-room counts.0, c.requires.output_room_in_bounds, fit.stops), fit.few, fit.some),
-      (long.0, long.1.0, long.1.1),
-    )
+    let long = fit.long in
+    let room = c.requires.output_room_in_bounds in
+    record {
+      n_in_bounds = (omega (arith, counts.end, same-room counts.text, room, fit.stops), fit.few, fit.some);
+      k_in_bounds = (long.0, long.1.0, long.1.1);
+    }
 
 pub returns-in-Joined : goal.returns-in-Joined
 unfolding answer_text
 returns-in-Joined c =
-    let told = c.answer-1.given in
-    let fit = rw told.1 at c.requires.printable in
+    let fit = rw c.in-Joined.is at c.requires.printable in
     let counts = c.put_counts-next.ensures in
     let stops = c.put_stops.ensures in
-    rw told.1 (then counts.0 stops.0, omega (arith, counts.1, stops.1, fit.stops))
+    rw c.in-Joined.is
+    record { text = then counts.text stops.text; end = omega (arith, counts.end, stops.end, fit.stops) }
 
 pub returns-in-Refused : goal.returns-in-Refused
 unfolding answer_text
 returns-in-Refused c =
     let end = c.put_refused.ensures in
-    rw c.in-Refused.is (end.0, omega (arith, end.1))
+    rw c.in-Refused.is record { text = end.text; end = omega (arith, end.end) }

@@ -9,10 +9,10 @@ unfolding empty_slices
 put_answer-requires c =
     let a = c.args in
     let fits = printable a.file.now (a.xs.now ∷ a.ys.now ∷ []) a.k empty_slices c.requires.0 in
-    (c.requires.1, rw (sym c.join-answer.ensures) at fits)
+    record { output_room_in_bounds = c.requires.1; printable = rw (sym c.join-answer.ensures) at fits }
 
 pub returns : goal.returns
 unfolding end_text empty_slices
 returns c =
     let end = c.put_answer.ensures in
-    (rw (sym c.join-answer.ensures) end.0, end.1)
+    record { text = rw (sym c.join-answer.ensures) end.text; end = end.end }

@@ -17,13 +17,17 @@ unfolding output
 returns-then-well_formed c =
     let room : output_room ≤ length c.args.out.now = search rules in
     let end = c.put_request.ensures in
-    (rw (sym c.well_formed-2.ensures ∙ c.if-well_formed.true) end.0, in_room room end.0 end.1)
+    record {
+      text = rw (sym c.well_formed-2.ensures ∙ c.if-well_formed.true) end.text;
+      end = in_room room end.text end.end;
+    }
 
 pub returns : goal.returns
 unfolding output
 returns c =
     let room : output_room ≤ length c.args.out.now = search rules in
-    let end = c.put_text.ensures in (
-      rw (sym c.well_formed-2.ensures ∙ c.if-well_formed.false) end,
-      in_room {n = output_room} room end (omega (arith, end.end)),
-    )
+    let end = c.put_text.ensures in
+    record {
+      text = rw (sym c.well_formed-2.ensures ∙ c.if-well_formed.false) end;
+      end = in_room {n = output_room} room end (omega (arith, end.end));
+    }

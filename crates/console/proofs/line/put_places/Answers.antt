@@ -1,24 +1,12 @@
-use Prim.Native.Nat.{◌+◌, ◌-◌, ◌≤◌}
+use Prim.Native.Nat.{◌+◌}
 use mathlib.Core.Path.{refl, ◌∙◌}
 use native.Mathlib.Omega.{arith}
-use lib.ListN.{length}
+use lib.ListN.{get_or}
 use borrow.Author.Rules.{rules}
-use Rattle.console.specs.Inner.Room.{place_room}
 use Rattle.console.specs.Line.{places_text, text_at}
 use Rattle.console.proofs.LineLaws.{place_short}
 use Rattle.console.proofs.TextLaws.{parts_start, parts_turn, parts_end, same-room}
 use Rattle.console.proofs.line.put_places.Goals as goal
-use Rattle.console.proofs.line.put_places.Goals.{At-loop-j}
-
--- the text of a place is short
-short : (l : At-loop-j) →
-    length (text_at l.args.dist.now l.args.site.now l.args.cue.now l.args.from l.loop-j.j)
-    ≤ place_room
-unfolding text_at
-short l =
-    let i = l.args.from + l.loop-j.j in
-    place_short l.loop-j.j _ _ _ (omega (arith, l.shared_slice_known-1.given i))
-    (omega (arith, l.shared_slice_known-2-1.given i)) (omega (arith, l.shared_slice_known-3-1.given i))
 
 pub loop-j-init : goal.loop-j-init
 loop-j-init c = (omega arith, omega arith, refl, parts_start _ _ _ _)
@@ -32,12 +20,15 @@ unfolding text_at
 loop-j-preserved c =
     let a = c.args in
     let l = c.loop-j in
+    let i = a.from + l.j in
+    let short = place_short l.j (get_or a.dist.now i 0) (get_or a.site.now i 0) (get_or a.cue.now i 0)
+    (omega (arith, c.type_inv.dist i)) (omega (arith, c.type_inv.site i)) (omega (arith, c.type_inv.cue i)) in
     let w = c.put_place-next.ensures in (
       search rules,
-      omega (arith, short (goal.at.loop-j-preserved c).At-loop-j, w.end, l.inv.1),
-      same-room w ∙ l.inv.2,
+      omega (arith, short, w.end, l.invariant.1),
+      same-room w ∙ l.invariant.2,
       parts_turn (text_at a.dist.now a.site.now a.cue.now a.from) a.used a.out.now a.at l.j
-          (search rules) l.inv.3 w,
+          (search rules) l.invariant.3 w,
     )
 
 pub shape_of-out : goal.shape_of-out

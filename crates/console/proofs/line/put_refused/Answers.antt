@@ -29,12 +29,6 @@ put_text-requires c =
 pub returns : goal.returns
 unfolding refused_line
 returns c =
-    let w = then (then c.put_labelled-after_number.ensures c.put_labelled-after_block.ensures) c.put_text.ensures in (
-      w,
-      omega (
-        arith,
-        w.end,
-        refused_short c.args.number c.args.block c.ranges.number.fits
-            c.ranges.block.fits,
-      ),
-    )
+    let w = then (then c.put_labelled-after_number.ensures c.put_labelled-after_block.ensures) c.put_text.ensures in
+    let short = refused_short c.args.number c.args.block c.ranges.number.fits c.ranges.block.fits in
+    record { text = w; end = omega (arith, w.end, short) }

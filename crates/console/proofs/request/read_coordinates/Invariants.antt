@@ -7,7 +7,8 @@ use Rattle.console.proofs.request.read_coordinates.Given as goal
 
 abbrev pub invariant-loop-i : goal.invariant-loop-i
 invariant-loop-i l =
-    (l.i ≤ l.n) × (length l.out ≡ length l.initial.out) × (l.out ≡ coordinates l.input l.at l.i ++ drop l.i l.initial.out)
+    (l.i ≤ l.n) × (length l.out ≡ length l.initial.out)
+    × (l.out ≡ coordinates l.input l.at l.i ++ drop l.i l.initial.out)
 
 abbrev pub decreases-loop-i : goal.decreases-loop-i
 decreases-loop-i l = l.n - l.i

@@ -1,4 +1,4 @@
-use Prim.Native.Nat.{◌+◌, ◌-◌}
+use Prim.Native.Nat.{◌+◌}
 use mathlib.Core.Path.{refl, ◌∙◌}
 use native.Mathlib.Omega.{arith}
 use lib.ListN.{length-set}
@@ -10,8 +10,7 @@ loop-i-init c = (omega arith, refl, copy_start c.args.out.now c.args.text.now c.
 
 pub loop-i-preserved : goal.loop-i-preserved
 loop-i-preserved c =
-    let l = c.loop-i in
-    (
+    let l = c.loop-i in (
       omega arith,
       simp length-set l.invariant.1,
       copy_turn l.out c.args.text.now c.args.at l.i (omega arith) ∙ l.invariant.2,

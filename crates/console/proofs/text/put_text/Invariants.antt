@@ -6,7 +6,8 @@ use Rattle.console.proofs.text.put_text.Given as goal
 
 abbrev pub invariant-loop-i : goal.invariant-loop-i
 invariant-loop-i l =
-    (l.i ≤ length l.text) × (length l.out ≡ length l.initial.out) × (over l.out (l.at + l.i) (drop l.i l.text) ≡ over l.initial.out l.at l.text)
+    (l.i ≤ length l.text) × (length l.out ≡ length l.initial.out)
+    × (over l.out (l.at + l.i) (drop l.i l.text) ≡ over l.initial.out l.at l.text)
 
 abbrev pub decreases-loop-i : goal.decreases-loop-i
 decreases-loop-i l = length l.text - l.i
