@@ -437,7 +437,7 @@ def check(engine, document):
                   f" n = {more + 1}: one byte more.")
     same("one byte more from 0, exercise 5", n + 1, more)
     same("c by the formula of exercise 5", fits, 254 + 254 * n + 255 * n * (n + 1) // 2)
-    for file, words in (("src/lanes.rt", f"const MAX_ADDED: usize = {n};"), ("proofs/ChecksumLaws.antt", "within-room"),
+    for file, words in (("src/lanes.rt", f"const MAX_ADDED: usize = {n};"), ("proofs/ChecksumLaws.antt", "within_room"),
                         ("must-fail/reduced_one_byte_too_late.edit", f"MAX_ADDED: usize = {n + 1};")):
         if words not in (ROOT / "crates/blocks" / file).read_text(encoding="utf-8"):
             raise Wrong(f"exercise 5: `{words}` is not in crates/blocks/{file}")
@@ -467,7 +467,7 @@ def levels(engine, document):
         engine.level(r, 1) < engine.level(r + 1, 1) for r in range(least - 1000, least)))
     document.says(heading, f"for D = 1 the least r is {least:,}.")
     theorems = (ROOT / "crates/level/proofs/Theorems.antt").read_text(encoding="utf-8")
-    for name in ("falls-strictly", "rises-with-reach"):
+    for name in ("falls_strictly", "rises_with_reach"):
         if f"pub {name} :" not in theorems or f"`{name}`" not in " ".join(document.lines(heading)):
             raise Wrong(f"exercise 7: `{name}` is no theorem of level, or is not named")
 
