@@ -2,6 +2,7 @@
 // directory::read_directory takes any bytes. The other calls serve it and the crates above, which meet their
 // `requires`.
 #![tactic(auto)]
+
 pub mod block;
 pub mod checksum;
 pub mod directory;

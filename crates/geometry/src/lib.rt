@@ -4,6 +4,7 @@
 // others are for the crates above: they take either number of axes (padding.rt says how), and those with `_within`
 // leave out the tests that their `requires` asks for.
 #![tactic(auto)]
+
 mod axis;
 pub mod corner;
 pub mod distance;

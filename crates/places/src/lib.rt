@@ -1,3 +1,4 @@
 // The sites of a tile that rank put into the list of a stop.
 #![tactic(auto)]
+
 pub mod tile;

@@ -1,7 +1,7 @@
 -- The theorems of this crate for the reader. Of a call that answers, its marks and the number struck: `prunes_exactly`,
 -- what is claimed `PrunesExactly` (specs/Claims). The call is `call::prune`, or `call::prune3` for a town with height,
--- its definitions `prune_call` and `marks_after` (specs/Prune). Of towns without height: `prune_on_plan`, `marks_on_plan`
--- (specs/WithoutHeight). f is the file, o the box O.
+-- its definitions `prune_call` and `marks_after` (specs/Prune). Of towns without height: `prune_on_plan`,
+-- `marks_on_plan` (specs/WithoutHeight). f is the file, o the box O.
 use Prim.Native.Nat.{ℕ, ◌≤◌}
 use mathlib.Core.List.{List, [], map}
 use mathlib.Core.Path.{◌≡◌, refl, sym, ap, ◌∙◌}

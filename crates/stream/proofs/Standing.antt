@@ -127,7 +127,8 @@ module _ (closer : ℕ → ℕ → Bool) (n : ℕ) (keys : List ℕ) where
     pub waits_kept : (j : ℕ) → j ≢ b → get_or waits' j 0 ≡ get_or waits j 0
     waits_kept j d = rw found.waits_set (get_or-set_other waits b j found.w 0 d)
 
-    pub other_stands : (j gone : ℕ) → j ≢ b → Stands closer n keys (is_left waits) gone (get_or waits j 0) (get_or from j 0) j
+    pub other_stands : (j gone : ℕ) → j ≢ b
+        → Stands closer n keys (is_left waits) gone (get_or waits j 0) (get_or from j 0) j
         → Stands closer n keys (is_left waits') gone (get_or waits' j 0) (get_or from' j 0) j
     other_stands j gone d s =
         let r : get_or from' j 0 ≡ get_or from j 0 = rw found.from_set (get_or-set_other from b j found.r 0 d) in

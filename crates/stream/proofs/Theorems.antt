@@ -1,7 +1,7 @@
--- The theorems of this crate for the reader. Of a call that answers: `streams_exactly` (`StreamsExactly`, specs/Claims),
--- `order_fixed`. The calls are `call::stream_order` and, for a town with height, `call::stream_order3`, their
--- definitions `stream_call` and `order_after` (specs/Stream). That the directory alone decides: `directory_decides`.
--- f is the file, o the box O.
+-- The theorems of this crate for the reader. Of a call that answers: `streams_exactly` (`StreamsExactly`,
+-- specs/Claims), `order_fixed`. The calls are `call::stream_order` and, for a town with height, `call::stream_order3`,
+-- their definitions `stream_call` and `order_after` (specs/Stream). That the directory alone decides:
+-- `directory_decides`. f is the file, o the box O.
 use Prim.Native.Nat.{ℕ, ◌≤◌, ◌<◌}
 use mathlib.Core.Bool.{true}
 use mathlib.Core.List.{List}
@@ -140,9 +140,11 @@ module _ (f g : List ℕ) (h : Header) (dir : directory f ≡ accepted h) (same 
       let a = answered f o lent tiles e in
       let is : a.h ≡ h = accepted_injective (sym a.dir ∙ dir) in
       let v : ValidRegion h o = rw is at a.valid in
-      rw (dir_same, dir) (ap (over lent 0) (sequence_fixed (closer_from f h o) h.tiles (tile_order g h o) (tile_order f h o)
+      rw (dir_same, dir) (ap (over lent 0)
+      (sequence_fixed (closer_from f h o) h.tiles (tile_order g h o) (tile_order f h o)
       (same_sequence nearer_same (order_is g o lent h (dir_same ∙ dir) v)) (order_is f o lent h dir v)))
   end_same (refused number block) e = refl
 
-  pub directory_decides : (stream_call g o lent ≡ stream_call f o lent) × (order_at_end g o lent ≡ order_at_end f o lent)
+  pub directory_decides : (stream_call g o lent ≡ stream_call f o lent)
+      × (order_at_end g o lent ≡ order_at_end f o lent)
   directory_decides = (call_same, rw call_same (end_same (stream_call f o lent) refl))

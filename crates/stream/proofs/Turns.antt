@@ -64,7 +64,8 @@ module _ (n : ℕ) where
       (taken_by (set waits t taken_mark) t (get_or-set_same waits t taken_mark 0 room))
 
 module _ (closer : ℕ → ℕ → Bool) (n : ℕ) (keys : List ℕ) where
-  -- After i turns: what is still to be written, written over the output, is the whole sequence over the output at entry.
+  -- After i turns: what is still to be written, written over the output, is the whole sequence over the output at
+  -- entry.
   pub record Running (waits from order : List ℕ) (at low i : ℕ) (whole : List ℕ) : Type 0 where
     pub size : length (tiles_left n waits) ≡ n - i
     pub standing : Standing closer n keys n 0 waits from
@@ -157,7 +158,8 @@ module _ (closer : ℕ → ℕ → Bool) (n : ℕ) (keys : List ℕ) where
     first_next = steps_of.next_unique closer (λ x. (λ m. m, λ m. m)) first-is-next there
 
     step-over : (left : List ℕ) → t ≡ next closer left
-        → over (set order i t) (i + 1) (steps closer (n - (i + 1)) (without t left)) ≡ over order i (steps closer (n - i) left)
+        → over (set order i t) (i + 1) (steps closer (n - (i + 1)) (without t left))
+        ≡ over order i (steps closer (n - i) left)
     unfolding over steps
     step-over left e = let d : n - i ≡ suc (n - (i + 1)) = omega arith in rw (e, d, add-one)
 

@@ -25,7 +25,10 @@ tile_at-requires c = omega (arith, most (goal.at.tile_at-requires c).Start, c.re
 
 pub fill_tile-requires : goal.fill_tile-requires
 fill_tile-requires c = (
-  record { dir = c.requires.f_value.0; below = rw c.tile_at.ensures (c.requires.listed.0.below c.loop-i.i (search rules)) },
+  record {
+    dir = c.requires.f_value.0;
+    below = rw c.tile_at.ensures (c.requires.listed.0.below c.loop-i.i (search rules));
+  },
   c.requires.f_value.1,
   omega (arith, most (goal.at.fill_tile-requires c).Start),
   c.loop-i.invariant.1.long,
@@ -35,7 +38,8 @@ pub loop-i-preserved : goal.loop-i-preserved
 loop-i-preserved c = (
   search rules,
   next_far c.args.f.now c.args.h (region_of c.args.h c.args.o) (tile_at c.args.keys.now)
-      (omega (arith, most (goal.at.loop-i-preserved c).Start)) c.loop-i.invariant.1 (rw c.tile_at.ensures at c.fill_tile.ensures),
+      (omega (arith, most (goal.at.loop-i-preserved c).Start)) c.loop-i.invariant.1
+      (rw c.tile_at.ensures at c.fill_tile.ensures),
 )
 
 pub shape_of-far : goal.shape_of-far

@@ -28,6 +28,7 @@ bounds-keys-t c =
 
 pub loop-t-preserved : goal.loop-t-preserved
 loop-t-preserved c =
+    let few = most (goal.at.loop-t-preserved c).Start in
     let d = c.loop-t.keys in
     let t = c.loop-t.t in
     let v = c.key_of.result in (
@@ -35,7 +36,7 @@ loop-t-preserved c =
       length-set d t v ∙ c.loop-t.invariant.1,
       up_to_next (λ i. tile_at (set d t v) i ≡ i) 0 t
           (λ i m u. ap (λ z. z % tile_room) (get_or-set_other d t i v 0 (omega arith)) ∙ c.loop-t.invariant.2 i m u)
-          (ap (λ z. z % tile_room) (get_or-set_same d t v 0 (omega (arith, most (goal.at.loop-t-preserved c).Start, c.loop-t.invariant.1)))
+          (ap (λ z. z % tile_room) (get_or-set_same d t v 0 (omega (arith, few, c.loop-t.invariant.1)))
           ∙ c.key_of.ensures),
     )
 

@@ -21,7 +21,8 @@ bounds-a-i-in-loop-i c = omega (arith, room (goal.at.bounds-a-i-in-loop-i c).At-
 
 pub exchange-requires : goal.exchange-requires
 exchange-requires c =
-    (omega (arith, room (goal.at.exchange-requires c).At-loop-i), omega (arith, room (goal.at.exchange-requires c).At-loop-i))
+    let long = room (goal.at.exchange-requires c).At-loop-i in
+    (omega (arith, long), omega (arith, long))
 
 pub loop-i-preserved : goal.loop-i-preserved
 loop-i-preserved c =

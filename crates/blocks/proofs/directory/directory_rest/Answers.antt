@@ -1,4 +1,3 @@
-use Prim.Native.Nat.{◌-◌}
 use mathlib.Core.Path.{sym, ap, ◌∙◌}
 use native.Mathlib.Omega.{arith}
 use borrow.Author.Rules.{rules}
@@ -24,12 +23,11 @@ returns-in_default c =
     (told directory_outcome c.directory_block_at-answer.ensures e)))
 
 pub loop-p-preserved : goal.loop-p-preserved
-loop-p-preserved c =
-    (
-      search rules,
-      turn_accepted (directory_block_at c.args.f.now) c.loop-p.p c.directory_blocks-d.result _ (search rules)
-          (told directory_outcome c.directory_block_at-answer.ensures c.in-Accepted.is) ∙ c.loop-p.invariant.1,
-    )
+loop-p-preserved c = (
+  search rules,
+  turn_accepted (directory_block_at c.args.f.now) c.loop-p.p c.directory_blocks-d.result _ (search rules)
+      (told directory_outcome c.directory_block_at-answer.ensures c.in-Accepted.is) ∙ c.loop-p.invariant.1,
+)
 
 pub returns : goal.returns
 unfolding directory_rest

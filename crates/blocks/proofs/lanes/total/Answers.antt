@@ -1,4 +1,4 @@
-use Prim.Native.Nat.{◌-◌, ◌<◌}
+use Prim.Native.Nat.{◌<◌}
 use lib.ListN.{get_or}
 use borrow.Author.Rules.{rules}
 use Rattle.blocks.specs.Inner.Lanes.{sum_to, total_of}

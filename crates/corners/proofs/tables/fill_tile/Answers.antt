@@ -48,7 +48,9 @@ pub overflow_add-far : goal.overflow_add-far
 overflow_add-far c = let r = room (goal.at.overflow_add-far c).After-max_dist_within in omega (arith, c.requires.2)
 
 pub offset_bounds-far-c : goal.offset_bounds-far-c
-offset_bounds-far-c c = let r = room (goal.at.offset_bounds-far-c c).After-max_dist_within in omega (arith, c.requires.2)
+offset_bounds-far-c c =
+    let r = room (goal.at.offset_bounds-far-c c).After-max_dist_within in
+    omega (arith, c.requires.2)
 
 pub bounds-far-c : goal.bounds-far-c
 bounds-far-c c =
@@ -57,6 +59,7 @@ bounds-far-c c =
 
 pub loop-c-preserved : goal.loop-c-preserved
 loop-c-preserved c =
+    let here = room (goal.at.loop-c-preserved c).After-max_dist_within in
     let d = c.loop-c.far in
     let i = c.loop-c.c in
     let x = c.args.at in
@@ -68,13 +71,18 @@ loop-c-preserved c =
     let few = c.requires.2 in (
       search rules,
       length-set d (i * max_tiles + x) v ∙ c.loop-c.invariant.1,
-      up_to_next (λ j. get_or (set d (i * max_tiles + x) v) (j * max_tiles + x) 0 ≡ seam.far f h (seam.corner_of o j) t) 0 i
-          (λ j m u. get_or-set_other d (i * max_tiles + x) (j * max_tiles + x) v 0 (omega arith) ∙ c.loop-c.invariant.2 j m u)
-          (get_or-set_same d (i * max_tiles + x) v 0 (omega (arith, room (goal.at.loop-c-preserved c).After-max_dist_within, c.requires.3, c.loop-c.invariant.1))
+      up_to_next
+          (λ j. get_or (set d (i * max_tiles + x) v) (j * max_tiles + x) 0 ≡ seam.far f h (seam.corner_of o j) t) 0 i
+          (λ j m u.
+          get_or-set_other d (i * max_tiles + x) (j * max_tiles + x) v 0 (omega arith)
+          ∙ c.loop-c.invariant.2 j m u)
+          (get_or-set_same d (i * max_tiles + x) v 0 (omega (arith, here, c.requires.3, c.loop-c.invariant.1))
           ∙ c.max_dist_within.ensures
           ∙ far_of_box f h (seam.stop_of h c.corner_of.result) t c.box_at-b.ensures
           ∙ rw c.corner_of.ensures.0),
-      λ k j u w. get_or-set_other d (i * max_tiles + x) (k * max_tiles + j) v 0 (omega arith) ∙ c.loop-c.invariant.3 k j u w,
+      λ k j u w.
+          get_or-set_other d (i * max_tiles + x) (k * max_tiles + j) v 0 (omega arith)
+          ∙ c.loop-c.invariant.3 k j u w,
     )
 
 pub shape_of-far : goal.shape_of-far

@@ -11,7 +11,8 @@ invariant-loop-c l =
     (l.c ≤ l.n) × (length l.far ≡ length l.initial.far)
     × ((i : ℕ) → 0 ≤ i → i < l.c
     → get_or l.far (i * max_tiles + l.at) 0 ≡ seam.far l.f l.h (seam.corner_of (seam.region_of l.h l.o) i) l.t)
-    × ((i j : ℕ) → j < max_tiles → j ≢ l.at → get_or l.far (i * max_tiles + j) 0 ≡ get_or l.initial.far (i * max_tiles + j) 0)
+    × ((i j : ℕ) → j < max_tiles → j ≢ l.at
+    → get_or l.far (i * max_tiles + j) 0 ≡ get_or l.initial.far (i * max_tiles + j) 0)
 
 abbrev pub decreases-loop-c : goal.decreases-loop-c
 decreases-loop-c l = l.n - l.c

@@ -44,6 +44,7 @@ bounds-near-c c = let r = room (goal.at.bounds-near-c c).After-near in search ru
 
 pub loop-c-preserved : goal.loop-c-preserved
 loop-c-preserved c =
+    let here = room (goal.at.loop-c-preserved c).After-near in
     let d = c.loop-c.near in
     let i = c.loop-c.c in
     let v = c.near.result in
@@ -53,7 +54,7 @@ loop-c-preserved c =
       length-set d i v ∙ c.loop-c.invariant.1,
       up_to_next (λ j. get_or (set d i v) j 0 ≡ plan.near (entries c.args.f.now h) (corner_of o j) c.args.t) 0 i
           (λ j m u. get_or-set_other d i j v 0 (omega arith) ∙ c.loop-c.invariant.2 j m u)
-          (get_or-set_same d i v 0 (omega (arith, room (goal.at.loop-c-preserved c).After-near)) ∙ c.near.ensures ∙ rw c.corner_of.ensures.0),
+          (get_or-set_same d i v 0 (omega (arith, here)) ∙ c.near.ensures ∙ rw c.corner_of.ensures.0),
     )
 
 pub returns : goal.returns

@@ -1,4 +1,3 @@
-use Prim.Native.Nat.{◌-◌}
 use native.Mathlib.Omega.{arith}
 use Rattle.list.proofs.Added.{added_ready}
 use Rattle.places.proofs.Adding.{adding_starts, adding_lengths, adding_turn, adding_skip, adding_done}

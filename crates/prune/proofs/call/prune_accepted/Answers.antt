@@ -46,23 +46,32 @@ returns-then-not-valid_k c =
 pub returns-then-h-axes : goal.returns-then-h-axes
 unfolding prune_call marks_after
 returns-then-h-axes c =
-    rw (c.requires.0, good_k (goal.at.returns-then-h-axes c).Else-not-valid_k, axes-are (goal.at.returns-then-h-axes c).Start, ne_eqb _ _ c.if-h-axes.true) record { result_value = c.refused-then-h-axes.ensures; marks_after = refl }
+    let at = goal.at.returns-then-h-axes c in
+    rw (c.requires.0, good_k at.Else-not-valid_k, axes-are at.Start, ne_eqb _ _ c.if-h-axes.true)
+    record { result_value = c.refused-then-h-axes.ensures; marks_after = refl }
 
 pub returns-then-not-valid_box : goal.returns-then-not-valid_box
 unfolding prune_call marks_after
 returns-then-not-valid_box c =
     let bad = sym c.valid_box.ensures ∙ c.if-not-valid_box.true in
-    rw (c.requires.0, good_k (goal.at.returns-then-not-valid_box c).Else-not-valid_k, good-axes (goal.at.returns-then-not-valid_box c).Else-h-axes, bad) record { result_value = c.refused-then-not-valid_box.ensures; marks_after = refl }
+    let at = goal.at.returns-then-not-valid_box c in
+    rw (c.requires.0, good_k at.Else-not-valid_k, good-axes at.Else-h-axes, bad)
+    record { result_value = c.refused-then-not-valid_box.ensures; marks_after = refl }
 
 pub returns-then-marks-h : goal.returns-then-marks-h
 unfolding prune_call marks_after
 returns-then-marks-h c =
-    rw (c.requires.0, good_k (goal.at.returns-then-marks-h c).Else-not-valid_k, good-axes (goal.at.returns-then-marks-h c).Else-h-axes, good-box (goal.at.returns-then-marks-h c).Else-not-valid_box, lt-leb _ _ c.if-marks-h.true) record { result_value = c.refused-then-marks-h.ensures; marks_after = refl }
+    let at = goal.at.returns-then-marks-h c in
+    let room = lt-leb _ _ c.if-marks-h.true in
+    rw (c.requires.0, good_k at.Else-not-valid_k, good-axes at.Else-h-axes, good-box at.Else-not-valid_box, room)
+    record { result_value = c.refused-then-marks-h.ensures; marks_after = refl }
 
 pub mark_pruned-count-requires : goal.mark_pruned-count-requires
 mark_pruned-count-requires c =
-    let e = same-axes (goal.at.mark_pruned-count-requires c).Else-h-axes in
-    (c.requires.0, c.if-marks-h.false, record { valid = rw e (good-box (goal.at.mark_pruned-count-requires c).Else-not-valid_box); axes = rw e (axes-are (goal.at.mark_pruned-count-requires c).Start) })
+    let at = goal.at.mark_pruned-count-requires c in
+    let e = same-axes at.Else-h-axes in
+    let valid = good-box at.Else-not-valid_box in
+    (c.requires.0, c.if-marks-h.false, record { valid = rw e valid; axes = rw e (axes-are at.Start) })
 
 pub overflow_cast-tiles : goal.overflow_cast-tiles
 overflow_cast-tiles c = omega (arith, most (goal.at.overflow_cast-tiles c).Start)
@@ -75,5 +84,15 @@ pub returns : goal.returns
 unfolding prune_call marks_after
 returns c =
     let e = c.mark_pruned-count.ensures in
-    rw (c.requires.0, good_k (goal.at.returns c).Else-not-valid_k, good-axes (goal.at.returns c).Else-h-axes, good-box (goal.at.returns c).Else-not-valid_box, le-leb _ _ c.if-marks-h.false, sym (same-axes (goal.at.returns c).Else-h-axes))
+    let at = goal.at.returns c in
+    let room = le-leb _ _ c.if-marks-h.false in
+    let axes = good-axes at.Else-h-axes in
+    rw (
+      c.requires.0,
+      good_k at.Else-not-valid_k,
+      axes,
+      good-box at.Else-not-valid_box,
+      room,
+      sym (same-axes at.Else-h-axes),
+    )
     record { result_value = rw e.value.0; marks_after = rw c.requires.0 e.marks_after }

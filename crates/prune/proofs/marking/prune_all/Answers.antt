@@ -25,7 +25,8 @@ test s = pruned (entries s.args.f.now s.args.h) (region_of s.args.h s.args.o) s.
 
 pub middle_tile-middle-requires : goal.middle_tile-middle-requires
 middle_tile-middle-requires c =
-    (known_axes c.args.f.now c.args.h c.requires.f_value.0, most (goal.at.middle_tile-middle-requires c).Start, c.requires.far_table.long)
+    let few = most (goal.at.middle_tile-middle-requires c).Start in
+    (known_axes c.args.f.now c.args.h c.requires.f_value.0, few, c.requires.far_table.long)
 
 pub loop-t-init : goal.loop-t-init
 unfolding pruned_count prune_marks
@@ -35,9 +36,9 @@ loop-t-init c =
 
 pub prune_tile-x-requires : goal.prune_tile-x-requires
 prune_tile-x-requires c =
+    let value = c.requires.f_value in
     record {
-      tile_of =
-          (record { dir = c.requires.f_value.0; below = search rules }, c.requires.f_value.2, c.middle_tile-middle.ensures);
+      tile_of = (record { dir = value.0; below = search rules }, value.2, c.middle_tile-middle.ensures);
       far_table = c.requires.far_table;
     }
 
@@ -50,7 +51,8 @@ overflow_cast-count c =
 
 pub overflow_add-count : goal.overflow_add-count
 overflow_add-count c =
-    omega (arith, most (goal.at.overflow_add-count c).Start, c.prune_tile-x.ensures, bit-small (test (goal.at.overflow_add-count c).Start c.loop-t.t))
+    let start = (goal.at.overflow_add-count c).Start in
+    omega (arith, most start, c.prune_tile-x.ensures, bit-small (test start c.loop-t.t))
 
 pub loop-t-preserved : goal.loop-t-preserved
 loop-t-preserved c =
@@ -58,12 +60,13 @@ loop-t-preserved c =
     let x = c.prune_tile-x.ensures in
     let t = c.loop-t.t in
     let in-loop : t < c.args.h.tiles = search rules in
-    let q = count_turn (test (goal.at.loop-t-preserved c).Start) t c.args.h.tiles in-loop in (
+    let p = test (goal.at.loop-t-preserved c).Start in
+    let q = count_turn p t c.args.h.tiles in-loop in (
       omega arith,
-      omega (arith, x, bit-small (test (goal.at.loop-t-preserved c).Start t)),
+      omega (arith, x, bit-small (p t)),
       length-set c.loop-t.marks t c.prune_tile-x.result ∙ i.2,
       omega (arith, x, q, i.3),
-      rw x (table_turn (λ i. bit (test (goal.at.loop-t-preserved c).Start i)) c.loop-t.marks t t c.args.h.tiles in-loop ∙ i.4),
+      rw x (table_turn (λ i. bit (p i)) c.loop-t.marks t t c.args.h.tiles in-loop ∙ i.4),
     )
 
 pub shape_of-marks : goal.shape_of-marks
@@ -72,10 +75,11 @@ shape_of-marks c = c.loop-t.invariant.2
 pub returns : goal.returns
 returns c =
     let past : c.args.h.tiles ≤ c.loop-t.t = search rules in
-    let q = count_done (test (goal.at.returns c).Start) c.loop-t.t c.args.h.tiles past in
+    let p = test (goal.at.returns c).Start in
+    let q = count_done p c.loop-t.t c.args.h.tiles past in
     record {
       value = (omega (arith, q, c.loop-t.invariant.3), omega arith);
       marks_after =
-          table_done (λ i. bit (test (goal.at.returns c).Start i)) c.loop-t.marks c.loop-t.t c.loop-t.t c.args.h.tiles past
+          table_done (λ i. bit (p i)) c.loop-t.marks c.loop-t.t c.loop-t.t c.args.h.tiles past
           ∙ c.loop-t.invariant.4;
     }

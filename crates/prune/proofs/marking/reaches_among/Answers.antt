@@ -21,6 +21,13 @@ use Rattle.prune.proofs.Summing.{sum_turn, sum_skip, sum_done}
 use Rattle.prune.proofs.marking.reaches_among.Goals as goal
 use Rattle.prune.proofs.marking.reaches_among.Goals.{Joined-below, else-below, then-below+else-k-sum}
 
+most : (f : List ℕ) (h : Header) → directory f ≡ accepted h → h.tiles ≤ max_tiles
+most f h dir = tiles_few f h dir
+
+-- a region has corners
+room : (f : List ℕ) (h : Header) → directory f ≡ accepted h → 4 ≤ corner_count h
+room f h dir = (corners-few h (known_axes f h dir)).0
+
 module _ (f : List ℕ) (h : Header) (far near : List ℕ) (to : ℕ) where
   -- what is left to sum from a tile on
   abbrev rest : ℕ → ℕ
@@ -31,19 +38,11 @@ module _ (f : List ℕ) (h : Header) (far near : List ℕ) (to : ℕ) where
       n ≡ cond b (ranked (entries f h) e) 0 → n + rest (e + 1) ≡ rest e
   turn e n l q r = rw (r, q) (sum_turn (below_all h far near) (ranked (entries f h)) e to l)
 
-  module _ (dir : directory f ≡ accepted h) where
-    most : h.tiles ≤ max_tiles
-    most = tiles_few f h dir
-
-    -- a region has corners
-    room : 4 ≤ corner_count h
-    room = (corners-few h (known_axes f h dir)).0
-
-    -- the tiles passed over add nothing
-    passed : {a r : ℕ} → FirstBelow far (get_or near 0 0) a to r → rest r ≡ rest a
-    passed {a} {r} first =
-        sum_skip (below_all h far near) (ranked (entries f h)) a r to first.after first.within
-        (λ i l u. not_below h (known_axes f h dir) far near i (first.none i l u))
+  -- the tiles passed over add nothing
+  passed : directory f ≡ accepted h → {a r : ℕ} → FirstBelow far (get_or near 0 0) a to r → rest r ≡ rest a
+  passed dir {a} {r} first =
+      sum_skip (below_all h far near) (ranked (entries f h)) a r to first.after first.within
+      (λ i l u. not_below h (known_axes f h dir) far near i (first.none i l u))
 
 -- the sum behind a tile's turn
 summed : (c : Joined-below) →
@@ -68,16 +67,21 @@ summed c =
 
 pub next_below-e-requires : goal.next_below-e-requires
 next_below-e-requires c =
-    (c.requires.from_le_to.0, omega (arith, most c.args.f.now c.args.h c.args.far.now c.args.near c.args.to c.requires.f_value.0, c.requires.f_value.1, c.requires.from_le_to.1, room c.args.f.now c.args.h c.args.far.now c.args.near c.args.to c.requires.f_value.0))
+    let few = most c.args.f.now c.args.h c.requires.f_value.0 in
+    let corners = room c.args.f.now c.args.h c.requires.f_value.0 in
+    (c.requires.from_le_to.0, omega (arith, few, c.requires.f_value.1, c.requires.from_le_to.1, corners))
 
 pub loop-e-init : goal.loop-e-init
 loop-e-init c =
     let q = c.next_below-e.ensures in
-    (q.after, q.within, omega arith, omega (arith, passed c.args.f.now c.args.h c.args.far.now c.args.near c.args.to c.requires.f_value.0 q))
+    let same = passed c.args.f.now c.args.h c.args.far.now c.args.near c.args.to c.requires.f_value.0 q in
+    (q.after, q.within, omega arith, omega (arith, same))
 
 pub below-requires : goal.below-requires
 below-requires c =
-    (known_axes c.args.f.now c.args.h c.requires.f_value.0, omega (arith, most c.args.f.now c.args.h c.args.far.now c.args.near c.args.to c.requires.f_value.0, c.requires.from_le_to.1), c.requires.f_value.1)
+    let few = most c.args.f.now c.args.h c.requires.f_value.0 in
+    let known = known_axes c.args.f.now c.args.h c.requires.f_value.0 in
+    (known, omega (arith, few, c.requires.from_le_to.1), c.requires.f_value.1)
 
 pub ranked-sum-requires : goal.ranked-sum-requires
 ranked-sum-requires c =
@@ -85,17 +89,25 @@ ranked-sum-requires c =
 
 pub overflow_add-sum : goal.overflow_add-sum
 overflow_add-sum c =
-    omega (arith, most c.args.f.now c.args.h c.args.far.now c.args.near c.args.to c.requires.f_value.0, c.requires.from_le_to.1, c.loop-e.invariant.2, c.ranked-sum.ensures.1)
+    let few = most c.args.f.now c.args.h c.requires.f_value.0 in
+    omega (arith, few, c.requires.from_le_to.1, c.loop-e.invariant.2, c.ranked-sum.ensures.1)
 
 pub returns-then-k-sum : goal.returns-then-k-sum
 returns-then-k-sum c =
-    let t = turn c.args.f.now c.args.h c.args.far.now c.args.near c.args.to c.loop-e.e c.ranked-sum.result (search rules) c.below.ensures
+    let f = c.args.f.now in
+    let h = c.args.h in
+    let far = c.args.far.now in
+    let near = c.args.near in
+    let to = c.args.to in
+    let t = turn f h far near to c.loop-e.e c.ranked-sum.result (search rules) c.below.ensures
     (rw c.if-below.true c.ranked-sum.ensures.0) in
-    sym (le-leb c.args.k (rest c.args.f.now c.args.h c.args.far.now c.args.near c.args.to c.args.from) (omega (arith, c.loop-e.invariant.3, t, c.if-k-sum.true)))
+    sym (le-leb c.args.k (rest f h far near to c.args.from) (omega (arith, c.loop-e.invariant.3, t, c.if-k-sum.true)))
 
 pub next_below-e-requires-in-loop-e : goal.next_below-e-requires-in-loop-e
 next_below-e-requires-in-loop-e c =
-    (search rules, omega (arith, most c.args.f.now c.args.h c.args.far.now c.args.near c.args.to c.requires.f_value.0, c.requires.f_value.1, c.requires.from_le_to.1, room c.args.f.now c.args.h c.args.far.now c.args.near c.args.to c.requires.f_value.0))
+    let few = most c.args.f.now c.args.h c.requires.f_value.0 in
+    let corners = room c.args.f.now c.args.h c.requires.f_value.0 in
+    (search rules, omega (arith, few, c.requires.f_value.1, c.requires.from_le_to.1, corners))
 
 pub loop-e-smaller : goal.loop-e-smaller
 loop-e-smaller c = let q = c.next_below-e-in-loop-e.ensures.after in search rules
@@ -112,5 +124,6 @@ loop-e-preserved c =
 
 pub returns : goal.returns
 returns c =
-    let t = sum_done (below_all c.args.h c.args.far.now c.args.near) (ranked (entries c.args.f.now c.args.h)) c.loop-e.e c.args.to (search rules) in
+    let p = below_all c.args.h c.args.far.now c.args.near in
+    let t = sum_done p (ranked (entries c.args.f.now c.args.h)) c.loop-e.e c.args.to (search rules) in
     ap (leb c.args.k) (omega (arith, c.loop-e.invariant.3, t))

@@ -45,13 +45,19 @@ max_dist_within-requires c =
     (known (goal.at.max_dist_within-requires c).Start, (rw c.box_at-b.ensures valid, c.corner_of.ensures.1.valid))
 
 pub overflow_mul-far : goal.overflow_mul-far
-overflow_mul-far c = let r = room (goal.at.overflow_mul-far c).After-max_dist_within in omega (arith, most (goal.at.overflow_mul-far c).Start)
+overflow_mul-far c =
+    let r = room (goal.at.overflow_mul-far c).After-max_dist_within in
+    omega (arith, most (goal.at.overflow_mul-far c).Start)
 
 pub overflow_add-far : goal.overflow_add-far
-overflow_add-far c = let r = room (goal.at.overflow_add-far c).After-max_dist_within in omega (arith, most (goal.at.overflow_add-far c).Start)
+overflow_add-far c =
+    let r = room (goal.at.overflow_add-far c).After-max_dist_within in
+    omega (arith, most (goal.at.overflow_add-far c).Start)
 
 pub offset_bounds-far-c : goal.offset_bounds-far-c
-offset_bounds-far-c c = let r = room (goal.at.offset_bounds-far-c c).After-max_dist_within in omega (arith, most (goal.at.offset_bounds-far-c c).Start)
+offset_bounds-far-c c =
+    let r = room (goal.at.offset_bounds-far-c c).After-max_dist_within in
+    omega (arith, most (goal.at.offset_bounds-far-c c).Start)
 
 pub bounds-far-c : goal.bounds-far-c
 bounds-far-c c =
@@ -60,6 +66,8 @@ bounds-far-c c =
 
 pub loop-c-preserved : goal.loop-c-preserved
 loop-c-preserved c =
+    let here = room (goal.at.loop-c-preserved c).After-max_dist_within in
+    let few = most (goal.at.loop-c-preserved c).Start in
     let d = c.loop-c.far in
     let i = c.loop-c.c in
     let t = c.args.t in
@@ -69,9 +77,12 @@ loop-c-preserved c =
     let o = seam.region_of h c.args.o in (
       search rules,
       keep_far f h c.requires.0.dir o i v c.requires.0.below c.loop-c.invariant.1,
-      up_to_next (λ j. get_or (set d (i * max_tiles + t) v) (j * max_tiles + t) 0 ≡ seam.far f h (seam.corner_of o j) t) 0 i
-          (λ j m u. get_or-set_other d (i * max_tiles + t) (j * max_tiles + t) v 0 (omega arith) ∙ c.loop-c.invariant.2 j m u)
-          (get_or-set_same d (i * max_tiles + t) v 0 (omega (arith, room (goal.at.loop-c-preserved c).After-max_dist_within, most (goal.at.loop-c-preserved c).Start, c.loop-c.invariant.1.long))
+      up_to_next
+          (λ j. get_or (set d (i * max_tiles + t) v) (j * max_tiles + t) 0 ≡ seam.far f h (seam.corner_of o j) t) 0 i
+          (λ j m u.
+          get_or-set_other d (i * max_tiles + t) (j * max_tiles + t) v 0 (omega arith)
+          ∙ c.loop-c.invariant.2 j m u)
+          (get_or-set_same d (i * max_tiles + t) v 0 (omega (arith, here, few, c.loop-c.invariant.1.long))
           ∙ c.max_dist_within.ensures
           ∙ far_of_box f h c.requires.0.dir o (seam.stop_of h c.corner_of.result) t c.box_at-b.ensures
           ∙ rw c.corner_of.ensures.0),

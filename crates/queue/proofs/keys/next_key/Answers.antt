@@ -1,4 +1,4 @@
-use Prim.Native.Nat.{ℕ, ◌-◌, ◌<◌, ◌≤◌}
+use Prim.Native.Nat.{ℕ, ◌<◌, ◌≤◌}
 use native.Mathlib.Omega.{arith}
 use lib.ListN.{get_or}
 use Rattle.queue.specs.Inner.Keys.{none}
@@ -24,7 +24,7 @@ loop-j-preserved c =
     let inside = c.loop-j-test.true in
     let above : c.args.bound < get_or keys j 0 = omega (arith, c.requires.1.bounded j inside, c.if-keys-j.false) in
     elim c.if-keys-j-2.branch [
-      then-keys-j-2 w ↦ rw (w.at-is, w.key-is) (scanning_new c.loop-j.invariant inside above w.if-keys-j-2.true)
+      | then-keys-j-2 w ↦ rw (w.at-is, w.key-is) (scanning_new c.loop-j.invariant inside above w.if-keys-j-2.true)
       | else-keys-j-2 w ↦ rw (w.at-is, w.key-is) (scanning_same c.loop-j.invariant inside above w.if-keys-j-2.false)
     ]
 

@@ -6,7 +6,7 @@ use native.Mathlib.Omega.{arith}
 use lib.Dec.{eqb}
 use lib.IntN.{ℤ}
 use lib.ListN.{take}
-use borrow.Author.Tests.{not-true, not-false, eq-eqb, ne_eqb}
+use borrow.Author.Tests.{eq-eqb, ne_eqb}
 use Rattle.search.specs.Limits.{valid_k}
 use Rattle.stops.specs.Arguments.{stops_due, axes_due, stops_valid, room, arguments}
 use Rattle.stops.specs.Stops.{stop_count}

@@ -26,8 +26,9 @@ passed : (c : After-corners-n) → (to i : ℕ) → LastBelow c.args.far.now ((c
     → below_all c.args.h c.args.far.now c.args.near j && is_left c.args.waits.now (tile_at c.args.keys.now j) ≡ false
 passed c to i last j l u =
     let k = c.corners-n.result - 1 in
+    let four = (corners-few c.args.h c.requires.known_axes.0).0 in
     let e : below_all c.args.h c.args.far.now c.args.near j ≡ false =
-    not_below c.args.h c.args.far.now c.args.near j k (omega (arith, (corners-few c.args.h c.requires.known_axes.0).0, c.corners-n.ensures))
+    not_below c.args.h c.args.far.now c.args.near j k (omega (arith, four, c.corners-n.ensures))
     (last.none j l u) in
     rw e
 
@@ -55,7 +56,9 @@ bounds-near-n c =
 
 pub last_below-i-requires : goal.last_below-i-requires
 last_below-i-requires c =
-    omega (arith, (few (goal.at.last_below-i-requires c).Start).0, c.corners-n.ensures, c.requires.known_axes.1, c.requires.known_axes.2, c.requires.known_axes.3)
+    let four = (few (goal.at.last_below-i-requires c).Start).0 in
+    let known = c.requires.known_axes in
+    omega (arith, four, c.corners-n.ensures, known.1, known.2, known.3)
 
 pub loop-i-init : goal.loop-i-init
 loop-i-init c =
@@ -85,7 +88,9 @@ returns-then-blocks_at c =
 
 pub last_below-i-requires-in-loop-i : goal.last_below-i-requires-in-loop-i
 last_below-i-requires-in-loop-i c =
-    omega (arith, (few (goal.at.last_below-i-requires-in-loop-i c).Start).0, c.corners-n.ensures, c.requires.known_axes.1, c.requires.known_axes.2, c.requires.known_axes.3)
+    let four = (few (goal.at.last_below-i-requires-in-loop-i c).Start).0 in
+    let known = c.requires.known_axes in
+    omega (arith, four, c.corners-n.ensures, known.1, known.2, known.3)
 
 pub loop-i-smaller : goal.loop-i-smaller
 loop-i-smaller c = omega (arith, c.last_below-i-in-loop-i.ensures.within)
@@ -100,7 +105,9 @@ loop-i-preserved c =
           let v = ltb-true j i t in
           by_test (eqb j (i - 1))
           (λ x. let y : j ≡ i - 1 = eqb-true j (i - 1) x in rw y (sym c.blocks_at.ensures ∙ c.if-blocks_at.false))
-          (λ x. let y = eqb-false j (i - 1) x in passed (goal.at.loop-i-preserved c).After-corners-n _ _ q j m (omega arith)))
+          (λ x.
+          let y = eqb-false j (i - 1) x in
+          passed (goal.at.loop-i-preserved c).After-corners-n _ _ q j m (omega arith)))
           (λ t. c.loop-i.invariant.1 j (ltb-false j i t) o u),
     )
 

@@ -14,7 +14,8 @@ last_blocker-i-requires c = record { known_axes = c.requires.known_axes; keys_le
 
 pub waits_for-requires : goal.waits_for-requires
 waits_for-requires c =
-    omega (arith, few (goal.at.waits_for-requires c).After-last_blocker-i, c.requires.known_axes.3, c.requires.keys_len.0)
+    let within = few (goal.at.waits_for-requires c).After-last_blocker-i in
+    omega (arith, within, c.requires.known_axes.3, c.requires.keys_len.0)
 
 pub offset_bounds-waits-b : goal.offset_bounds-waits-b
 offset_bounds-waits-b c = omega (arith, c.requires.known_axes.3, c.requires.b_lt_tiles.0)

@@ -33,14 +33,15 @@ settle_first-requires c =
 
 pub loop-b-preserved : goal.loop-b-preserved
 loop-b-preserved c =
+    let few = most (goal.at.loop-b-preserved c).Start in
     let b = c.loop-b.b in
     let inv = c.loop-b.invariant in
     let n = c.args.h.tiles in
     let closer = closer_from c.args.f.now c.args.h (region_of c.args.h c.args.o) in
     let keys = c.args.keys.now in
     let found = c.settle_first.ensures in
-    let room : b < length c.loop-b.waits = omega (arith, most (goal.at.loop-b-preserved c).Start, inv.1, c.requires.waits_len.0) in
-    let room' : b < length c.loop-b.from = omega (arith, most (goal.at.loop-b-preserved c).Start, inv.2, c.requires.waits_len.1) in (
+    let room : b < length c.loop-b.waits = omega (arith, few, inv.1, c.requires.waits_len.0) in
+    let room' : b < length c.loop-b.from = omega (arith, few, inv.2, c.requires.waits_len.1) in (
       search rules,
       ap length found.waits_set ∙ length-set c.loop-b.waits b found.w ∙ inv.1,
       ap length found.from_set ∙ length-set c.loop-b.from b found.r ∙ inv.2,

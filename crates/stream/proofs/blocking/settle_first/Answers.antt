@@ -15,7 +15,8 @@ near_from-near-requires c = c.requires.tile_of
 
 pub place_before-to-requires : goal.place_before-to-requires
 place_before-to-requires c =
-    (omega (arith, most (goal.at.place_before-to-requires c).Start, c.requires.keys_len.2), most (goal.at.place_before-to-requires c).Start)
+    let few = most (goal.at.place_before-to-requires c).Start in
+    (omega (arith, few, c.requires.keys_len.2), few)
 
 pub settle-requires : goal.settle-requires
 settle-requires c =
@@ -38,10 +39,15 @@ returns c =
     let h = c.args.h in
     let o = region_of h c.args.o in
     let keys = c.args.keys.now in
+    let dir = c.requires.tile_of.0.dir in
+    let below = c.requires.tile_of.0.below in
+    let valid = c.requires.tile_of.1 in
     let listed = c.requires.keys_len.1 in
+    let table = c.requires.far_table in
     let near = c.near_from-near.result in
-    released f h c.requires.tile_of.0.dir o c.requires.tile_of.1 keys listed c.requires.far_table c.requires.tile_of.0.below near
-    c.near_from-near.ensures (λ i l u. absurd (omega arith)) c.place_before-to.ensures.within
-    (λ i l u _. none_nearer f h c.requires.tile_of.0.dir o c.requires.tile_of.1 keys listed c.requires.far_table c.requires.tile_of.0.below
-    near c.near_from-near.ensures c.requires.keys_len.3 c.place_before-to.ensures i l u)
+    let from = c.near_from-near.ensures in
+    released f h dir o valid keys listed table below near from (λ i l u. absurd (omega arith))
+    c.place_before-to.ensures.within
+    (λ i l u _. none_nearer f h dir o valid keys listed table below near from c.requires.keys_len.3
+    c.place_before-to.ensures i l u)
     c.settle.ensures

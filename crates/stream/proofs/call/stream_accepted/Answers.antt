@@ -35,23 +35,29 @@ most s = tiles_few s.args.f.now s.args.h s.requires.0
 pub returns-then-h-axes : goal.returns-then-h-axes
 unfolding stream_call order_after
 returns-then-h-axes c =
-    rw (c.requires.0, axes-are (goal.at.returns-then-h-axes c).Start, ne_eqb _ _ c.if-h-axes.true) record { result_value = c.refused.ensures; order_after = refl }
+    rw (c.requires.0, axes-are (goal.at.returns-then-h-axes c).Start, ne_eqb _ _ c.if-h-axes.true)
+    record { result_value = c.refused.ensures; order_after = refl }
 
 pub returns-then-not-valid_box : goal.returns-then-not-valid_box
 unfolding stream_call order_after
 returns-then-not-valid_box c =
     let bad = sym c.valid_box.ensures ∙ c.if-not-valid_box.true in
-    rw (c.requires.0, good-axes (goal.at.returns-then-not-valid_box c).Else-h-axes, bad) record { result_value = c.refused-then-not-valid_box.ensures; order_after = refl }
+    rw (c.requires.0, good-axes (goal.at.returns-then-not-valid_box c).Else-h-axes, bad)
+    record { result_value = c.refused-then-not-valid_box.ensures; order_after = refl }
 
 pub returns-then-order-h : goal.returns-then-order-h
 unfolding stream_call order_after
 returns-then-order-h c =
-    rw (c.requires.0, good-axes (goal.at.returns-then-order-h c).Else-h-axes, good-box (goal.at.returns-then-order-h c).Else-not-valid_box, lt-leb _ _ c.if-order-h.true) record { result_value = c.refused-then-order-h.ensures; order_after = refl }
+    let at = goal.at.returns-then-order-h c in
+    rw (c.requires.0, good-axes at.Else-h-axes, good-box at.Else-not-valid_box, lt-leb _ _ c.if-order-h.true)
+    record { result_value = c.refused-then-order-h.ensures; order_after = refl }
 
 pub put_order-requires : goal.put_order-requires
 put_order-requires c =
-    let e = same-axes (goal.at.put_order-requires c).Else-h-axes in
-    (c.requires.0, c.if-order-h.false, record { valid = rw e (good-box (goal.at.put_order-requires c).Else-not-valid_box); axes = rw e (axes-are (goal.at.put_order-requires c).Start) })
+    let at = goal.at.put_order-requires c in
+    let e = same-axes at.Else-h-axes in
+    let valid = good-box at.Else-not-valid_box in
+    (c.requires.0, c.if-order-h.false, record { valid = rw e valid; axes = rw e (axes-are at.Start) })
 
 pub overflow_cast-tiles : goal.overflow_cast-tiles
 overflow_cast-tiles c = omega (arith, most (goal.at.overflow_cast-tiles c).Start)
@@ -59,5 +65,8 @@ overflow_cast-tiles c = omega (arith, most (goal.at.overflow_cast-tiles c).Start
 pub returns : goal.returns
 unfolding stream_call order_after
 returns c =
-    rw (c.requires.0, good-axes (goal.at.returns c).Else-h-axes, good-box (goal.at.returns c).Else-not-valid_box, le-leb _ _ c.if-order-h.false, sym (same-axes (goal.at.returns c).Else-h-axes))
+    let at = goal.at.returns c in
+    let room = le-leb _ _ c.if-order-h.false in
+    let axes = good-axes at.Else-h-axes in
+    rw (c.requires.0, axes, good-box at.Else-not-valid_box, room, sym (same-axes at.Else-h-axes))
     record { result_value = refl; order_after = rw c.requires.0 c.put_order.ensures }

@@ -12,4 +12,5 @@ stream_accepted-requires c =
 pub returns-in-Refused : goal.returns-in-Refused
 unfolding stream_call order_after
 returns-in-Refused c =
-    rw (told directory_outcome c.read_directory.ensures c.in-Refused.is) record { result_value = refl; order_after = refl }
+    rw (told directory_outcome c.read_directory.ensures c.in-Refused.is)
+    record { result_value = refl; order_after = refl }

@@ -14,7 +14,8 @@ most s = tiles_few s.args.f.now s.args.h s.requires.f_value.0
 pub fill_least-requires : goal.fill_least-requires
 fill_least-requires c =
     let few = corners-few c.args.h (known_axes c.args.f.now c.args.h c.requires.f_value.0) in
-    (omega (arith, most (goal.at.fill_least-requires c).Start, few.0, c.requires.far_table.long), omega (arith, most (goal.at.fill_least-requires c).Start))
+    let tiles = most (goal.at.fill_least-requires c).Start in
+    (omega (arith, tiles, few.0, c.requires.far_table.long), omega (arith, tiles))
 
 pub settle_all-requires : goal.settle_all-requires
 settle_all-requires c =

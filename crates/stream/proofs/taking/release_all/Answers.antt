@@ -33,7 +33,9 @@ overflow_cast-t c = omega (arith, most (goal.at.overflow_cast-t c).Start, c.requ
 -- a group lies in the table
 pub none_waits-requires : goal.none_waits-requires
 none_waits-requires c =
-    (omega (arith, most (goal.at.none_waits-requires c).Start, c.loop-first.invariant.0, c.loop-first.invariant.3.long_waits, c.requires.keys_len.2), c.loop-first.invariant.1)
+    let inv = c.loop-first.invariant in
+    let few = most (goal.at.none_waits-requires c).Start in
+    (omega (arith, few, inv.0, inv.3.long_waits, c.requires.keys_len.2), inv.1)
 
 pub release_among-before-requires : goal.release_among-before-requires
 release_among-before-requires c =

@@ -20,7 +20,8 @@ most s = tiles_few s.args.f.now s.args.h s.requires.f_value.0
 room : (l : At-loop-b) → (b : ℕ) → b < l.args.to → (b < length l.loop-b.waits) × (b < length l.loop-b.from)
 room l b u =
     let table = l.requires.keys_len in
-    let inside : b < max_tiles = omega (arith, tiles_few l.args.f.now l.args.h l.requires.f_value.0, l.requires.t_lt_tiles.2) in
+    let few = tiles_few l.args.f.now l.args.h l.requires.f_value.0 in
+    let inside : b < max_tiles = omega (arith, few, l.requires.t_lt_tiles.2) in
     (omega (arith, l.loop-b.invariant.3.long_waits, table.2), omega (arith, l.loop-b.invariant.3.long_from, table.3))
 
 pub loop-b-init : goal.loop-b-init
@@ -64,7 +65,8 @@ release-requires c =
       far_table = c.requires.far_table;
       keys_len = (table.0, table.1, inv.3.long_waits ∙ table.2, inv.3.long_from ∙ table.3);
       taken_below = λ i m u. inv.3.same_left _ ∙ c.requires.taken_below i m u;
-      stands = stands_gone closer c.args.h.tiles c.args.keys.now (sym here) (inv.3.standing.others b inside (omega arith));
+      stands =
+          stands_gone closer c.args.h.tiles c.args.keys.now (sym here) (inv.3.standing.others b inside (omega arith));
     }
 
 pub loop-b-preserved : goal.loop-b-preserved

@@ -30,12 +30,14 @@ inside c =
     let h = c.args.h in
     let o = region_of h c.args.o in
     first_inside (closer_from f h o) h.tiles c.args.keys.now
-    (closer-strict f h c.requires.f_value.0 o c.requires.f_value.1) (tiles_few f h c.requires.f_value.0) c.loop-i.invariant.4 (search rules) c.first_free-t.ensures
+    (closer-strict f h c.requires.f_value.0 o c.requires.f_value.1) (tiles_few f h c.requires.f_value.0)
+    c.loop-i.invariant.4 (search rules) c.first_free-t.ensures
 
 -- there is room for its mark
 room : (c : After-first_free-t) → c.first_free-t.result < length c.loop-i.waits
 room c =
-    omega (arith, inside c, tiles_few c.args.f.now c.args.h c.requires.f_value.0, c.loop-i.invariant.1, c.requires.keys_len.2)
+    let few = tiles_few c.args.f.now c.args.h c.requires.f_value.0 in
+    omega (arith, inside c, few, c.loop-i.invariant.1, c.requires.keys_len.2)
 
 pub loop-i-init : goal.loop-i-init
 unfolding tile_order
@@ -51,11 +53,13 @@ loop-i-init c =
 
 pub first_free-t-requires : goal.first_free-t-requires
 first_free-t-requires c =
-    (c.loop-i.invariant.4.at_few, omega (arith, most (goal.at.first_free-t-requires c).Start, c.loop-i.invariant.1, c.requires.keys_len.2))
+    let few = most (goal.at.first_free-t-requires c).Start in
+    (c.loop-i.invariant.4.at_few, omega (arith, few, c.loop-i.invariant.1, c.requires.keys_len.2))
 
 pub overflow_cast-order : goal.overflow_cast-order
 overflow_cast-order c =
-    omega (arith, inside (goal.at.overflow_cast-order c).After-first_free-t, most (goal.at.overflow_cast-order c).Start)
+    let found = inside (goal.at.overflow_cast-order c).After-first_free-t in
+    omega (arith, found, most (goal.at.overflow_cast-order c).Start)
 
 pub offset_bounds-order-i : goal.offset_bounds-order-i
 offset_bounds-order-i c = omega (arith, most (goal.at.offset_bounds-order-i c).Start)
@@ -66,7 +70,8 @@ bounds-order-i c =
 
 pub offset_bounds-waits-t : goal.offset_bounds-waits-t
 offset_bounds-waits-t c =
-    omega (arith, inside (goal.at.offset_bounds-waits-t c).After-first_free-t, most (goal.at.offset_bounds-waits-t c).Start)
+    let found = inside (goal.at.offset_bounds-waits-t c).After-first_free-t in
+    omega (arith, found, most (goal.at.offset_bounds-waits-t c).Start)
 
 pub bounds-waits-t : goal.bounds-waits-t
 bounds-waits-t c = room (goal.at.bounds-waits-t c).After-first_free-t
@@ -104,6 +109,7 @@ release_all-at-requires c =
 
 pub loop-i-preserved : goal.loop-i-preserved
 loop-i-preserved c =
+    let start = (goal.at.loop-i-preserved c).Start in
     let t = c.first_free-t.result in
     let freed = c.release_all-at.ensures in
     let table = c.requires.keys_len in
@@ -112,8 +118,8 @@ loop-i-preserved c =
       freed.1.long_waits ∙ length-set c.loop-i.waits t taken_mark ∙ c.loop-i.invariant.1,
       freed.1.long_from ∙ c.loop-i.invariant.2,
       length-set c.loop-i.order c.loop-i.i t ∙ c.loop-i.invariant.3,
-      running_next closer c.args.h.tiles c.args.keys.now (strict (goal.at.loop-i-preserved c).Start) (most (goal.at.loop-i-preserved c).Start) c.loop-i.invariant.4 (search rules)
-          c.first_free-t.ensures (omega (arith, most (goal.at.loop-i-preserved c).Start, c.loop-i.invariant.1, table.2)) c.first_left-low.ensures
+      running_next closer c.args.h.tiles c.args.keys.now (strict start) (most start) c.loop-i.invariant.4 (search rules)
+          c.first_free-t.ensures (omega (arith, most start, c.loop-i.invariant.1, table.2)) c.first_left-low.ensures
           freed.0 freed.1,
     )
 

@@ -4,13 +4,12 @@ use Rattle.tiles.specs.Tile.{open_tile}
 use Rattle.tiles.proofs.tile.open_tile.Goals as goal
 
 pub tile_block-requires : goal.tile_block-requires
-tile_block-requires c =
-    (
-      (directory_good _ c.requires.0).axes,
-      c.block_at.ensures.1,
-      c.tile_position-p.ensures.1,
-      rw c.count_at-count.ensures (count_small (directory_good _ c.requires.0) c.args.t c.requires.1),
-    )
+tile_block-requires c = (
+  (directory_good _ c.requires.0).axes,
+  c.block_at.ensures.1,
+  c.tile_position-p.ensures.1,
+  rw c.count_at-count.ensures (count_small (directory_good _ c.requires.0) c.args.t c.requires.1),
+)
 
 pub returns : goal.returns
 unfolding open_tile
