@@ -136,7 +136,8 @@ past_stays f cols k out h d =
 -- "Any file of the same length, equal to this one in every byte of the directory and of the opened tiles"
 module _ (f : List ℕ) (cols : List (List ℤ)) (k : ℕ) (g : List ℕ) (h : Header) (d : directory f ≡ accepted h)
     (same : SameDirectory f g h)
-    (alike : All (λ t. block_at g (tile_position h t) ≡ block_at f (tile_position h t)) (run_for f h cols k).openings) where
+    (alike : All (λ t. block_at g (tile_position h t) ≡ block_at f (tile_position h t)) (run_for f h cols k).openings)
+        where
   known : KnownAxes h.axes
   known = ((directory_exactly f h).0 d).axes
 
