@@ -61,8 +61,12 @@ module _ (cols : List (List ℤ)) where
       → over (set l i (stop_at cols i)) (i + 1) (rows cols (i + 1) (n - (i + 1))) ≡ over l i (rows cols i (n - i))
   points_turn l i n h =
       let e : n - i ≡ suc (n - (i + 1)) = omega arith in
-      rw (e, rows_next cols i (n - (i + 1)), over-cons l i (stop_at cols i) (rows cols (i + 1) (n - (i + 1))),
-      add-one i)
+      rw (
+        e,
+        rows_next cols i (n - (i + 1)),
+        over-cons l i (stop_at cols i) (rows cols (i + 1) (n - (i + 1))),
+        add-one i,
+      )
 
   pub points_done : (l : List (List ℤ)) (i n : ℕ) → n ≤ i → l ≡ over l i (rows cols i (n - i))
   points_done l i n h =

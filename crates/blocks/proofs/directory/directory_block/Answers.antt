@@ -109,9 +109,10 @@ pub returns-then-not-length_fits : goal.returns-then-not-length_fits
 unfolding directory_block
 returns-then-not-length_fits c =
     c.refused-then-not-length_fits.ensures
-    ∙ sym (rw
-    (passed_start (goal.at.returns-then-not-length_fits c).Else-start-ne0,
-    failed c.length_fits.ensures c.if-not-length_fits.true))
+    ∙ sym (rw (
+      passed_start (goal.at.returns-then-not-length_fits c).Else-start-ne0,
+      failed c.length_fits.ensures c.if-not-length_fits.true,
+    ))
 
 pub returns-then-u16_at-p : goal.returns-then-u16_at-p
 unfolding directory_block
@@ -152,9 +153,11 @@ returns-then-u16_at-due c =
     ))
 
 pub directory_padding-requires : goal.directory_padding-requires
-directory_padding-requires c =
-    (c.requires.2, rw (axes (goal.at.directory_padding-requires c).After-header_in-h) at c.entries_due-due.ensures.1,
-    c.requires.0)
+directory_padding-requires c = (
+  c.requires.2,
+  rw (axes (goal.at.directory_padding-requires c).After-header_in-h) at c.entries_due-due.ensures.1,
+  c.requires.0,
+)
 
 pub returns-then-not-directory_padding : goal.returns-then-not-directory_padding
 unfolding directory_block
@@ -170,9 +173,11 @@ returns-then-not-directory_padding c =
     ))
 
 pub entries_valid-requires : goal.entries_valid-requires
-entries_valid-requires c =
-    (c.requires.2, rw (axes (goal.at.entries_valid-requires c).After-header_in-h) at c.entries_due-due.ensures.1,
-    c.requires.0)
+entries_valid-requires c = (
+  c.requires.2,
+  rw (axes (goal.at.entries_valid-requires c).After-header_in-h) at c.entries_due-due.ensures.1,
+  c.requires.0,
+)
 
 pub returns-then-not-entries_valid : goal.returns-then-not-entries_valid
 unfolding directory_block

@@ -109,7 +109,7 @@ returns c =
           ∙ ap (λ k. over c.put_zeros.new.d (at + payload_at) (joined g k n)) from) c.put_zeros-2.ensures
           c.put_checksum.ensures
           ∙ ap (λ k. over a.d.now at (block_bytes (head_bytes kind a.p k t) (joined g first k)))
-              (due (goal.at.returns c).After-entries_due-n),
+          (due (goal.at.returns c).After-entries_due-n),
       c.put_entries-next.ensures.1 ∙ ap (λ k. offset a.counts.now (k + n)) from
           ∙ ap (λ k. offset a.counts.now (first + k)) (due (goal.at.returns c).After-entries_due-n),
     )

@@ -65,8 +65,12 @@ min_square-requires-2 c =
 
 pub overflow_add-plan : goal.overflow_add-plan
 overflow_add-plan c =
-    omega (arith, plan c, bounded (goal.at.overflow_add-plan c).Start 0 (omega arith),
-    bounded (goal.at.overflow_add-plan c).Start 1 (omega arith))
+    omega (
+      arith,
+      plan c,
+      bounded (goal.at.overflow_add-plan c).Start 0 (omega arith),
+      bounded (goal.at.overflow_add-plan c).Start 1 (omega arith),
+    )
 
 pub min_square-requires-then-axes-eq-HEIGHT : goal.min_square-requires-then-axes-eq-HEIGHT
 min_square-requires-then-axes-eq-HEIGHT c =
@@ -85,14 +89,21 @@ pub returns-then-axes-eq-HEIGHT : goal.returns-then-axes-eq-HEIGHT
 unfolding sum
 returns-then-axes-eq-HEIGHT c =
     let h : c.args.axes ≡ 3 = omega arith in
-    rw h (omega
-    (arith, plan (goal.at.returns-then-axes-eq-HEIGHT c).After-min_square-2, height c, min-dist-sum c.args.b c.args.p 3
-    (omega arith) (omega arith)))
+    rw h (omega (
+      arith,
+      plan (goal.at.returns-then-axes-eq-HEIGHT c).After-min_square-2,
+      height c,
+      min-dist-sum c.args.b c.args.p 3
+          (omega arith) (omega arith),
+    ))
 
 pub returns-else-axes-eq-HEIGHT : goal.returns-else-axes-eq-HEIGHT
 unfolding sum
 returns-else-axes-eq-HEIGHT c =
     let h : c.args.axes ≡ 2 = omega arith in
-    rw h (omega
-    (arith, plan (goal.at.returns-else-axes-eq-HEIGHT c).After-min_square-2, min-dist-sum c.args.b c.args.p 2
-    (omega arith) (omega arith)))
+    rw h (omega (
+      arith,
+      plan (goal.at.returns-else-axes-eq-HEIGHT c).After-min_square-2,
+      min-dist-sum c.args.b c.args.p 2
+          (omega arith) (omega arith),
+    ))

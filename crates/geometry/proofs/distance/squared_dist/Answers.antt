@@ -68,8 +68,12 @@ square-requires-2 c =
 
 pub overflow_add-plan : goal.overflow_add-plan
 overflow_add-plan c =
-    omega (arith, plan c, bounded (goal.at.overflow_add-plan c).Start 0 (omega arith),
-    bounded (goal.at.overflow_add-plan c).Start 1 (omega arith))
+    omega (
+      arith,
+      plan c,
+      bounded (goal.at.overflow_add-plan c).Start 0 (omega arith),
+      bounded (goal.at.overflow_add-plan c).Start 1 (omega arith),
+    )
 
 pub square-requires-then-axes-eq-HEIGHT : goal.square-requires-then-axes-eq-HEIGHT
 square-requires-then-axes-eq-HEIGHT c =
@@ -89,14 +93,21 @@ pub returns-then-axes-eq-HEIGHT : goal.returns-then-axes-eq-HEIGHT
 unfolding sum
 returns-then-axes-eq-HEIGHT c =
     let h : c.args.axes ≡ 3 = omega arith in
-    rw h (omega
-    (arith, plan (goal.at.returns-then-axes-eq-HEIGHT c).After-square-2, height c, dist-sum c.args.p c.args.q 3
-    (omega arith) (omega arith)))
+    rw h (omega (
+      arith,
+      plan (goal.at.returns-then-axes-eq-HEIGHT c).After-square-2,
+      height c,
+      dist-sum c.args.p c.args.q 3
+          (omega arith) (omega arith),
+    ))
 
 pub returns-else-axes-eq-HEIGHT : goal.returns-else-axes-eq-HEIGHT
 unfolding sum
 returns-else-axes-eq-HEIGHT c =
     let h : c.args.axes ≡ 2 = omega arith in
-    rw h (omega
-    (arith, plan (goal.at.returns-else-axes-eq-HEIGHT c).After-square-2, dist-sum c.args.p c.args.q 2 (omega arith)
-    (omega arith)))
+    rw h (omega (
+      arith,
+      plan (goal.at.returns-else-axes-eq-HEIGHT c).After-square-2,
+      dist-sum c.args.p c.args.q 2 (omega arith)
+          (omega arith),
+    ))

@@ -39,9 +39,11 @@ box-b c =
 pub returns-then-not-valid_boxes : goal.returns-then-not-valid_boxes
 returns-then-not-valid_boxes c =
     bad_number _ _ _ (failed c.valid_boxes.ensures c.if-not-valid_boxes.true)
-    ∙ rw (box-o (goal.at.returns-then-not-valid_boxes c).After-pad_box-o,
-    box-e (goal.at.returns-then-not-valid_boxes c).After-pad_box-e,
-    box-b (goal.at.returns-then-not-valid_boxes c).After-pad_box-b)
+    ∙ rw (
+      box-o (goal.at.returns-then-not-valid_boxes c).After-pad_box-o,
+      box-e (goal.at.returns-then-not-valid_boxes c).After-pad_box-e,
+      box-b (goal.at.returns-then-not-valid_boxes c).After-pad_box-b,
+    )
 
 pub margin_within-requires : goal.margin_within-requires
 margin_within-requires c =
@@ -54,5 +56,8 @@ returns c =
     let fits : SFits w64 c.margin_within.result = sfits_of c.margin_within.type_inv in
     to_z-of_z {w = w64} fits ∙ c.margin_within.ensures
     ∙ good_number _ _ _ (passed c.valid_boxes.ensures c.if-not-valid_boxes.false)
-    ∙ rw (box-o (goal.at.returns c).After-pad_box-o, box-e (goal.at.returns c).After-pad_box-e,
-    box-b (goal.at.returns c).After-pad_box-b)
+    ∙ rw (
+      box-o (goal.at.returns c).After-pad_box-o,
+      box-e (goal.at.returns c).After-pad_box-e,
+      box-b (goal.at.returns c).After-pad_box-b,
+    )

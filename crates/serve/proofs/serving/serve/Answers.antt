@@ -114,11 +114,15 @@ serve_stop-answer-requires c =
       rise = rw w.1 (waiting_rise waits' c.args.h.tiles);
       stop = rw (c.stop_in-stop.ensures, ← (point c.args.h c.args.stops.now below))
           (all_get_d (ValidStop a.h) (ps c.args.h c.args.stops.now) c.loop-i.i []
-              (a-stop c.args.h c.args.stops.now below) c.requires.1.valid);
+          (a-stop c.args.h c.args.stops.now below) c.requires.1.valid);
       list = stop_ready t (a-stop c.args.h c.args.stops.now below) c.requires.1.some c.requires.1.long;
       room =
-          omega (arith, few-gathered (goal.at.serve_stop-answer-requires c).After-gather-m, c.loop-i.invariant.0,
-              length-take c.gather-m.result c.gather-m.new.order);
+          omega (
+            arith,
+            few-gathered (goal.at.serve_stop-answer-requires c).After-gather-m,
+            c.loop-i.invariant.0,
+            length-take c.gather-m.result c.gather-m.new.order,
+          );
       marks = omega (arith, c.requires.1.marks, t.long);
       opens = t.opens;
     }
@@ -177,7 +181,7 @@ loop-i-preserved c =
     let t = c.loop-i.invariant in (
       c.serve_stop-answer.auto.keys ∙ t.0,
       stop_next t.1 (a-stop c.args.h c.args.stops.now c.loop-i-test.true)
-      (served (goal.at.loop-i-preserved c).After-serve_stop-answer) _
+          (served (goal.at.loop-i-preserved c).After-serve_stop-answer) _
           (ap serving_outcome c.in-Served.is),
     )
 

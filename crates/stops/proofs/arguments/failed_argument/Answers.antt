@@ -59,8 +59,11 @@ returns-then-not-valid_k c = rw (sym c.valid_k.ensures ∙ c.if-not-valid_k.true
 pub returns-then-not-stops_due : goal.returns-then-not-stops_due
 unfolding arguments
 returns-then-not-stops_due c =
-    rw (k-good (goal.at.returns-then-not-stops_due c).Else-not-valid_k, sym c.stops_due.ensures
-    ∙ c.if-not-stops_due.true)
+    rw (
+      k-good (goal.at.returns-then-not-stops_due c).Else-not-valid_k,
+      sym c.stops_due.ensures
+          ∙ c.if-not-stops_due.true,
+    )
 
 pub returns-then-h-axes : goal.returns-then-h-axes
 unfolding arguments
@@ -68,8 +71,11 @@ returns-then-h-axes c =
     let h = c.args.h in
     let e = axes-of (goal.at.returns-then-h-axes c).Start
     ∙ ne_eqb h.axes c.args.axes (omega (arith, c.if-h-axes.true)) in
-    rw (k-good (goal.at.returns-then-h-axes c).Else-not-valid_k,
-    stops-good (goal.at.returns-then-h-axes c).Else-not-stops_due, e)
+    rw (
+      k-good (goal.at.returns-then-h-axes c).Else-not-valid_k,
+      stops-good (goal.at.returns-then-h-axes c).Else-not-stops_due,
+      e,
+    )
 
 pub valid_stops-requires : goal.valid_stops-requires
 valid_stops-requires c =
@@ -92,10 +98,12 @@ pub overflow_mul-n : goal.overflow_mul-n
 overflow_mul-n c =
     let few = (good_stops (cols c.args.axes c.args.xs.now c.args.ys.now c.args.zs.now)
     (stops-good (goal.at.overflow_mul-n c).Else-not-stops_due)).1.0 in
-    omega (arith,
-    few-places
-    (rw (take_count c.args.axes (omega (arith, c.requires.0.0)) (all c.args.xs.now c.args.ys.now c.args.zs.now)) at
-    few) (good_k c.args.k (k-good (goal.at.overflow_mul-n c).Else-not-valid_k)).1)
+    omega (
+      arith,
+      few-places
+          (rw (take_count c.args.axes (omega (arith, c.requires.0.0)) (all c.args.xs.now c.args.ys.now c.args.zs.now)) at
+          few) (good_k c.args.k (k-good (goal.at.overflow_mul-n c).Else-not-valid_k)).1,
+    )
 
 pub returns-then-not-room : goal.returns-then-not-room
 unfolding arguments

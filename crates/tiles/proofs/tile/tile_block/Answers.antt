@@ -63,30 +63,36 @@ unfolding tile_block
 returns-then-u16_at-count c =
     let f = unequal c.u16_at-2.ensures.0 refl c.if-u16_at-count.true in
     c.refused-then-u16_at-count.ensures
-    ∙ sym (rw
-    (passed_start (goal.at.returns-then-u16_at-count c).Else-start-ne0,
-    passed-position (goal.at.returns-then-u16_at-count c).Else-u16_at-p, f))
+    ∙ sym (rw (
+      passed_start (goal.at.returns-then-u16_at-count c).Else-start-ne0,
+      passed-position (goal.at.returns-then-u16_at-count c).Else-u16_at-p,
+      f,
+    ))
 
 pub returns-then-not-tile_padding : goal.returns-then-not-tile_padding
 unfolding tile_block
 returns-then-not-tile_padding c =
     let f = failed c.tile_padding.ensures c.if-not-tile_padding.true in
     c.refused-then-not-tile_padding.ensures
-    ∙ sym (rw
-    (passed_start (goal.at.returns-then-not-tile_padding c).Else-start-ne0,
-    passed-position (goal.at.returns-then-not-tile_padding c).Else-u16_at-p,
-    passed-entries (goal.at.returns-then-not-tile_padding c).Else-u16_at-count, f))
+    ∙ sym (rw (
+      passed_start (goal.at.returns-then-not-tile_padding c).Else-start-ne0,
+      passed-position (goal.at.returns-then-not-tile_padding c).Else-u16_at-p,
+      passed-entries (goal.at.returns-then-not-tile_padding c).Else-u16_at-count,
+      f,
+    ))
 
 pub returns-then-not-sites_inside : goal.returns-then-not-sites_inside
 unfolding tile_block
 returns-then-not-sites_inside c =
     let f = failed c.sites_inside.ensures c.if-not-sites_inside.true in
     c.refused-then-not-sites_inside.ensures
-    ∙ sym (rw
-    (passed_start (goal.at.returns-then-not-sites_inside c).Else-start-ne0,
-    passed-position (goal.at.returns-then-not-sites_inside c).Else-u16_at-p,
-    passed-entries (goal.at.returns-then-not-sites_inside c).Else-u16_at-count,
-    passed-padding (goal.at.returns-then-not-sites_inside c).Else-not-tile_padding, f))
+    ∙ sym (rw (
+      passed_start (goal.at.returns-then-not-sites_inside c).Else-start-ne0,
+      passed-position (goal.at.returns-then-not-sites_inside c).Else-u16_at-p,
+      passed-entries (goal.at.returns-then-not-sites_inside c).Else-u16_at-count,
+      passed-padding (goal.at.returns-then-not-sites_inside c).Else-not-tile_padding,
+      f,
+    ))
 
 pub returns-then-muted_in-muted : goal.returns-then-muted_in-muted
 unfolding tile_block
