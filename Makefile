@@ -6,28 +6,31 @@ DESTDIR =
 VERSION = 1.0.0
 CC = gcc
 
-.PHONY: run lib libraries install uninstall version test bench
-
-# rt knows itself what has to be proved again, and leaves what it made in out/ of the crate's folder. The next `rt ci`
-# clears that folder, so the program and the library are copied to target/.
-program = mkdir -p target/bin && \
-    { (cd crates/nearby && rt run </dev/null) >target/run.log 2>&1 || { cat target/run.log; exit 1; }; } && \
-    install -m 755 crates/nearby/out/nearby target/bin/nearby
-archive = mkdir -p target/lib && \
-    { (cd crates/host && rt lib) >target/lib.log 2>&1 || { cat target/lib.log; exit 1; }; } && \
-    install -m 644 crates/host/out/libhost.a target/lib/libnearby.a
+.PHONY: run lib program archive libraries install uninstall version test bench
 
 run:
 	@echo "proving and building the program; the first time takes some minutes"
-	@$(program)
+	@$(MAKE) --silent --no-print-directory program
 	python3 examples/ask.py samples/riverside.town 3 1200,3000 2600,3100 4100,3200 5600,3200 | target/bin/nearby
 
 # target/class is where the commands of the documents put their files.
 lib:
 	@mkdir -p target/class
-	@$(archive)
+	@$(MAKE) --silent --no-print-directory archive
 	@$(MAKE) --silent --no-print-directory libraries
 	@echo "target/lib/libnearby.a and target/lib/libnearby.so, with include/nearby.h"
+
+# rt knows itself what has to be proved again, and leaves what it made in out/ of the crate's folder. `rt ci` clears
+# that folder, so the program and the library are copied to target/. `rt run` also runs the program, here on no input.
+program:
+	@mkdir -p target/bin
+	@(cd crates/nearby && rt run </dev/null) >target/run.log 2>&1 || { cat target/run.log; exit 1; }
+	@install -m 755 crates/nearby/out/nearby target/bin/nearby
+
+archive:
+	@mkdir -p target/lib
+	@(cd crates/host && rt lib) >target/lib.log 2>&1 || { cat target/lib.log; exit 1; }
+	@install -m 644 crates/host/out/libhost.a target/lib/libnearby.a
 
 libraries: target/lib/libnearby.a target/lib/libnearby.so
 
@@ -41,10 +44,10 @@ target/lib/libnearby.so: target/lib/libnearby.so.1
 
 # Only where they are missing: make install takes what was built last, and proves nothing anew.
 target/lib/libnearby.a:
-	@$(archive)
+	@$(MAKE) --silent --no-print-directory archive
 
 target/bin/nearby:
-	@$(program)
+	@$(MAKE) --silent --no-print-directory program
 
 # The tool for towns is a script and its modules: they go to lib/nearby, and bin/nearby-town is a link to the script.
 tree = $(DESTDIR)$(PREFIX)

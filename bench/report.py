@@ -403,7 +403,7 @@ turns; on one thread.
 | Machine | {processor()} |
 | System | {system()} |
 | C and C++ | {first_line('g++', '--version')}, `{FLAGS}` |
-| Rattle | {first_line('rt', 'version')}, target x86_64-unknown-linux-gnu |
+| Rattle | {first_line('rt', 'version')}, target x86_64-unknown-linux-gnu, x86-64-v2 |
 | Packages | {package('libnanoflann-dev')}, {package('libboost-dev')} |
 
 ## What is measured

@@ -1,6 +1,6 @@
 #!/bin/sh
 # Installs what is missing, compiles the benchmark, runs it and writes docs/BENCHMARK.md. Started by `make bench`, which
-# makes target/staticlib/libhost.a first.
+# makes target/lib/libnearby.a first.
 set -eu
 cd "$(dirname "$0")/.."
 out=target/bench
@@ -21,8 +21,8 @@ if [ -n "$missing" ]; then
     install || { $as_root apt-get update >"$out/apt.log" 2>&1 && install; } || { cat "$out/apt.log"; exit 1; }
 fi
 
-# The same target as the proved library's: plain x86-64.
-flags='-O3 -march=x86-64 -Wall -Wextra -Werror'
+# The same target as the proved library's: x86-64-v2.
+flags='-O3 -march=x86-64-v2 -Wall -Wextra -Werror'
 objects=
 for f in bench/*.cpp; do
     o="$out/$(basename "$f").o"
@@ -35,9 +35,9 @@ for name in checks levels; do
     gcc -std=c11 $flags -c "bench/$name.c" -o "$out/$name.c.o"
     objects="$objects $out/$name.c.o"
 done
-g++ $objects target/staticlib/libhost.a -o "$out/bench" -pthread
+g++ $objects target/lib/libnearby.a -o "$out/bench" -pthread
 
-nm -u target/staticlib/libhost.a 2>/dev/null | sed -n 's/^ *U //p' | sort -u >"$out/undefined"
-objdump -d target/staticlib/libhost.a | grep -cw -e syscall -e sysenter -e int >"$out/syscalls" || true
+nm -u target/lib/libnearby.a 2>/dev/null | sed -n 's/^ *U //p' | sort -u >"$out/undefined"
+objdump -d target/lib/libnearby.a | grep -cw -e syscall -e sysenter -e int >"$out/syscalls" || true
 "$out/bench" "$out/results.tsv"
 python3 bench/report.py "$out" "$flags"

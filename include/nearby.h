@@ -1,9 +1,9 @@
 /* Violetjoist for hosts in C: the k nearest sound sites of each stop, from a town's file.
  *
  * Link with libnearby.a or libnearby.so: `make lib` puts them into target/lib, and after `make install` pkg-config
- * knows them as nearby. They are for x86-64 Linux. Every function here is proved against a definition (docs/PROOF.md,
- * "The calls for C"); this header says the same in words, and docs/PROOF.md, "What is assumed", says which of them are
- * proved and which tested or measured.
+ * knows them as nearby. They are for x86-64 Linux, for processors of x86-64-v2. Every function here is proved against a
+ * definition (docs/PROOF.md, "The calls for C"); this header says the same in words, and docs/PROOF.md, "What is
+ * assumed", says which of them are proved and which tested or measured.
  *
  * For all functions:
  * - A slice is a pointer and the number of its elements. The pointer is not NULL, not even for 0 elements, and has that

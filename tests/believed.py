@@ -17,8 +17,8 @@ of those definitions. What it comes to has to stand where a reader looks for it:
 
 Printed are the number of definitions to believe and of their lines, without comments and imports, for each crate and in
 all. README.md has to say the numbers in all. With --unbelieved also the definitions of specs/ that no statement rests
-on: these belong to specs/Inner/. Names of the library (Prim, mathlib, Rattle.std, ..) are not followed. A variable that is
-called like a definition in scope counts as that definition: this can only name too much.
+on: these belong to specs/Inner/. Names of the library (Prim, mathlib, Rattle.std, ..) are not followed. A variable that
+is called like a definition in scope counts as that definition: this can only name too much.
 
 use: believed.py [--unbelieved] [ROOT]
 """

@@ -162,7 +162,7 @@ def walk(number, k=K):
     """The steps of a stop: the next key, the listed places ahead of it, what happens, the list afterwards.
 
     The tiles that are open already are those that the engine opens for the stops before alone. (It strikes from a
-    smaller box then, but that changes no opening: `pruning-opens-alike`.)
+    smaller box then, but that changes no opening: `pruning_opens_alike`.)
     """
     stop = STOPS[number]
     opened = marked(ALL, join(FILE, STOPS[:number], k).marks, 2) if number else []
@@ -545,7 +545,7 @@ def unread():
 
 def names(page):
     """`crate: name` of a page: each has to be proved in that crate."""
-    found = set(re.findall(r"`([a-z]+): ([a-z0-9-]+)`", page)) - {("crate", "name")}
+    found = set(re.findall(r"`([a-z]+): ([a-z0-9_-]+)`", page)) - {("crate", "name")}
     for crate, name in sorted(found):
         proofs = (ROOT / "crates" / crate).glob("proofs/**/*.antt")
         if not any(re.search(rf"^ *(pub )?{re.escape(name)} :", proof.read_text(), re.M) for proof in proofs):

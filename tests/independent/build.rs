@@ -15,10 +15,10 @@ fn run(program: &str, arguments: &[&str]) {
 
 fn main() {
     let here = env::var("CARGO_MANIFEST_DIR").expect("cargo sets CARGO_MANIFEST_DIR");
-    let folder = Path::new(&here).join("../../target/staticlib");
+    let folder = Path::new(&here).join("../../target/lib");
     println!("cargo:rustc-link-search=native={}", folder.display());
-    println!("cargo:rustc-link-lib=static=host");
-    println!("cargo:rerun-if-changed={}", folder.join("libhost.a").display());
+    println!("cargo:rustc-link-lib=static=nearby");
+    println!("cargo:rerun-if-changed={}", folder.join("libnearby.a").display());
 
     let out = env::var("OUT_DIR").expect("cargo sets OUT_DIR");
     let (object, archive) = (format!("{out}/divide.o"), format!("{out}/libdivide.a"));

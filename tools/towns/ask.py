@@ -33,7 +33,7 @@ def ask(engine, content, stops, k):
 
     Stops are taken in turn, so the tiles opened for the first i stops are those opened by a call with these stops
     alone. Such a call has a smaller box O and may strike other tiles, but striking changes neither which tiles are
-    opened nor their order (the theorem pruning-opens-alike of the crate `search`).
+    opened nor their order (the theorem pruning_opens_alike of the crate `search`).
     """
     stops, k = _as_taken(stops, k)
     file = engine.file(content)

@@ -4,7 +4,7 @@ What the page holds, and the calls that it comes from:
 - marks and counts of the run for each k: nearby_join of all the stops;
 - for each stop its queue: the tiles with a sounding site, by key; near by nearby_margin;
 - for each stop and k how many tiles it takes: the tiles opened by nearby_join of this stop alone. They are the first of
-  its queue: no list and no opening depends on other stops or on striking (theorem pruning-opens-alike of the crate
+  its queue: no list and no opening depends on other stops or on striking (theorem pruning_opens_alike of the crate
   `search`);
 - for each stop the list after each turn: nearby_join of a town that has only the tiles taken so far, all others
   emptied;

@@ -1,7 +1,7 @@
 -- Laws of lists that are given part by part. Assumes nothing.
 --
 --   length-joined, length-joined_next   how long, with parts of one width; with one part more
---   get_d_joined                         an element by its part
+--   get_d_joined                        an element by its part
 --   joined-all, joined_same             what holds of all elements; the same parts
 --   joined_parts                        a list cut into parts
 --   joined_turn, joined_end             a loop that writes part after part

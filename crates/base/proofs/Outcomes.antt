@@ -2,8 +2,8 @@
 --
 --   by_outcome                             proof by an outcome
 --   accepted_refused, accepted_injective   no outcome is both; an accepted one has one value
---   require_accepted, and_then_accepted     what an accepted outcome shows of its parts
---   and_then-same, and_then_refused          when what comes next does not matter
+--   require_accepted, and_then_accepted    what an accepted outcome shows of its parts
+--   and_then-same, and_then_refused        when what comes next does not matter
 --   told                                   an answer that was taken apart
 --   number_accepted, number_refused        answers by number
 use Prim.Native.Nat.{ℕ, zero, suc}

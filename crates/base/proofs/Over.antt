@@ -1,12 +1,12 @@
 -- Laws of a list with a run of elements replaced. Assumes nothing.
 --
---   over_eq, length_over                what it is, and how long
---   over_nil, over-cons                 no run; a run by its first element
+--   over_eq, length_over                   what it is, and how long
+--   over_nil, over-cons                    no run; a run by its first element
 --   get_d_before, get_d_run, get_d_after   its elements before, in and past the run
---   over_next, also                     a run right after another: of lists, of calls that write
---   fill_turn, fill_end                 a loop that writes one value
---   over-set, over_under                what was written under a run does not show
---   set-over, over_last                 an element past the run, and right behind it
+--   over_next, also                        a run right after another: of lists, of calls that write
+--   fill_turn, fill_end                    a loop that writes one value
+--   over-set, over_under                   what was written under a run does not show
+--   set-over, over_last                    an element past the run, and right behind it
 use Prim.Native.Nat.{ℕ, zero, suc, ◌+◌, ◌-◌, ◌<◌, ◌≤◌}
 use mathlib.Core.List.{List, [], ◌∷◌, ◌++◌}
 use mathlib.Core.Path.{◌≡◌, refl, sym, ap, ◌∙◌}

@@ -1,10 +1,10 @@
 -- Laws of lists that are given element by element. Assumes nothing.
 --
 --   length-tabulate, get_d_tabulate   how long such a list is, and its elements
---   tabulate_last, tabulate-take     its last element, its first ones
---   tabulate-same, tabulate_const    functions that agree; one that gives the same everywhere
---   tabulate-all                     what holds of all that the function gives
---   tabulate-part                    a part of a list is such a list
+--   tabulate_last, tabulate-take      its last element, its first ones
+--   tabulate-same, tabulate_const     functions that agree; one that gives the same everywhere
+--   tabulate-all                      what holds of all that the function gives
+--   tabulate-part                     a part of a list is such a list
 use Prim.Native.Nat.{ℕ, zero, suc, ◌+◌, ◌<◌, ◌≤◌}
 use mathlib.Core.List.{List, [], ◌∷◌, ◌++◌}
 use mathlib.Core.Path.{◌≡◌, refl, sym, ap, ◌∙◌}
@@ -71,7 +71,8 @@ pub tabulate-part : {A : Type 0} (l : List A) (d : A) (a n : ℕ) → a + n ≤ 
     tabulate (λ i. get_or l (a + i) d) 0 n ≡ take n (drop a l)
 tabulate-part l d a n h =
     let size : length (take n (drop a l)) ≡ n = length-take-le n (drop a l) (omega (arith, length-drop a l)) in
-    ext_get_or d (tabulate (λ i. get_or l (a + i) d) 0 n) (take n (drop a l)) (length-tabulate (λ i. get_or l (a + i) d) 0 n
+    ext_get_or d (tabulate (λ i. get_or l (a + i) d) 0 n) (take n (drop a l))
+    (length-tabulate (λ i. get_or l (a + i) d) 0 n
     ∙ sym size)
     (λ i k. let m : i < n = omega (arith, length-tabulate (λ i. get_or l (a + i) d) 0 n) in
     get_d_tabulate (λ i. get_or l (a + i) d) d 0 n i m ∙ ap (λ j. get_or l (a + j) d) (zero-add i)

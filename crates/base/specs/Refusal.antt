@@ -4,8 +4,8 @@
 --   #length .. #reach            the numbers 1 to 15 of the table in its order, then 16 of 02.1, 17 of 02.2, 18 of 02.4
 --   Outcome, accepted, refused   what a call comes to
 --   require                      one row of the table
---   and_then                      one call after another
---   in_turn                       one test of several numbers in turn
+--   and_then                     one call after another
+--   in_turn                      one test of several numbers in turn
 use Rattle.std.specs.Prelude.{ℕ, zero, suc, ◌+◌, Bool, true, false}
 
 abbrev pub #length : ℕ

@@ -2,7 +2,7 @@
 --
 --   sums_turn, sums_end         one more byte, in sums that are kept whole; no more bytes
 --   sums-small                  the sums are below 255
---   Within, within_start, -next, -room   how large sums get that are reduced late: 21 bytes fit 16 bits
+--   Within, within_start, _next, _room   how large sums get that are reduced late: 21 bytes fit 16 bits
 use Prim.Native.Nat.{ℕ, ◌+◌, ◌*◌, ◌%◌, ◌<◌, ◌≤◌}
 use mathlib.Core.List.{List, [], ◌∷◌}
 use mathlib.Core.Path.{◌≡◌, ap, ◌∙◌}

@@ -230,7 +230,8 @@ module _ (h : Header) (known : KnownAxes h.axes) where
     unfolding entries_due
     entry_due =
         by_axes
-        (λ a. t % entries_per_block a < min (entries_per_block a) (h.tiles - entries_per_block a * (t / entries_per_block a)))
+        (λ a. t % entries_per_block a < min (entries_per_block a)
+        (h.tiles - entries_per_block a * (t / entries_per_block a)))
         (omega arith) (omega arith) h.axes known
 
 -- ---- the directory of a file
@@ -246,7 +247,8 @@ module _ (f : List ℕ) where
   pub directory_good : {h : Header} → directory f ≡ accepted h → GoodDirectory f h
   unfolding directory directory_rest
   directory_good {h} e =
-      let l = require_accepted (length_due (length f)) #length 0 (and_then (directory_block_at f 0) (directory_rest f)) e in
+      let l = require_accepted (length_due (length f)) #length 0 (and_then (directory_block_at f 0) (directory_rest f))
+      e in
       let k = and_then_accepted (directory_block_at f 0) (directory_rest f) l.1 in
       let a = k.0 in
       let r = and_then_accepted (in_turn (directory_block_at f) 1 (directory_blocks a - 1)) (λ _. accepted a) k.2 in

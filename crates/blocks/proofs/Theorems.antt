@@ -125,7 +125,8 @@ zero-none_muted f zero = none_muted f zero
 
 -- files of the same length, equal in every byte of a block, have the same block (the laws below compare blocks)
 pub same_bytes : (f g : List ℕ) (p : ℕ) → length g ≡ length f →
-    ((i : ℕ) → i < block_size → get_or g (block_size * p + i) 0 ≡ get_or f (block_size * p + i) 0) → block_at g p ≡ block_at f p
+    ((i : ℕ) → i < block_size → get_or g (block_size * p + i) 0 ≡ get_or f (block_size * p + i) 0) → block_at g p
+    ≡ block_at f p
 unfolding block_at
 same_bytes f g p n h =
     let at = block_size * p in

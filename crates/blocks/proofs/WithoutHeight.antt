@@ -59,7 +59,8 @@ module _ (s : List ℕ) (i : ℕ) where
 
 module _ (s : List ℕ) (p : ℕ) (first : Header) (n : ℕ) where
   -- a block that is not of kind 1 is refused by one of 2 to 4, alike on both sides; one of kind 1 has two axes
-  block_on_plan : first.axes ≡ plan → n ≤ longest_on_plan → directory_block s p first n ≡ directory_block_on_plan s p first n
+  block_on_plan : first.axes ≡ plan → n ≤ longest_on_plan → directory_block s p first n
+      ≡ directory_block_on_plan s p first n
   unfolding directory_block length_fits tiles_due directory_blocks entries_due directory_padding entry_offset
       directory_block_on_plan tiles_due_on_plan directory_blocks_on_plan entries_due_on_plan padding_on_plan
   block_on_plan e l =
@@ -98,7 +99,8 @@ module _ (f : List ℕ) (town : PlanFile f) where
   unfolding directory_block_at directory_block_at_on_plan
   at_on_plan p = rw first (block_on_plan (block_at f p) p (header_on_plan (block_at f 0)) (length f) refl town.0)
 
-  rest_on_plan : (h : Header) → directory_block_at_on_plan f 0 ≡ accepted h → directory_rest f h ≡ directory_rest_on_plan f h
+  rest_on_plan : (h : Header) → directory_block_at_on_plan f 0 ≡ accepted h → directory_rest f h
+      ≡ directory_rest_on_plan f h
   unfolding directory_rest directory_rest_on_plan directory_block_at_on_plan
   rest_on_plan h e =
       rw (blocks_on_plan h (shows (block_at f 0) 0 (header_on_plan (block_at f 0)) (length f) e).1)

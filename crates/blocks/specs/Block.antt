@@ -1,6 +1,6 @@
 -- The blocks of a file, and the tests that both kinds of block have in common (document 01, "Blocks"; 02.2).
 --
---   block_at                           a block of a file
+--   block_at                            a block of a file
 --   position_in, entries_in             the fields of its head
 --   axes_in, header_in                  what block 0 settles: the axes, and with T the header
 --   kind_due, block_start               test 4; tests 2 to 4 in order

@@ -1,14 +1,14 @@
 -- The directory (document 01, "Blocks" and "Numbers given to bad input"; 02.1, 02.2). An entry is read for a number of
 -- axes a.
 --
---   directory_blocks, entries_due        d, and how many entries a directory block has
---   entry_offset, entry_number           where an entry starts, and a number of its box
+--   directory_blocks, entries_due         d, and how many entries a directory block has
+--   entry_offset, entry_number            where an entry starts, and a number of its box
 --   entry_box, entry_count, entry_muted   an entry: box, count, and how many of its sites are muted
---   tiles_due, directory_padding         tests 6 and 8
+--   tiles_due, directory_padding          tests 6 and 8
 --   valid_box_count, entry_valid          test 9 of one entry: of box and count, of all of it
---   length_due, length_fits              test 1: before all else, and of the axes
+--   length_due, length_fits               test 1: before all else, and of the axes
 --   directory_block, directory_block_at   all tests of a directory block: of its bytes, of a file
---   directory_rest, directory           what reading comes to: after block 0, from the start
+--   directory_rest, directory             what reading comes to: after block 0, from the start
 --   box_at, count_at, muted_at            box, count and muted number of a tile
 use Rattle.std.specs.Prelude.{ℕ, min, ◌+◌, ◌*◌, ◌-◌, ◌/◌, ◌%◌, Bool, ◌&&◌, List, [], ◌∷◌, eqb, leb, ℤ, length}
 use Rattle.base.specs.Refusal.{Outcome, accepted, require, and_then, #length, #position, #tiles, #entries, #padding}

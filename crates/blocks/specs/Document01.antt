@@ -1,10 +1,10 @@
 -- Without 02.1: the last two bytes of an entry are due to be zero, as document 01 has it.
 --
---   entry_zero                                    the last two bytes of an entry
---   directory_padding01                           test 8
+--   entry_zero                                      the last two bytes of an entry
+--   directory_padding01                             test 8
 --   directory_block01, directory_block_at01         a directory block: of its bytes, of a file
---   directory_rest01, directory01                 what reading comes to: after block 0, from the start
---   EntriesZero                                  a file whose entries end in zeros
+--   directory_rest01, directory01                   what reading comes to: after block 0, from the start
+--   EntriesZero                                     a file whose entries end in zeros
 use Rattle.std.specs.Prelude.{ℕ, ◌+◌, ◌-◌, ◌/◌, ◌<◌, ◌≤◌, Bool, true, ◌&&◌, List, ◌≡◌, eqb, length}
 use Rattle.base.specs.Every.{every}
 use Rattle.base.specs.Refusal.{Outcome, accepted, require, and_then, #length, #position, #tiles, #entries, #padding}

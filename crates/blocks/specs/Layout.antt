@@ -1,16 +1,16 @@
 -- The numbers of the house layout (document 01, "Blocks"; 02.1, 02.2), each under one name. What depends on the axes is
 -- a formula of their number a: 2 in a plan town, 3 in one with height.
 --
---   block_size                           bytes of a block
---   plan, height                        the numbers of axes
---   max_length                           bytes of the longest file
+--   block_size                             bytes of a block
+--   plan, height                           the numbers of axes
+--   max_length                             bytes of the longest file
 --   sync_byte, directory_kind, tile_kind   what bytes 0 and 1 hold
---   kind_at .. check_at                   where each field of a block starts
---   payload_size                         room for entries or sites
+--   kind_at .. check_at                    where each field of a block starts
+--   payload_size                           room for entries or sites
 --   entry_size, number_offset, count_offset, muted_offset   an entry, and where its fields start
---   site_size, cue_offset                 a site, and where its cue starts
+--   site_size, cue_offset                  a site, and where its cue starts
 --   entries_per_block, max_sites           how many of them a block holds
---   max_tiles                            the largest T
+--   max_tiles                              the largest T
 use Rattle.std.specs.Prelude.{ℕ, ◌+◌, ◌*◌, ◌/◌, cond, eqb}
 
 -- "512 bytes"

@@ -1,6 +1,6 @@
 -- Numbers and their bytes. Assumes nothing.
 --
---   number_at, numbers               k bytes as a number, and how many numbers they have
+--   number_at, numbers              k bytes as a number, and how many numbers they have
 --   number_read, number_held, number-16, number-32   the laws below, for any width; the two widths
 --   read_16, read_32, read_signed   what was written is read back
 --   u16_small, u32_small            what is read is below its limit

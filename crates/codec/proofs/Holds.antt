@@ -46,7 +46,8 @@ module _ {s : List ℕ} {i : ℕ} {vs : List ℕ} (h : Holds s i vs) where
   holds-part n a k e l = record {
     at = λ j q.
         let w : a + (k + j) ≡ i + j = omega arith in
-        get_or-take n (drop a s) (k + j) 0 (omega arith) ∙ get_or-drop a s (k + j) 0 ∙ ap (λ x. get_or s x 0) w ∙ h.at j q;
+        get_or-take n (drop a s) (k + j) 0 (omega arith) ∙ get_or-drop a s (k + j) 0 ∙ ap (λ x. get_or s x 0) w
+        ∙ h.at j q;
   }
 
   -- at an index that is the same

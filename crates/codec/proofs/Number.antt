@@ -67,7 +67,8 @@ signed-bits (negsuc n) h =
 
 pub bits-signed : (n : ℕ) → n < limit32 → bits (signed n) ≡ n
 unfolding bits signed
-bits-signed n h = by_test (ltb n limit_signed) (λ e. rw e) (λ e. let k = ltb-false n limit_signed e in rw e (omega arith))
+bits-signed n h = by_test (ltb n limit_signed) (λ e. rw e)
+    (λ e. let k = ltb-false n limit_signed e in rw e (omega arith))
 
 pub signed-small : (n : ℕ) → n < limit32 → mag (signed n) < limit_signed
 unfolding signed

@@ -1,7 +1,7 @@
 -- The bytes of a number, "little-endian" (document 01, "Blocks").
 --
 --   bytes, bytes16, bytes32   of an unsigned number: k bytes, 2, 4
---   bits, bytes_signed         of a signed one, by its 32 bits
+--   bits, bytes_signed        of a signed one, by its 32 bits
 use Rattle.std.specs.Prelude.{ℕ, zero, suc, ◌-◌, ◌/◌, ◌%◌, List, [], ◌∷◌, ℤ, pos, negsuc}
 
 -- the k low bytes of n, the lowest first

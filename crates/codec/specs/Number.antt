@@ -1,9 +1,9 @@
 -- Numbers at a position of a list of bytes, "little-endian" (document 01, "Blocks").
 --
---   Bytes                           a list of bytes
+--   Bytes                            a list of bytes
 --   limit16, limit32, limit_signed   what numbers of these widths are below
---   u16_at, u32_at, i32_at             the number at an index
---   signed                          bits read as a signed number
+--   u16_at, u32_at, i32_at           the number at an index
+--   signed                           bits read as a signed number
 use Rattle.std.specs.Prelude.{ℕ, ◌+◌, ◌*◌, ◌-◌, ◌<◌, cond, List, ltb, ℤ, pos, negsuc, get_or}
 
 -- a list of bytes: every element is below 256 (past its end `get_or` gives 0)

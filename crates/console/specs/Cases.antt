@@ -2,10 +2,10 @@
 -- is "the town above", from the lists that the writer takes to the bytes of its file, to the end of the call and to the
 -- printed bytes.
 --
---   box, from0                    boxes by their ends
+--   box, from0                     boxes by their ends
 --   town_file, origin, request     the file of case 12, its stop, and what the program is given
 --   holding, lent_for              slices at the end and at the start of the call
---   Case, table, Says, AllSay     the cases, and what they say
+--   Case, table, Says, AllSay      the cases, and what they say
 use Rattle.std.specs.Prelude.{ℕ, ◌+◌, List, [], ◌∷◌, ◌++◌, ◌≡◌, ℤ, pos, neg_ℤ, length, replicate}
 use Prim.Native.String.{String}
 use Rattle.base.specs.Refusal.{accepted}

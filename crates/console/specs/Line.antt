@@ -2,9 +2,9 @@
 -- line feed."
 --
 --   refused_line, counts_line   of a refusal; the first of an answer
---   separator, place_text      what stands before a place, and a place
+--   separator, place_text       what stands before a place, and a place
 --   text_at, places_text        places of a stop, from the slices: one, all
---   stop_line                  of a stop
+--   stop_line                   of a stop
 use Rattle.std.specs.Prelude.{ℕ, zero, suc, ◌+◌, ◌*◌, List, ◌++◌, get_or}
 use Rattle.base.specs.Tabulate.{joined}
 use Rattle.console.specs.Text.{text_bytes, labelled}

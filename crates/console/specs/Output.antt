@@ -2,7 +2,7 @@
 --
 --   empty_slices, end_of    what the program lends to the join, and the join's end
 --   answer_text, end_text   an outcome as text, and such an end
---   output                all that is printed
+--   output                  all that is printed
 use Rattle.std.specs.Prelude.{ℕ, cond, List, [], ◌∷◌, ◌++◌, replicate}
 use Rattle.base.specs.Refusal.{Outcome, accepted, refused}
 use Rattle.base.specs.Tabulate.{joined}

@@ -4,7 +4,7 @@
 --   k_of, stops_asked           k and n
 --   coordinates, xs_of, ys_of   the stops by columns
 --   head_length, file_of        the bytes before the file, and the file
---   well_formed                whether the join is asked
+--   well_formed                 whether the join is asked
 use Rattle.std.specs.Prelude.{ℕ, ◌+◌, ◌*◌, Bool, ◌&&◌, List, leb, ℤ, length, drop}
 use Rattle.base.specs.Tabulate.{tabulate}
 use Rattle.codec.specs.Number.{u32_at, i32_at}

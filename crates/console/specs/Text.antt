@@ -1,10 +1,10 @@
 -- Words and numbers as bytes, and what a call that writes text leaves.
 --
---   text_bytes                           a text
+--   text_bytes                            a text
 --   width_up_to, width, digits, decimal   a number: how many digits, the last ones, all
---   value_from                           a number read from its digits
---   labelled                            a word and a number
---   Wrote                               a call that wrote a text
+--   value_from                            a number read from its digits
+--   labelled                              a word and a number
+--   Wrote                                 a call that wrote a text
 use Prim.Native.Char.{code}
 use Rattle.std.specs.Prelude.{ℕ, zero, suc, ◌+◌, ◌*◌, ◌-◌, ◌/◌, ◌%◌, cond, List, [], ◌∷◌, ◌++◌, ◌≡◌, ltb, length}
 use Prim.Native.String.{String, [] as nil, ◌∷◌ as ◌∙∷◌}

@@ -2,7 +2,7 @@
 --
 --   length_head, length-number, length-box, length-box-count, length_entry, length_site   the length of each part
 --   length-entries, length-sites                of several
---   length_body, length-block_bytes              of a block
+--   length_body, length-block_bytes             of a block
 --   length-directory_block, length_tile_block   of a block of each kind
 --   parts_fit                                   entries or sites in a payload
 --   one-part, part_within                       parts of one width
@@ -246,7 +246,8 @@ module _ (l : List ℕ) (at : ℕ) where
       d₂ ≡ over d₁ (at + reserved_at) (replicate (at + payload_at - (at + reserved_at)) 0) →
       d₃ ≡ over d₂ (at + payload_at) payload →
       d₄ ≡ over d₃ (at + used) (replicate (at + check_at - (at + used)) 0) →
-      d₅ ≡ over d₄ (at + check_at) (check_bytes (take block_size (drop at d₄))) → d₅ ≡ over l at (block_bytes head payload)
+      d₅ ≡ over d₄ (at + check_at) (check_bytes (take block_size (drop at d₄))) → d₅
+      ≡ over l at (block_bytes head payload)
   unfolding block_bytes body_bytes check_bytes
   block_row head payload used n u fits room {d₁} {d₂} {d₃} {d₄} e₁ e₂ e₃ e₄ e₅ =
       let z : at + payload_at - (at + reserved_at) ≡ payload_at - reserved_at = omega arith in
@@ -266,7 +267,8 @@ module _ (l : List ℕ) (at : ℕ) where
       let room₄ : length d₄ ≡ length l = ap length b₄ ∙ length_over l at body in
       let size : length (take block_size (drop at d₄)) ≡ block_size =
       length-take-le block_size (drop at d₄) (omega (arith, length-drop at d₄)) in
-      let s = sums_body (take block_size (drop at d₄)) body (holds-part held block_size at 0 (omega arith) (omega arith))
+      let s = sums_body (take block_size (drop at d₄)) body
+      (holds-part held block_size at 0 (omega arith) (omega arith))
       m₄
       (omega arith) in
       also l at (at + check_at) body (check_bytes body) b₄

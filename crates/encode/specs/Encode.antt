@@ -1,11 +1,11 @@
 -- The bytes of a file (document 01, "Blocks"; 02.1, 02.2), for a number of axes a.
 --
 --   head_bytes, body_bytes, check_bytes   of a block: bytes 0 to 7, 0 to 509, the last two
---   block_bytes                         a block
+--   block_bytes                           a block
 --   box_bytes, entry_bytes, site_bytes    a box, an entry, a site
---   directory_bytes                     a directory block
+--   directory_bytes                       a directory block
 --   tile_bytes, tile_bytes_of             a tile block: of a run of sites, of a tile
---   file_bytes, file_length              the file, and its length
+--   file_bytes, file_length               the file, and its length
 use Rattle.std.specs.Prelude.{ℕ, ◌+◌, ◌*◌, ◌-◌, List, [], ◌∷◌, ◌++◌, ℤ, pos, get_or, length, replicate}
 use Rattle.base.specs.Tabulate.{joined}
 use Rattle.blocks.specs.Checksum.{sums}

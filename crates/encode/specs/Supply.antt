@@ -1,12 +1,12 @@
 -- The writer's lists (document 01, "Writer, full check, host, program"; 02.1, 02.2): "boxes, counts, and x, y, cue
 -- lists in tile order"; the spots are columns, a list of coordinates for each axis, z after y.
 --
---   Supply, supply                    the lists as one value
---   axes_of, header_of, tiles_of         the axes; T with the axes as a header, and as a number
+--   Supply, supply                        the lists as one value
+--   axes_of, header_of, tiles_of          the axes; T with the axes as a header, and as a number
 --   numbers_per_box, box_number, box_of   the boxes: how many numbers each, one of them, a box
---   count_of, offset, site_total        the sites: of a tile, of all tiles before it, of all
---   muted_from, muted_of                the muted sites: of a run of sites, of a tile
---   supplied_site, site_of              a site by its index, by tile and slot
+--   count_of, offset, site_total          the sites: of a tile, of all tiles before it, of all
+--   muted_from, muted_of                  the muted sites: of a run of sites, of a tile
+--   supplied_site, site_of                a site by its index, by tile and slot
 use Rattle.std.specs.Prelude.{ℕ, zero, suc, ◌+◌, ◌*◌, List, [], ◌∷◌, ℤ, pos, get_or, length}
 use Rattle.base.specs.HowMany.{how_many}
 use Rattle.base.specs.Tabulate.{tabulate}

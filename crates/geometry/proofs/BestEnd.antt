@@ -76,11 +76,13 @@ module _ (o e b : List ℤ) (ao : Axis o) where
       (λ q.
       let up = at_most_shift x (hi o) lx.small ao.high.small px.to in
       let r = rises_signed x (hi o) y z lx ao.high ly lz up q in
-      best_end_ind o e b (λ w. square x y + near_on b w ≤ far_on e w + square x z) (λ t. omega arith) (λ t. omega arith))
+      best_end_ind o e b (λ w. square x y + near_on b w ≤ far_on e w + square x z) (λ t. omega arith)
+      (λ t. omega arith))
       (λ q.
       let up = at_most_shift (lo o) x ao.low.small lx.small px.from in
       let r = rises_signed (lo o) x z y ao.low lx lz ly up q in
-      best_end_ind o e b (λ w. square x y + near_on b w ≤ far_on e w + square x z) (λ t. omega arith) (λ t. omega arith))
+      best_end_ind o e b (λ w. square x y + near_on b w ≤ far_on e w + square x z) (λ t. omega arith)
+      (λ t. omega arith))
 
 -- the difference from the better end is the larger one
 pub best_gain : (o e b : List ℤ)

@@ -20,7 +20,8 @@ pub data Three : List (List ℤ) → List (List ℤ) → List (List ℤ) → Typ
   next_axis : {o e b : List ℤ} {os es bs : List (List ℤ)} → Axis o → Axis e → Axis b → Three os es bs
       → Three (o ∷ os) (e ∷ es) (b ∷ bs)
 
-pub three : (o e b : List (List ℤ)) → valid_box o ≡ true → valid_box e ≡ true → valid_box b ≡ true → length e ≡ length o →
+pub three : (o e b : List (List ℤ)) → valid_box o ≡ true → valid_box e ≡ true → valid_box b ≡ true → length e
+    ≡ length o →
     length b ≡ length o → Three o e b
 unfolding valid_box
 three [] [] [] t u v p q = no_axis

@@ -1,7 +1,7 @@
 -- Points by columns, one list of coordinates for each axis, and the smallest box around them (document 01, "The join":
 -- "O is the smallest box around the stops").
 --
---   equal_columns                every column has n coordinates
+--   equal_columns               every column has n coordinates
 --   row, rows, points           the point at an index, n from an index on, the first n
 --   foremost, least, greatest   of a list of coordinates
 --   around                      the box from the least to the greatest coordinate on each axis

@@ -2,12 +2,12 @@
 -- is the list of its axes, each the list of its low and its high end; a point is the list of its coordinates.
 -- Everything holds for any number of axes.
 --
---   lowest, highest            the limits of coordinates
---   lo, hi                     the ends of an axis
+--   lowest, highest              the limits of coordinates
+--   lo, hi                       the ends of an axis
 --   within_limits, valid_point   a coordinate, a point to be accepted
 --   valid_axis, valid_box        an axis, a box to be accepted
---   ValidBoxes                 three boxes accepted
---   on_axis, inside             a coordinate on an axis, a point in a box
+--   ValidBoxes                   three boxes accepted
+--   on_axis, inside              a coordinate on an axis, a point in a box
 use Rattle.std.specs.Prelude.{Bool, true, false, ◌&&◌, List, [], ◌∷◌, ◌≡◌, ℤ, pos, negsuc, get_or}
 use Rattle.std.specs.Int.Signed.{le_z}
 

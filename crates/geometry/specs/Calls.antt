@@ -1,11 +1,11 @@
 -- What each public call comes to, for all inputs, and how each answer is read as that outcome (document 01: "Box
 -- arithmetic tests boxes (9), then the point (13)", at block 0).
 --
---   distance_outcome                 an answer as an outcome
---   min_dist_call, max_dist_call        near and far
+--   distance_outcome                  an answer as an outcome
+--   min_dist_call, max_dist_call      near and far
 --   point_of, reached_of              the points of an answer of margin as lists: of two axes, of three
 --   margin_outcome, margin_outcome3   the answer as an outcome
---   margin_call                      the margin with its points
+--   margin_call                       the margin with its points
 use Rattle.std.specs.Prelude.{ℕ, ◌&&◌, List, [], ◌∷◌, ℤ, take}
 use Rattle.base.specs.Refusal.{Outcome, accepted, refused, require, #box, #spot}
 use Rattle.geometry.specs.Box.{valid_box, valid_point}

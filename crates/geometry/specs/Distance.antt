@@ -1,10 +1,10 @@
 -- Squared distance, and the least and the largest of it to a box (document 01, "Three boxes").
 --
---   gap, square               two coordinates apart, and its square
---   D                         of two points
+--   gap, square                two coordinates apart, and its square
+--   D                          of two points
 --   closest, closest_point     where an axis, a box is closest
 --   farthest, farthest_point   where it is farthest
---   min_dist, max_dist          near and far
+--   min_dist, max_dist         near and far
 use Rattle.std.specs.Prelude.{ℕ, ◌+◌, ◌*◌, cond, List, [], ◌∷◌, ltb, ℤ, ◌-ℤ◌, nat_abs}
 use Rattle.std.specs.Int.Signed.{lt_z}
 use Rattle.geometry.specs.Box.{lo, hi}

@@ -1,11 +1,11 @@
 -- The margin of three boxes, its three points, and closer (document 01, "Three boxes"; E is "nearer" than B from O
 -- there).
 --
---   gain                            the difference of squares on one axis
---   best_end, best_point              where in O it is largest: on one axis, on all
---   difference                      of the distances from a point of O
+--   gain                             the difference of squares on one axis
+--   best_end, best_point             where in O it is largest: on one axis, on all
+--   difference                       of the distances from a point of O
 --   Reached, reached_from, reached   margin and points: the record, from a point of O, from the best one
---   margin, closer                  the margin alone, and the test of it
+--   margin, closer                   the margin alone, and the test of it
 use Rattle.std.specs.Prelude.{Bool, cond, List, [], ◌∷◌, ℤ, pos, ◌-ℤ◌}
 use Rattle.std.specs.Int.Signed.{lt_z}
 use Rattle.geometry.specs.Box.{lo, hi}

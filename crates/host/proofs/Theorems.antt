@@ -1,4 +1,5 @@
--- The theorems of the calls for C. The report of a level (`nearby_level`, `level_report`) tells what the call came to, so
+-- The theorems of the calls for C. The report of a level (`nearby_level`, `level_report`) tells what the call came to,
+-- so
 -- that neither silence nor a refusal is taken for a level: `level_told`. The sequence (`nearby_stream_order`,
 -- `nearby_stream_order3`) is refused just as strike is (`nearby_prune`, `nearby_prune3`): `refuses_as_strike`. Assumes
 -- nothing.
@@ -53,7 +54,8 @@ pub level_told : (r q d e : ℕ) → level_report (level_call r d) ≡ level_rep
 unfolding level_call
 level_told r q d e h = tells (valid_reach r) (valid_reach q) (loudness r d) (loudness q e) h
 
--- 02.5: "It refuses as strike does, without 11": for any good k, and marks as many as the slice has elements, what strike
+-- 02.5: "It refuses as strike does, without 11": for any good k, and marks as many as the slice has elements, what
+-- strike
 -- comes to, T alone of its counts
 pub refuses_as_strike : (f : List ℕ) (o : List (List ℤ)) (k : ℕ) (marks order : List ℕ) → valid_k k ≡ true
     → length marks ≡ length order

@@ -25,7 +25,8 @@ use Rattle.search.specs.Inner.Walk.{Trace, cut_walks}
 use Rattle.search.specs.Limits.{max_k}
 use Rattle.search.specs.Plan.{Lawful, ranked}
 use Rattle.search.specs.Pruning.{pruned, pruned_count}
-use Rattle.search.specs.Run.{no_place, candidate, candidates, queue, join, in_rows, places_used, mark, marks, opened_mark}
+use Rattle.search.specs.Run.{no_place, candidate, candidates, queue, join, in_rows, places_used, mark, marks}
+use Rattle.search.specs.Run.{opened_mark}
 use Rattle.search.specs.Run.{pruned_mark}
 use Rattle.search.specs.declared.Place.{Place}
 use Rattle.serve.specs.Inner.Marks.{mark_all}

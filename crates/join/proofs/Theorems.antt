@@ -136,45 +136,46 @@ past_stays f cols k out h d =
 -- "Any file of the same length, equal to this one in every byte of the directory and of the opened tiles"
 module _ (f : List ℕ) (cols : List (List ℤ)) (k : ℕ) (g : List ℕ) (h : Header) (d : directory f ≡ accepted h)
     (same : SameDirectory f g h)
-    (alike : All (λ t. block_at g (tile_position h t) ≡ block_at f (tile_position h t)) (run_for f h cols k).openings) where
-  known : KnownAxes h.axes
-  known = ((directory_exactly f h).0 d).axes
+    (alike : All (λ t. block_at g (tile_position h t) ≡ block_at f (tile_position h t)) (run_for f h cols k).openings)
+  where
+    known : KnownAxes h.axes
+    known = ((directory_exactly f h).0 d).axes
 
-  module _ (out : Slices) where
-    ended_same : (u : List ℕ) (o : Outcome (List (List Place))) → ended g h cols k u out o ≡ ended f h cols k u out o
-    unfolding ended filled
-    ended_same u (accepted ls) =
-        let o = around cols in
-        rw (
-          used_depends f g h known same k,
-          pruned_count_depends f g h known same o k,
-          marks_depend f g h known same o k u,
-        )
-    ended_same u (refused x y) = refl
+    module _ (out : Slices) where
+      ended_same : (u : List ℕ) (o : Outcome (List (List Place))) → ended g h cols k u out o ≡ ended f h cols k u out o
+      unfolding ended filled
+      ended_same u (accepted ls) =
+          let o = around cols in
+          rw (
+            used_depends f g h known same k,
+            pruned_count_depends f g h known same o k,
+            marks_depend f g h known same o k u,
+          )
+      ended_same u (refused x y) = refl
 
-    run-same : run_end g h cols k out ≡ run_end f h cols k out
-    unfolding run_end run_for
-    run-same =
-        let r = run_for f h cols k in
-        rw (join_depends f g h known same (around cols) k (stops_of cols) alike) (ended_same r.openings r.outcome)
+      run-same : run_end g h cols k out ≡ run_end f h cols k out
+      unfolding run_end run_for
+      run-same =
+          let r = run_for f h cols k in
+          rw (join_depends f g h known same (around cols) k (stops_of cols) alike) (ended_same r.openings r.outcome)
 
-    -- with the same slices the whole end of the call is the same, refusals included
-    pub other_files : join_end g cols k out ≡ join_end f cols k out
-    unfolding join_end tests join_from
-    other_files =
-        let e = same-directory f g h d same in
-        rw (d, e) (by_outcome (arguments h cols k (lengths_of out)) (λ x q. rw q run-same) (λ n b q. rw q))
+      -- with the same slices the whole end of the call is the same, refusals included
+      pub other_files : join_end g cols k out ≡ join_end f cols k out
+      unfolding join_end tests join_from
+      other_files =
+          let e = same-directory f g h d same in
+          rw (d, e) (by_outcome (arguments h cols k (lengths_of out)) (λ x q. rw q run-same) (λ n b q. rw q))
 
-  -- "for the same stops, k and output lengths", whatever the slices held before
-  module _ (out out' : Slices) (l : lengths_of out' ≡ lengths_of out) where
-    -- the outcome is the same, refusals included
-    pub same_outcome : (join_end g cols k out').outcome ≡ (join_end f cols k out).outcome
-    same_outcome = ap (λ (z : End). z.outcome) (other_files out') ∙ lengths_decide f cols k out out' l
+    -- "for the same stops, k and output lengths", whatever the slices held before
+    module _ (out out' : Slices) (l : lengths_of out' ≡ lengths_of out) where
+      -- the outcome is the same, refusals included
+      pub same_outcome : (join_end g cols k out').outcome ≡ (join_end f cols k out).outcome
+      same_outcome = ap (λ (z : End). z.outcome) (other_files out') ∙ lengths_decide f cols k out out' l
 
-    -- "gets an answer with the same lists, marks and counts": where tests 11 to 14 and 17 pass, of refused runs too
-    pub same_answer : arguments h cols k (lengths_of out) ≡ accepted tt
-        → SameAnswer cols k h (join_end f cols k out) (join_end g cols k out')
-    same_answer a = rw (other_files out') (answer_alike f cols k out out' l h d a)
+      -- "gets an answer with the same lists, marks and counts": where tests 11 to 14 and 17 pass, of refused runs too
+      pub same_answer : arguments h cols k (lengths_of out) ≡ accepted tt
+          → SameAnswer cols k h (join_end f cols k out) (join_end g cols k out')
+      same_answer a = rw (other_files out') (answer_alike f cols k out out' l h d a)
 
 -- "no struck tile is opened, not even in a refused run", and none without a sounding site, as it can be seen: whatever
 -- the blocks of these hold, outcome and slices are the same

@@ -1,6 +1,6 @@
 -- What the demands claim of a call: about the file, the answer, and the lent slices at the end.
 --
---   full_run_for       the run that striking is compared with
+--   full_run_for     the run that striking is compared with
 --   SameAnswer       two calls with the same lists, marks and counts
 --   RefusedRun       a call whose run is refused
 --   SameCandidates   two files that are alike in all tiles that a run may open

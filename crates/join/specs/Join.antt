@@ -3,7 +3,7 @@
 --
 --   Result, join_outcome      what the answer carries
 --   run_for                   the run of the search on a file
---   tests                    tests 1 to 14 and 17
+--   tests                     tests 1 to 14 and 17
 --   filled, result_of         what a run writes, and its result
 --   ended, run_end            the end of a run
 --   End, join_end             what the call comes to, and the slices at its end

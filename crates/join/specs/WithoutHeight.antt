@@ -1,6 +1,6 @@
 -- The join without 02.2: no test for 17.
 --
---   tests_on_plan     tests 1 to 14
+--   tests_on_plan      tests 1 to 14
 --   join_end_on_plan   what the call comes to, and the slices at its end
 use Rattle.std.specs.Prelude.{ℕ, List, ℤ}
 use Rattle.base.specs.Refusal.{Outcome, accepted, and_then}

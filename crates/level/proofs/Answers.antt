@@ -1,11 +1,11 @@
 -- What an answer of the call shows, and when it answers a level. Assumes nothing.
 --
---   Answered, answered        an answer: the reach is valid, and the answer is the place's loudness
---   within, heard             a place that is not silent
---   not_silent                what the test of silence shows
---   Level, level_of_lem           an answer that is a level
---   answer_at                 the answer where the fraction is a known one
---   not_below                 no float is below itself
+--   Answered, answered         an answer: the reach is valid, and the answer is the place's loudness
+--   within, heard              a place that is not silent
+--   not_silent                 what the test of silence shows
+--   Level, level_of_lem        an answer that is a level
+--   answer_at                  the answer where the fraction is a known one
+--   not_below                  no float is below itself
 use Prim.Native.Nat.{ℕ, ◌+◌, ◌*◌, ◌≤◌, ◌<◌}
 use mathlib.Core.Bool.{true, false}
 use mathlib.Core.Path.{◌≡◌, sym, ap, ◌∙◌}

@@ -1,10 +1,10 @@
 -- Some answers, with levels by their 64-bit patterns. The first is that of document 02. The patterns are those that C
 -- gives.
 --
---   Case, row                      a reach, a squared distance, and the answer due
+--   Case, row                        a reach, a squared distance, and the answer due
 --   bits, silence, out_of_limits     answers: a level by its bits, silence, 18
---   levels, ends, refusals         the cases
---   AllSay                         what a row of cases says
+--   levels, ends, refusals           the cases
+--   AllSay                           what a row of cases says
 use Rattle.std.specs.Prelude.{ℕ, List, [], ◌∷◌, map, ◌≡◌}
 use Rattle.std.specs.Float.{binary64}
 use Rattle.std.specs.Float.Ieee.{of_bits}

@@ -6,7 +6,7 @@
 --   Nearest              a float is the value of its format nearest to a fraction, a tie to the even one
 --   Is                   a float is a whole number, exactly
 --   zero, half, one      0.0, 0.5 and 1.0
---   least_level           the float nearest to 1 / 101
+--   least_level          the float nearest to 1 / 101
 --   Sounds               what holds where the call answers a level
 --   NoLouder             the order of loudness: silence is below every level
 use Rattle.std.specs.Prelude.{ℕ, ◌+◌, ◌-◌, ◌*◌, ◌%◌, ◌≤◌, false, cond, ◌⊎◌, ◌≡◌, T, pos, negsuc, Float}

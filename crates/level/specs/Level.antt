@@ -2,10 +2,10 @@
 --
 --   max_reach, valid_reach        the reaches
 --   last_heard, is_silent         the largest d that is not silent
---   float, quotient             whole numbers as 64-bit floats, and the quotient of two of them
---   level_of                     the level of a place that is not silent
---   Loudness, silent, level     what the mixer is told: silence, or a level
---   loudness                    of a place
+--   float, quotient               whole numbers as 64-bit floats, and the quotient of two of them
+--   level_of                      the level of a place that is not silent
+--   Loudness, silent, level       what the mixer is told: silence, or a level
+--   loudness                      of a place
 --   level_outcome, level_call     the answer as an outcome; what the call comes to, for all inputs
 use Rattle.std.specs.Prelude.{ℕ, ◌+◌, ◌*◌, Bool, cond, ◌&&◌, leb, ltb, pos, Float}
 use Rattle.std.specs.Float.{binary64}

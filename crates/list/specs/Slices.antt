@@ -3,7 +3,7 @@
 --
 --   Lists, lists         the three slices as one value
 --   Long                 how long they are at least
---   place_at              the place at an index
+--   place_at             the place at an index
 --   dists, sites, cues   what each slice holds of a list of places
 --   lay                  the slices with a list of places written from an index on
 --   Slices, lent         these three and the marks

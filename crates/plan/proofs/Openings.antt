@@ -78,7 +78,8 @@ module _ (f : List ℕ) (h : Header) (t : ℕ) where
       (λ n b e. rw e)
 
   -- the block of a tile that opens
-  pub opened_block : TileOf f h t → Opens f h t → BlockOf f h t (block_at f (tile_position h t)) (length (town_of f h t))
+  pub opened_block : TileOf f h t → Opens f h t
+      → BlockOf f h t (block_at f (tile_position h t)) (length (town_of f h t))
   unfolding opening_of sites_at site_at tile_position
   opened_block tile e =
       let good = directory_good f tile.dir in

@@ -1,8 +1,8 @@
 -- A file whose directory is accepted, as the search sees it.
 --
 --   cue_ranks     whether a site with this cue ranks
---   space        the geometry of documents 01 and 02
---   entries      the directory's boxes, counts and muted numbers
+--   space         the geometry of documents 01 and 02
+--   entries       the directory's boxes, counts and muted numbers
 --   opening_of    what opening a tile gives
 --   town_of       the file's own town
 use Rattle.std.specs.Prelude.{ℕ, ◌<◌, Bool, true, not, List, ◌≡◌, ℤ}

@@ -1,7 +1,7 @@
 -- Document 01, "Striking", with 02.2: what the call comes to, and what it leaves in the marks.
 --
---   Counts, prune_outcome     what the answer carries
---   prune_call                what the call comes to
+--   Counts, prune_outcome      what the answer carries
+--   prune_call                 what the call comes to
 --   prune_marks, marks_after   the marks of the tiles, and the slice at the end
 use Rattle.std.specs.Prelude.{ℕ, List, map, eqb, leb, ℤ, length}
 use Rattle.base.specs.Over.{over}

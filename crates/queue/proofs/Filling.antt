@@ -10,7 +10,8 @@ use Rattle.base.proofs.Over.{over_nil, over-cons}
 
 module _ (g : ℕ → ℕ) (order keys : List ℕ) (j : ℕ) where
   pub keys_turn : j < length order
-      → over (set keys j (g (get_or order j 0))) (j + 1) (map g (drop (j + 1) order)) ≡ over keys j (map g (drop j order))
+      → over (set keys j (g (get_or order j 0))) (j + 1) (map g (drop (j + 1) order))
+      ≡ over keys j (map g (drop j order))
   keys_turn h =
       rw (add-one j, drop-cons order j 0 h)
       (sym (over-cons keys j (g (get_or order j 0)) (map g (drop (suc j) order))))

@@ -44,7 +44,8 @@ use Rattle.queue.proofs.Scanning.{least_low, least_here}
 -- of tiles whose keys stand from index a on, those with a key
 unfoldable pub living_at : List ℕ → ℕ → List ℕ → List ℕ
 living_at keys a [] = []
-living_at keys a (t ∷ ts) = cond (ltb (get_or keys a 0) none) (t ∷ living_at keys (suc a) ts) (living_at keys (suc a) ts)
+living_at keys a (t ∷ ts) = cond (ltb (get_or keys a 0) none) (t ∷ living_at keys (suc a) ts)
+    (living_at keys (suc a) ts)
 
 abbrev pub living : List ℕ → List ℕ → List ℕ
 living order keys = living_at keys 0 order
@@ -171,7 +172,8 @@ module _ {G : Geometry} (E : Directory G) (p : G.Stop) where
         let k = own_key on in
         let ahead = lex_less {a = near E p next} {c = near E p t} next t (omega (arith, n.0)) in
         rw (living_at_on keys a t ts on, living_at_on keys' a t ts (omega arith), d)
-        (sort-cons t (living_at keys (suc a) ts) ∙ ap (insert (by_key E p) t) ih ∙ insert_skip (by_key E p) t next _ ahead
+        (sort-cons t (living_at keys (suc a) ts) ∙ ap (insert (by_key E p) t) ih
+        ∙ insert_skip (by_key E p) t next _ ahead
         ∙ ap (λ l. next ∷ l) (sym (sort-cons t (living_at keys' (suc a) ts)))))
         (λ e.
         let off = ltb-false (get_or keys a 0) none e in

@@ -1,13 +1,13 @@
 -- Document 01, "The join", with 02.1: the ranking, the run over the stops, and what it gives out.
 --
---   rank, ahead_of                   sites in their ranking; a place ahead of a key
+--   rank, ahead_of                    sites in their ranking; a place ahead of a key
 --   listing, tile_places, places_of   the places of sites, of a tile, of some tiles of a town
---   nearest                         the first k of them
+--   nearest                           the first k of them
 --   by_key, in_order, candidate, queue   the tiles of a stop by key
---   full_queue                       the same with the struck ones
---   ahead, enough                   the end of a stop's search
---   Reading, contents, Checked      what openings give
---   serve, run, join                one stop, the stops in turn, the join
+--   full_queue                        the same with the struck ones
+--   ahead, enough                     the end of a stop's search
+--   Reading, contents, Checked        what openings give
+--   serve, run, join                  one stop, the stops in turn, the join
 --   padded, in_rows, places_used, mark, marks   what it gives out
 use Rattle.std.specs.Prelude.{ℕ, suc, ◌*◌, ◌/◌, ◌<◌, min, Bool, true, cond, not, ◌&&◌, List, [], ◌∷◌, ◌++◌, map, ◌≡◌, ltb, leb, take, replicate}
 use Rattle.base.specs.Refusal.{Outcome, accepted, refused, and_then}

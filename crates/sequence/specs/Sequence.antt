@@ -1,9 +1,9 @@
 -- 02.5: the sequence, of tiles by number and any relation between them. `closer a b`: tile a is nearer than tile b.
 --
 --   without, lowest_of   a list without a number, and its lowest number
---   free                none of the tiles left is nearer than this one
---   next                the tile that comes next
---   steps, sequence     those that come next, one after the other; of all tiles
+--   free                 none of the tiles left is nearer than this one
+--   next                 the tile that comes next
+--   steps, sequence      those that come next, one after the other; of all tiles
 use Rattle.std.specs.Prelude.{ℕ, zero, suc, min, Bool, not, List, [], ◌∷◌, eqb}
 use Rattle.search.specs.Lists.{range, count, filter}
 

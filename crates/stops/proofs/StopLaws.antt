@@ -18,7 +18,8 @@ use Rattle.stops.specs.Stops.{stop_count, stop_at, stops_of}
 -- the rest of the list is looked at from the best so far
 module _ (lt : ℤ → ℤ → Bool) (xs : List ℤ) where
   pub foremost_turn : (a : ℤ) (i : ℕ) → i < length xs →
-      foremost lt (cond (lt (get_or xs i (pos 0)) a) (get_or xs i (pos 0)) a) (drop (i + 1) xs) ≡ foremost lt a (drop i xs)
+      foremost lt (cond (lt (get_or xs i (pos 0)) a) (get_or xs i (pos 0)) a) (drop (i + 1) xs)
+      ≡ foremost lt a (drop i xs)
   unfolding foremost
   foremost_turn a i h = rw (drop-cons xs i (pos 0) h, add-one i)
 
@@ -60,7 +61,12 @@ module _ (cols : List (List ℤ)) where
       → over (set l i (stop_at cols i)) (i + 1) (rows cols (i + 1) (n - (i + 1))) ≡ over l i (rows cols i (n - i))
   points_turn l i n h =
       let e : n - i ≡ suc (n - (i + 1)) = omega arith in
-      rw (e, rows_next cols i (n - (i + 1)), over-cons l i (stop_at cols i) (rows cols (i + 1) (n - (i + 1))), add-one i)
+      rw (
+        e,
+        rows_next cols i (n - (i + 1)),
+        over-cons l i (stop_at cols i) (rows cols (i + 1) (n - (i + 1))),
+        add-one i,
+      )
 
   pub points_done : (l : List (List ℤ)) (i n : ℕ) → n ≤ i → l ≡ over l i (rows cols i (n - i))
   points_done l i n h =

@@ -1,8 +1,8 @@
 -- 02.5, "A sequence for streaming": what the call comes to, and what it leaves in the lent slice.
 --
---   stream_outcome           what the answer carries
---   closer_from              from O one tile of a file is nearer than another
---   stream_call              what the call comes to
+--   stream_outcome            what the answer carries
+--   closer_from               from O one tile of a file is nearer than another
+--   stream_call               what the call comes to
 --   tile_order, order_after   the tiles in their sequence, and the slice at the end
 use Rattle.std.specs.Prelude.{ℕ, Bool, List, eqb, leb, ℤ, length}
 use Rattle.base.specs.Over.{over}

@@ -115,17 +115,19 @@ pub validate_on_plan_lem : (f : List ℕ) → PlanFile f → validate f ≡ vali
 validate_on_plan_lem f town = height.check_on_plan f town
 
 -- what an opening comes to, and the tile's sites, depend on its own block, its entry and the header alone
-module _ (f g : List ℕ) (h : Header) (t : ℕ) (block : block_at g (tile_position h t) ≡ block_at f (tile_position h t)) where
-  pub site_depends : (slot : ℕ) → site_at g h t slot ≡ site_at f h t slot
-  unfolding site_at
-  site_depends slot = rw block
+module _ (f g : List ℕ) (h : Header) (t : ℕ) (block : block_at g (tile_position h t) ≡ block_at f (tile_position h t))
+  where
+    pub site_depends : (slot : ℕ) → site_at g h t slot ≡ site_at f h t slot
+    unfolding site_at
+    site_depends slot = rw block
 
-  module _ (count : count_at g h t ≡ count_at f h t) where
-    pub sites_depend : sites_at g h t ≡ sites_at f h t
-    unfolding sites_at site_at
-    sites_depend =
-        ap (λ s. tabulate (site_in h.axes s) 0 (count_at g h t)) block ∙ ap (tabulate (site_at f h t) 0) count
+    module _ (count : count_at g h t ≡ count_at f h t) where
+      pub sites_depend : sites_at g h t ≡ sites_at f h t
+      unfolding sites_at site_at
+      sites_depend =
+          ap (λ s. tabulate (site_in h.axes s) 0 (count_at g h t)) block ∙ ap (tabulate (site_at f h t) 0) count
 
-    pub opening_depends : box_at g h t ≡ box_at f h t → muted_at g h t ≡ muted_at f h t → open_tile g h t ≡ open_tile f h t
-    unfolding open_tile
-    opening_depends bounds muted = rw (block, bounds, count, muted)
+      pub opening_depends : box_at g h t ≡ box_at f h t → muted_at g h t ≡ muted_at f h t → open_tile g h t
+          ≡ open_tile f h t
+      unfolding open_tile
+      opening_depends bounds muted = rw (block, bounds, count, muted)

@@ -93,7 +93,8 @@ module _ (a : ℕ) (s : List ℕ) (p : ℕ) (bounds : List (List ℤ)) (count mu
       (λ e. accepted_refused refl e))))))
 
 -- where the sites of a block end
-pub site_room : (a slot : ℕ) → KnownAxes a → slot < max_sites a → payload_at + site_size a * slot + site_size a ≤ check_at
+pub site_room : (a slot : ℕ) → KnownAxes a → slot < max_sites a
+    → payload_at + site_size a * slot + site_size a ≤ check_at
 site_room a slot k =
     by_axes (λ a. slot < max_sites a → payload_at + site_size a * slot + site_size a ≤ check_at)
     (λ l. omega (arith, l)) (λ l. omega (arith, l)) a k

@@ -17,7 +17,8 @@ use Rattle.blocks.proofs.Theorems.{directory_on_plan_lem, plan_towns, entries_on
 use Rattle.tiles.specs.Tile.{site_offset, site_in, muted_in, tile_padding, site_inside, tile_block, tile_position}
 use Rattle.tiles.specs.Tile.{open_tile, site_at, sites_at}
 use Rattle.tiles.specs.Validate.{open_all, validate}
-use Rattle.tiles.specs.WithoutHeight.{site_on_plan, site_inside_on_plan, tile_block_on_plan, open_tile_on_plan, sites_on_plan}
+use Rattle.tiles.specs.WithoutHeight.{site_on_plan, site_inside_on_plan, tile_block_on_plan, open_tile_on_plan}
+use Rattle.tiles.specs.WithoutHeight.{sites_on_plan}
 use Rattle.tiles.specs.WithoutHeight.{open_all_on_plan, validate_on_plan}
 
 block_on_plan : (s : List ℕ) (p : ℕ) (bounds : List (List ℤ)) (count muted : ℕ) →

@@ -1,8 +1,8 @@
 -- Without 02.1: the openings, and the full check.
 --
 --   tile_block01, open_tile01   all tests of a tile block: of its bytes, of a file
---   open_all01, validate01     the full check
---   NoneMuted                 a tile that has no muted site, where document 01 opens it
+--   open_all01, validate01      the full check
+--   NoneMuted                   a tile that has no muted site, where document 01 opens it
 use Rattle.std.specs.Prelude.{ℕ, ◌<◌, false, List, ◌≡◌, eqb, ℤ}
 use Rattle.base.specs.Every.{every}
 use Rattle.base.specs.Refusal.{Outcome, accepted, require, and_then, #position, #entries, #padding, #stray, in_turn}

@@ -1,12 +1,12 @@
 -- The opening of a tile, and its sites (document 01, "Blocks" and "Numbers given to bad input"; 02.1, 02.2). A block is
 -- read for a number of axes a.
 --
---   Site                            a site: its point, by coordinates, and its cue
+--   Site                              a site: its point, by coordinates, and its cue
 --   site_offset, site_in              a slot of a block: where it starts, its site
 --   muted_cue, muted_in               whether a cue mutes; how many sites of a block are muted
 --   tile_padding, site_inside         tests 8 and 10
 --   tile_block, open_tile             all tests of a tile block: of its bytes, of a file
---   tile_position                    the position of a tile's block
+--   tile_position                     the position of a tile's block
 --   site_at, sites_at                 the sites of a tile: by slot, all
 use Rattle.std.specs.Prelude.{ℕ, ◌+◌, ◌*◌, Bool, ◌&&◌, List, eqb, ℤ}
 use Rattle.base.specs.Refusal.{Outcome, accepted, require, and_then, #position, #entries, #padding, #stray, #muted}

@@ -1,9 +1,9 @@
 -- Without 02.2: openings and the full check as document 01 and 02.1 have them, by their own numbers.
 --
---   site_on_plan, site_inside_on_plan            the site of a slot of a block, and test 10 of it
+--   site_on_plan, site_inside_on_plan             the site of a slot of a block, and test 10 of it
 --   tile_block_on_plan, open_tile_on_plan         all tests of a tile block: of its bytes, of a file
---   sites_on_plan                             the sites of a tile
---   open_all_on_plan, validate_on_plan           the full check
+--   sites_on_plan                                 the sites of a tile
+--   open_all_on_plan, validate_on_plan            the full check
 use Rattle.std.specs.Prelude.{ℕ, ◌+◌, ◌*◌, Bool, ◌&&◌, List, [], ◌∷◌, eqb, ℤ}
 use Rattle.base.specs.Every.{every}
 use Rattle.base.specs.HowMany.{how_many}

@@ -1,8 +1,8 @@
 -- A file and the lists from which the writer makes it (demand 2: "A file passes the full check exactly when our writer
 -- makes it from some town").
 --
---   Unsigned, Signed, Typed        lists that slices can hold; the lists of a call
---   Made                           the writer makes this file from these lists
+--   Unsigned, Signed, Typed          lists that slices can hold; the lists of a call
+--   Made                             the writer makes this file from these lists
 --   box_numbers, column, supply_of   lists from a file: of a box, of one field, all
 use Rattle.std.specs.Prelude.{ℕ, ◌<◌, List, ◌++◌, map, ◌≡◌, ℤ, pos, get_or, length}
 use Rattle.std.specs.Int.Signed.{mag}

@@ -1,10 +1,10 @@
 -- The writer's call (document 01, "Writer, full check, host, program"; 02.2).
 --
 --   tiles_fit, entry_fits, lists_fit   tests 6, 9 of a tile, and 15 of the site lists
---   sites_fit, tile_fits              test 10: of a run of sites, of a tile
---   write_tests                      all tests in order
---   write_outcome, write_call         what the answer and what the call comes to
---   leaves, write_exit               the output slice afterwards: by outcome, of the call
+--   sites_fit, tile_fits               test 10: of a run of sites, of a tile
+--   write_tests                        all tests in order
+--   write_outcome, write_call          what the answer and what the call comes to
+--   leaves, write_exit                 the output slice afterwards: by outcome, of the call
 use Rattle.std.specs.Prelude.{ℕ, ◌+◌, ◌*◌, Bool, ◌&&◌, List, eqb, leb, ℤ, length}
 use Rattle.base.specs.Over.{over}
 use Rattle.base.specs.Refusal.{Outcome, accepted, refused, require, and_then, #tiles, #box, #stray, #short, #supply}

@@ -1,9 +1,9 @@
 -- The tiles by place, as the code lists them.
 --
 --   tile_room, tile_at   room for a tile's number in a key; the tile at a place
---   SameElements       two lists with the same numbers among the first n
---   Listed             every tile stands at some place
---   Least, NoneFrom    the least far from a place on, and a place from which on none is below near
+--   SameElements         two lists with the same numbers among the first n
+--   Listed               every tile stands at some place
+--   Least, NoneFrom      the least far from a place on, and a place from which on none is below near
 use Rattle.std.specs.Prelude.{ℕ, ◌%◌, ◌<◌, ◌≤◌, List, ◌≡◌, get_or, length}
 
 abbrev pub tile_room : ℕ

@@ -1,14 +1,14 @@
 -- The sums of a block by lanes: byte j of each row of eight goes into lane j, which sums up its bytes as a block does.
 --
---   lanes              how many there are
+--   lanes                how many there are
 --   max_added, rows_size how many bytes are added to a lane before it is reduced, and to all lanes
---   sum_to              the sum of f 0 to f (n - 1)
+--   sum_to               the sum of f 0 to f (n - 1)
 --   total_of, moment_of  the sum of the lanes, and the sum of j times lane j
 --   whole_a, whole_c     what the lanes' sums come to in those of a block
---   sums_on             the block's sums, with the bytes before i in the lanes
---   Small, Reduced     sums below 255
---   RowFits, RowAdded  there is room for a row; it is added
---   Remainders         the sums modulo 255
+--   sums_on              the block's sums, with the bytes before i in the lanes
+--   Small, Reduced       sums below 255
+--   RowFits, RowAdded    there is room for a row; it is added
+--   Remainders           the sums modulo 255
 use Rattle.std.specs.Prelude.{ℕ, zero, suc, ◌+◌, ◌*◌, ◌%◌, ◌<◌, List, ◌≡◌, get_or}
 use Rattle.std.proofs.Math.Seq.{slice}
 use Rattle.codec.specs.Number.{limit16}

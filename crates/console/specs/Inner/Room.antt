@@ -1,10 +1,10 @@
 -- Room for the output: what the code that prints an answer needs of it.
 --
---   distance_room, place_room            bytes for the distance of a place, for a place
---   words_room                          for what a stop's line has besides its places
+--   distance_room, place_room             bytes for the distance of a place, for a place
+--   words_room                            for what a stop's line has besides its places
 --   counts_room, stop_room, output_room   for the first line, for a stop's, for all
---   refused_room                        for a refusal
---   Fitting, Printable                 an answer, an outcome that fits
+--   refused_room                          for a refusal
+--   Fitting, Printable                    an answer, an outcome that fits
 use Rattle.std.specs.Prelude.{ℕ, ◌+◌, ◌*◌, ◌≤◌}
 use Rattle.base.specs.Refusal.{Outcome, accepted, refused}
 use Rattle.join.specs.Join.{Result}

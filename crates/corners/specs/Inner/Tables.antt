@@ -1,12 +1,12 @@
 -- The tables of distances from the corners of a region that the code keeps. Far of tiles stands in a table with a part
 -- for each corner: at place i of part c, at c * max_tiles + i.
 --
---   max_corners               of a region, with height
---   far_size                  elements of the table of far
+--   max_corners              of a region, with height
+--   far_size                 elements of the table of far
 --   FarRow                   far of a tile is in at a place, from each corner
 --   FarTable                 far of the first tiles of a list of tiles is in, from each corner
 --   NearTable                near of a tile, from each corner
---   below_all                 at a place far is below near, from each corner
+--   below_all                at a place far is below near, from each corner
 --   FirstBelow, LastBelow    the first place, the last place where far is below near, from one corner
 use Rattle.std.specs.Prelude.{ℕ, ◌+◌, ◌-◌, ◌*◌, ◌<◌, ◌≤◌, Bool, List, ◌≢◌, ◌≡◌, ltb, ℤ, get_or, length}
 use Rattle.base.specs.Every.{every}

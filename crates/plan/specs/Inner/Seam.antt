@@ -1,12 +1,12 @@
 -- What the calls of the seam ask and give.
 --
---   TileOf                  a tile of a file
---   stop_of, region_of        the point, the box that a stop, a region of the code stands for
---   ValidStop, ValidRegion  within the limits, with the axes of a town
---   corner_of, corner_count   the corners of a region
---   far                     far distance of a tile
+--   TileOf                   a tile of a file
+--   stop_of, region_of       the point, the box that a stop, a region of the code stands for
+--   ValidStop, ValidRegion   within the limits, with the axes of a town
+--   corner_of, corner_count  the corners of a region
+--   far                      far distance of a tile
 --   Opens, site_place        a tile that opens; the place of a site
---   Sited, BlockOf          a block with sites, the block of a tile
+--   Sited, BlockOf           a block with sites, the block of a tile
 use Rattle.std.specs.Prelude.{ℕ, ◌<◌, ◌≤◌, true, List, ◌≡◌, ℤ, length, take}
 use Rattle.base.specs.Refusal.{accepted}
 use Rattle.base.specs.Tabulate.{tabulate}

@@ -2,12 +2,12 @@
 --
 --   max_corners   of a region, with height
 --   far_size      elements of the table of far: that of corner c and tile t stands at c * max_tiles + t
---   FarTable     far from each corner to the first tiles is in
---   NearTable    near from each corner to a tile
+--   FarTable      far from each corner to the first tiles is in
+--   NearTable     near from each corner to a tile
 --   below_all     a tile is far below near, from each corner
 --   sum_below     how many sites rank of those of some tiles that are
---   FirstBelow   the first tile that is, from one corner
---   few          how many tiles are tried first
+--   FirstBelow    the first tile that is, from one corner
+--   few           how many tiles are tried first
 use Rattle.std.specs.Prelude.{ℕ, ◌+◌, ◌*◌, ◌<◌, ◌≤◌, Bool, List, ◌≡◌, ltb, ℤ, get_or, length}
 use Rattle.base.specs.Every.{every}
 use Rattle.blocks.specs.Layout.{max_tiles}

@@ -1,10 +1,10 @@
 -- The tiles that wait for a stop, and their keys.
 --
---   waits             by its mark not pruned, and with sites that rank
---   spare, Gathers    what gathering leaves in a slice
---   none              the key of a taken tile
+--   waits              by its mark not pruned, and with sites that rank
+--   spare, Gathers     what gathering leaves in a slice
+--   none               the key of a taken tile
 --   lower, least_key   the least of some keys
---   Passed            what is known once a key was taken
+--   Passed             what is known once a key was taken
 use Rattle.std.specs.Prelude.{ℕ, zero, suc, ◌<◌, ◌≤◌, Bool, cond, not, ◌&&◌, List, [], ◌∷◌, ◌++◌, ◌≡◌, eqb, leb, ltb, length, get_or}
 use Rattle.base.specs.Over.{over}
 use Rattle.search.specs.Lists.{range, filter}

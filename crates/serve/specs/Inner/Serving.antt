@@ -1,10 +1,10 @@
 -- What the calls that serve stops ask and leave.
 --
---   serving_outcome           of a call that answers the number of places used
---   TileReady, after_tile     before and after a tile is taken for a stop
+--   serving_outcome          of a call that answers the number of places used
+--   TileReady, after_tile    before and after a tile is taken for a stop
 --   StopReady, StopServed    before and after a stop is served
 --   StopsReady, Serves       before and after all stops are served
---   after_stops               what is left then
+--   after_stops              what is left then
 use Rattle.std.specs.Prelude.{ℕ, ◌*◌, ◌<◌, ◌≤◌, List, [], ◌∷◌, ◌≡◌, ltb, ℤ, length, set}
 use Rattle.base.specs.Lists.{All}
 use Rattle.base.specs.Refusal.{Outcome, accepted, refused, and_then}

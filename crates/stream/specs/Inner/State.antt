@@ -1,15 +1,15 @@
 -- What the code keeps of each tile while it takes one after the other: the tile that it waits for, which is left and
 -- nearer than it; and the place from which on no tile left is nearer than it.
 --
---   free_mark, taken_mark     in the place of a tile to wait for: none is left; the tile was taken
+--   free_mark, taken_mark    in the place of a tile to wait for: none is left; the tile was taken
 --   is_left                  a tile was not taken
 --   LastBlocker, waits_for   the last place of a tile to wait for, and that tile
---   Settled                 one tile's numbers, found again
---   TakenBelow              up to a place all tiles were taken
---   Stands, Standing        what the numbers of a tile say; those of all tiles, before one of them again
---   Released                one tile's numbers found again, and that they say so
---   FirstFree, FirstLeft    the first tile that waits for none, the first place of a tile left
---   Freed                   all that waited for a tile that was taken have found another, or none
+--   Settled                  one tile's numbers, found again
+--   TakenBelow               up to a place all tiles were taken
+--   Stands, Standing         what the numbers of a tile say; those of all tiles, before one of them again
+--   Released                 one tile's numbers found again, and that they say so
+--   FirstFree, FirstLeft     the first tile that waits for none, the first place of a tile left
+--   Freed                    all that waited for a tile that was taken have found another, or none
 use Rattle.std.specs.Prelude.{ℕ, ◌-◌, ◌<◌, ◌≤◌, Bool, true, false, not, cond, ◌&&◌, List, ◌≢◌, ◌≡◌, eqb, ltb, get_or, length, set}
 use Rattle.arrange.specs.Inner.Places.{tile_at}
 

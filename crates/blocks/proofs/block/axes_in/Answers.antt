@@ -6,7 +6,10 @@ use Rattle.blocks.proofs.block.axes_in.Goals as goal
 
 pub returns-then-s-directory_kind : goal.returns-then-s-directory_kind
 unfolding axes_in
-returns-then-s-directory_kind c = (rw (eq-eqb _ _ (c.if-s-directory_kind.true ∙ c.directory_kind.ensures)), (omega arith, omega arith))
+returns-then-s-directory_kind c = (
+  rw (eq-eqb _ _ (c.if-s-directory_kind.true ∙ c.directory_kind.ensures)),
+  (omega arith, omega arith),
+)
 
 pub returns-else-s-directory_kind : goal.returns-else-s-directory_kind
 unfolding axes_in

@@ -23,12 +23,21 @@ returns-then-s c = rw (ne_eqb _ _ c.if-s.true)
 
 pub returns-then-not-agrees : goal.returns-then-not-agrees
 unfolding block_start
-returns-then-not-agrees c = rw (passed-sync (goal.at.returns-then-not-agrees c).Else-s, failed c.agrees.ensures c.if-not-agrees.true)
+returns-then-not-agrees c = rw
+    (passed-sync (goal.at.returns-then-not-agrees c).Else-s, failed c.agrees.ensures c.if-not-agrees.true)
 
 pub returns-then-not-kind_due : goal.returns-then-not-kind_due
 unfolding block_start
-returns-then-not-kind_due c = rw (passed-sync (goal.at.returns-then-not-kind_due c).Else-s, passed-check (goal.at.returns-then-not-kind_due c).Else-not-agrees, failed c.kind_due.ensures c.if-not-kind_due.true)
+returns-then-not-kind_due c = rw (
+  passed-sync (goal.at.returns-then-not-kind_due c).Else-s,
+  passed-check (goal.at.returns-then-not-kind_due c).Else-not-agrees,
+  failed c.kind_due.ensures c.if-not-kind_due.true,
+)
 
 pub returns : goal.returns
 unfolding block_start
-returns c = rw (passed-sync (goal.at.returns c).Else-s, passed-check (goal.at.returns c).Else-not-agrees, passed c.kind_due.ensures c.if-not-kind_due.false)
+returns c = rw (
+  passed-sync (goal.at.returns c).Else-s,
+  passed-check (goal.at.returns c).Else-not-agrees,
+  passed c.kind_due.ensures c.if-not-kind_due.false,
+)

@@ -32,13 +32,23 @@ pub block_at-requires : goal.block_at-requires
 block_at-requires c = omega (arith, length_good _ (due c))
 
 pub directory_block_at-answer-requires : goal.directory_block_at-answer-requires
-directory_block_at-answer-requires c = (omega (arith, length_good _ (due (goal.at.directory_block_at-answer-requires c).Else-not-length_due)), search rules, header c)
+directory_block_at-answer-requires c
+    = (
+      omega (arith, length_good _ (due (goal.at.directory_block_at-answer-requires c).Else-not-length_due)),
+      search rules,
+      header c,
+    )
 
 pub returns-in_default : goal.returns-in_default
 unfolding directory
 returns-in_default c =
     let e = c.in_default.is in
-    ap directory_outcome e ∙ sym (rw (due (goal.at.returns-in_default c).Else-not-length_due, told directory_outcome c.directory_block_at-answer.ensures e))
+    ap directory_outcome e
+    ∙ sym (rw (
+      due (goal.at.returns-in_default c).Else-not-length_due,
+      told directory_outcome c.directory_block_at-answer.ensures
+          e,
+    ))
 
 pub directory_rest-requires : goal.directory_rest-requires
 directory_rest-requires c =
@@ -50,4 +60,9 @@ pub returns : goal.returns
 unfolding directory
 returns c =
     let first = told directory_outcome c.directory_block_at-answer.ensures c.in-Accepted.is in
-    c.directory_rest.ensures ∙ sym (rw (due (goal.at.returns c).Else-not-length_due, first, (first_block _ _ first (header (goal.at.returns c).After-header_in-h)).0))
+    c.directory_rest.ensures
+    ∙ sym (rw (
+      due (goal.at.returns c).Else-not-length_due,
+      first,
+      (first_block _ _ first (header (goal.at.returns c).After-header_in-h)).0,
+    ))

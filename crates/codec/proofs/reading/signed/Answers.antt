@@ -19,4 +19,5 @@ pub returns-else-n-lt-LIMIT_SIGNED : goal.returns-else-n-lt-LIMIT_SIGNED
 unfolding signed
 returns-else-n-lt-LIMIT_SIGNED c =
     let k = 0xffff_ffff - c.args.n in
-    to_z-of_z {w = w32} (below_zero_fits k (omega arith)) ∙ below_zero k (omega arith) ∙ simp (le-ltb _ _ c.if-n-lt-LIMIT_SIGNED.false)
+    to_z-of_z {w = w32} (below_zero_fits k (omega arith)) ∙ below_zero k (omega arith)
+    ∙ simp (le-ltb _ _ c.if-n-lt-LIMIT_SIGNED.false)

@@ -39,8 +39,10 @@ loop-left-preserved c =
     let z = get_or a.boxes.now c.loop-left.i (pos 0) in
     let wrote : p.new.d ≡ over c.loop-left.d c.loop-left.at (g (m - c.loop-left.left)) =
     simp (local_i32 z c.put_i32-arg-in-loop-left-1.given) at p.ensures
-    ∙ ap (λ j. over c.loop-left.d c.loop-left.at (bytes_signed (get_or a.boxes.now j (pos 0)))) c.loop-left.invariant.1 in
-    let next : m - (c.loop-left.left - 1) ≡ m - c.loop-left.left + 1 = omega (arith, c.loop-left.invariant.0, c.loop-left-test) in (
+    ∙ ap (λ j. over c.loop-left.d c.loop-left.at (bytes_signed (get_or a.boxes.now j (pos 0)))) c.loop-left.invariant.1
+    in
+    let next : m - (c.loop-left.left - 1)
+    ≡ m - c.loop-left.left + 1 = omega (arith, c.loop-left.invariant.0, c.loop-left-test) in (
       omega (arith, c.loop-left.invariant.0),
       omega (arith, c.loop-left.invariant.1, next),
       omega (arith, k, c.loop-left.invariant.2, c.loop-left-test),

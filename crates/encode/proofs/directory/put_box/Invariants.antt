@@ -13,7 +13,8 @@ abbrev pub invariant-loop-left : goal.invariant-loop-left
 invariant-loop-left l =
     (l.left ≤ numbers_per_box l.axes) × (l.i ≡ numbers_per_box l.axes * l.t + (numbers_per_box l.axes - l.left))
     × (l.at + 4 * l.left ≤ length l.d) × (length l.d ≡ length l.initial.d)
-    × (over l.d l.at (joined (λ k. bytes_signed (box_number l.axes l.boxes l.t k)) (numbers_per_box l.axes - l.left) l.left)
+    × (over l.d l.at
+    (joined (λ k. bytes_signed (box_number l.axes l.boxes l.t k)) (numbers_per_box l.axes - l.left) l.left)
     ≡ over l.initial.d l.start (box_bytes l.axes l.boxes l.t))
 
 abbrev pub decreases-loop-left : goal.decreases-loop-left

@@ -13,7 +13,8 @@ abbrev pub invariant-loop-left : goal.invariant-loop-left
 invariant-loop-left l =
     (l.p + l.left ≡ directory_blocks (header_of l.axes l.counts)) × (length l.d ≡ length l.initial.d)
     × (over l.d (block_size * l.p) (joined (directory_bytes l.axes l.boxes l.counts l.cues) l.p l.left)
-    ≡ over l.initial.d 0 (joined (directory_bytes l.axes l.boxes l.counts l.cues) 0 (directory_blocks (header_of l.axes l.counts))))
+    ≡ over l.initial.d 0
+    (joined (directory_bytes l.axes l.boxes l.counts l.cues) 0 (directory_blocks (header_of l.axes l.counts))))
     × (0 < l.left → l.site ≡ offset l.counts (entries_per_block l.axes * l.p))
 
 abbrev pub decreases-loop-left : goal.decreases-loop-left

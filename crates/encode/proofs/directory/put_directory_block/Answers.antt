@@ -54,7 +54,8 @@ put_entries-next-requires c =
     let d = due (goal.at.put_entries-next-requires c).After-entries_due-n in
     let first : c.entries_per_block.result * a.p ≡ entries_per_block a.axes * a.p =
     ap (λ k. k * a.p) c.entries_per_block.ensures in
-    let end = entries_end a.axes c.entries_due-n.result c.requires.0 (few (goal.at.put_entries-next-requires c).After-entries_due-n) in
+    let end = entries_end a.axes c.entries_due-n.result c.requires.0
+    (few (goal.at.put_entries-next-requires c).After-entries_due-n) in
     let within = due_within (header_of a.axes a.counts.now) a.p c.requires.4 in
     let last : c.entries_per_block.result * a.p + c.entries_due-n.result ≤ length a.counts.now =
     omega (arith, within, d, first) in (
@@ -107,7 +108,8 @@ returns c =
           (c.put_entries-next.ensures.0
           ∙ ap (λ k. over c.put_zeros.new.d (at + payload_at) (joined g k n)) from) c.put_zeros-2.ensures
           c.put_checksum.ensures
-          ∙ ap (λ k. over a.d.now at (block_bytes (head_bytes kind a.p k t) (joined g first k))) (due (goal.at.returns c).After-entries_due-n),
+          ∙ ap (λ k. over a.d.now at (block_bytes (head_bytes kind a.p k t) (joined g first k)))
+          (due (goal.at.returns c).After-entries_due-n),
       c.put_entries-next.ensures.1 ∙ ap (λ k. offset a.counts.now (k + n)) from
           ∙ ap (λ k. offset a.counts.now (first + k)) (due (goal.at.returns c).After-entries_due-n),
     )

@@ -10,7 +10,8 @@ use Rattle.encode.proofs.directory.put_entries.Given as goal
 
 abbrev pub invariant-loop-left : goal.invariant-loop-left
 invariant-loop-left l =
-    (l.at + entry_size l.axes * l.left ≤ length l.d) × (length l.d ≡ length l.initial.d) × (numbers_per_box l.axes * (l.t + l.left) ≤ length l.boxes)
+    (l.at + entry_size l.axes * l.left ≤ length l.d) × (length l.d ≡ length l.initial.d)
+    × (numbers_per_box l.axes * (l.t + l.left) ≤ length l.boxes)
     × (l.t + l.left ≡ l.first + l.n) × (l.next ≡ offset l.counts l.t)
     × (over l.d l.at (joined (entry_bytes l.axes l.boxes l.counts l.cues) l.t l.left)
     ≡ over l.initial.d l.start (joined (entry_bytes l.axes l.boxes l.counts l.cues) l.first l.n))

@@ -13,7 +13,8 @@ returns-then-axes-eq-HEIGHT c =
     rw e (height_site_row a.d.now a.at a.xs.now a.ys.now a.zs.now a.cues.now a.i
     (simp (local_i32 (get_or a.xs.now a.i (pos 0)) c.put_i32-arg-2-1.given) at c.put_i32.ensures)
     (simp (local_i32 (get_or a.ys.now a.i (pos 0)) c.put_i32-arg-4-1.given) at c.put_i32-2.ensures)
-    (simp (local_i32 (get_or a.zs.now a.i (pos 0)) c.put_i32-arg-then-axes-eq-HEIGHT-2-1.given) at c.put_i32-then-axes-eq-HEIGHT.ensures)
+    (simp (local_i32 (get_or a.zs.now a.i (pos 0)) c.put_i32-arg-then-axes-eq-HEIGHT-2-1.given) at
+    c.put_i32-then-axes-eq-HEIGHT.ensures)
     c.put_u32.ensures)
 
 pub returns-else-axes-eq-HEIGHT : goal.returns-else-axes-eq-HEIGHT

@@ -10,7 +10,8 @@ use Rattle.encode.proofs.tile.put_sites.Given as goal
 
 abbrev pub invariant-loop-left : goal.invariant-loop-left
 invariant-loop-left l =
-    (l.at + site_size l.axes * l.left ≤ length l.d) × (length l.d ≡ length l.initial.d) × (l.i + l.left ≤ length l.xs) × (l.i + l.left ≤ length l.ys)
+    (l.at + site_size l.axes * l.left ≤ length l.d) × (length l.d ≡ length l.initial.d) × (l.i + l.left ≤ length l.xs)
+    × (l.i + l.left ≤ length l.ys)
     × (l.i + l.left ≤ length l.zs) × (l.i + l.left ≤ length l.cues)
     × (over l.d l.at (joined (site_bytes l.axes (take l.axes (l.xs ∷ l.ys ∷ l.zs ∷ [])) l.cues) l.i l.left)
     ≡ over l.initial.d l.start (joined (site_bytes l.axes (take l.axes (l.xs ∷ l.ys ∷ l.zs ∷ [])) l.cues) l.first l.n))

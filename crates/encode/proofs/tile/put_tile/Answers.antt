@@ -48,6 +48,7 @@ returns c =
     let q = length-sites a.axes spots a.cues.now a.first a.n in
     block_row a.d.now at (head_bytes kind a.p a.n 0)
     (joined (site_bytes a.axes spots a.cues.now) a.first a.n) c.site_offset-used.result
-    (length_head kind a.p a.n 0) (c.site_offset-used.ensures.1 ∙ omega (arith, q)) (used-end (goal.at.returns c).After-site_offset-used) c.requires.1
+    (length_head kind a.p a.n 0) (c.site_offset-used.ensures.1 ∙ omega (arith, q))
+    (used-end (goal.at.returns c).After-site_offset-used) c.requires.1
     (c.put_head.ensures ∙ ap (λ k. over a.d.now at (head_bytes k a.p a.n 0)) c.tile_kind.ensures)
     c.put_zeros.ensures c.put_sites.ensures c.put_zeros-2.ensures c.put_checksum.ensures

@@ -12,7 +12,8 @@ use Rattle.encode.proofs.tile.put_tiles.Given as goal
 
 abbrev pub invariant-loop-t : goal.invariant-loop-t
 invariant-loop-t l =
-    (l.p ≡ directory_blocks (header_of l.axes l.counts) + l.t) × (l.first ≡ offset l.counts l.t) × (l.t ≤ length l.counts)
+    (l.p ≡ directory_blocks (header_of l.axes l.counts) + l.t) × (l.first ≡ offset l.counts l.t)
+    × (l.t ≤ length l.counts)
     × (length l.d ≡ length l.initial.d)
     × (over l.d (block_size * l.p)
     (joined (tile_bytes_of l.axes l.counts (take l.axes (l.xs ∷ l.ys ∷ l.zs ∷ [])) l.cues) l.t (length l.counts - l.t))

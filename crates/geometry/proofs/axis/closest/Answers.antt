@@ -24,19 +24,22 @@ pub returns-then-x-l : goal.returns-then-x-l
 unfolding closest
 returns-then-x-l c =
     let l = low search in
-    let t : lt_z c.args.x (lo c.args.s) ≡ true = simp (to_z-of_z {w = w32} c.ranges.x, to_z-of_z {w = w32} l) at c.if-x-l.true in
+    let t : lt_z c.args.x (lo c.args.s)
+    ≡ true = simp (to_z-of_z {w = w32} c.ranges.x, to_z-of_z {w = w32} l) at c.if-x-l.true in
     to_z-of_z {w = w32} l ∙ rw t
 
 pub returns-then-h-x : goal.returns-then-h-x
 unfolding closest
 returns-then-h-x c =
     let h = high search in
-    let t : lt_z (hi c.args.s) c.args.x ≡ true = simp (to_z-of_z {w = w32} c.ranges.x, to_z-of_z {w = w32} h) at c.if-h-x.true in
+    let t : lt_z (hi c.args.s) c.args.x
+    ≡ true = simp (to_z-of_z {w = w32} c.ranges.x, to_z-of_z {w = w32} h) at c.if-h-x.true in
     to_z-of_z {w = w32} h ∙ rw (not_left search, t)
 
 pub returns : goal.returns
 unfolding closest
 returns c =
     let h = high search in
-    let t : lt_z (hi c.args.s) c.args.x ≡ false = simp (to_z-of_z {w = w32} c.ranges.x, to_z-of_z {w = w32} h) at c.if-h-x.false in
+    let t : lt_z (hi c.args.s) c.args.x
+    ≡ false = simp (to_z-of_z {w = w32} c.ranges.x, to_z-of_z {w = w32} h) at c.if-h-x.false in
     to_z-of_z {w = w32} c.ranges.x ∙ rw (not_left search, t)

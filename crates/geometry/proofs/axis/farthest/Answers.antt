@@ -26,11 +26,23 @@ overflow_sub-h c = subtract_fits (on-axis (goal.at.overflow_sub-h c).Start).high
 pub returns-then-x-l : goal.returns-then-x-l
 returns-then-x-l c =
     let t : lt_z (c.args.x -ℤ lo c.args.s) (hi c.args.s -ℤ c.args.x)
-    ≡ true = simp (subtract_is (at (goal.at.returns-then-x-l c).Start) (on-axis (goal.at.returns-then-x-l c).Start).low, subtract_is (on-axis (goal.at.returns-then-x-l c).Start).high (at (goal.at.returns-then-x-l c).Start)) at c.if-x-l.true in
-    to_z-of_z {w = w32} (limited_fits (on-axis (goal.at.returns-then-x-l c).Start).high) ∙ sym (farthest_test c.args.s c.args.x (on-axis (goal.at.returns-then-x-l c).Start) (at (goal.at.returns-then-x-l c).Start) ∙ rw t)
+    ≡ true = simp (
+      subtract_is (at (goal.at.returns-then-x-l c).Start) (on-axis (goal.at.returns-then-x-l c).Start).low,
+      subtract_is (on-axis (goal.at.returns-then-x-l c).Start).high (at (goal.at.returns-then-x-l c).Start),
+    ) at
+    c.if-x-l.true in
+    to_z-of_z {w = w32} (limited_fits (on-axis (goal.at.returns-then-x-l c).Start).high)
+    ∙ sym (farthest_test c.args.s c.args.x (on-axis (goal.at.returns-then-x-l c).Start)
+    (at (goal.at.returns-then-x-l c).Start) ∙ rw t)
 
 pub returns-else-x-l : goal.returns-else-x-l
 returns-else-x-l c =
     let t : lt_z (c.args.x -ℤ lo c.args.s) (hi c.args.s -ℤ c.args.x)
-    ≡ false = simp (subtract_is (at (goal.at.returns-else-x-l c).Start) (on-axis (goal.at.returns-else-x-l c).Start).low, subtract_is (on-axis (goal.at.returns-else-x-l c).Start).high (at (goal.at.returns-else-x-l c).Start)) at c.if-x-l.false in
-    to_z-of_z {w = w32} (limited_fits (on-axis (goal.at.returns-else-x-l c).Start).low) ∙ sym (farthest_test c.args.s c.args.x (on-axis (goal.at.returns-else-x-l c).Start) (at (goal.at.returns-else-x-l c).Start) ∙ rw t)
+    ≡ false = simp (
+      subtract_is (at (goal.at.returns-else-x-l c).Start) (on-axis (goal.at.returns-else-x-l c).Start).low,
+      subtract_is (on-axis (goal.at.returns-else-x-l c).Start).high (at (goal.at.returns-else-x-l c).Start),
+    ) at
+    c.if-x-l.false in
+    to_z-of_z {w = w32} (limited_fits (on-axis (goal.at.returns-else-x-l c).Start).low)
+    ∙ sym (farthest_test c.args.s c.args.x (on-axis (goal.at.returns-else-x-l c).Start)
+    (at (goal.at.returns-else-x-l c).Start) ∙ rw t)

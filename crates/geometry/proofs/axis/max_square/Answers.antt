@@ -32,9 +32,11 @@ returns-then-a-b c =
     ) at c.if-a-b.true in
     c.squared.ensures ∙ rw (
       subtract_is (on-axis (goal.at.returns-then-a-b c).Start).high (at (goal.at.returns-then-a-b c).Start),
-      farthest_test c.args.s c.args.x (on-axis (goal.at.returns-then-a-b c).Start) (at (goal.at.returns-then-a-b c).Start),
+      farthest_test c.args.s c.args.x (on-axis (goal.at.returns-then-a-b c).Start)
+          (at (goal.at.returns-then-a-b c).Start),
       t,
-      gap_comm (hi c.args.s) c.args.x (on-axis (goal.at.returns-then-a-b c).Start).high (at (goal.at.returns-then-a-b c).Start),
+      gap_comm (hi c.args.s) c.args.x (on-axis (goal.at.returns-then-a-b c).Start).high
+          (at (goal.at.returns-then-a-b c).Start),
     )
 
 pub returns-else-a-b : goal.returns-else-a-b
@@ -47,6 +49,7 @@ returns-else-a-b c =
     ) at c.if-a-b.false in
     c.squared-else-a-b.ensures ∙ rw (
       subtract_is (at (goal.at.returns-else-a-b c).Start) (on-axis (goal.at.returns-else-a-b c).Start).low,
-      farthest_test c.args.s c.args.x (on-axis (goal.at.returns-else-a-b c).Start) (at (goal.at.returns-else-a-b c).Start),
+      farthest_test c.args.s c.args.x (on-axis (goal.at.returns-else-a-b c).Start)
+          (at (goal.at.returns-else-a-b c).Start),
       t,
     )

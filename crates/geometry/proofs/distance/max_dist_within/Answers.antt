@@ -16,7 +16,8 @@ use Rattle.geometry.proofs.ByAxis.{valid_at, max-dist-sum}
 use Rattle.geometry.proofs.OneAxis.{axis, farthest_bound}
 use Rattle.geometry.proofs.Shift.{limited}
 use Rattle.geometry.proofs.distance.max_dist_within.Goals as goal
-use Rattle.geometry.proofs.distance.max_dist_within.Goals.{After-max_square-2, After-max_square-then-axes-eq-HEIGHT, Start}
+use Rattle.geometry.proofs.distance.max_dist_within.Goals.{After-max_square-2, After-max_square-then-axes-eq-HEIGHT}
+use Rattle.geometry.proofs.distance.max_dist_within.Goals.{Start}
 
 -- an axis and a coordinate, and the square between them
 valid : (s : Start) (i : ℕ) → i < s.args.axes
@@ -33,15 +34,19 @@ bounded s i l =
     farthest_bound (axis_at s.args.b i) (coordinate s.args.p i) (axis (axis_at s.args.b i) v.0)
     (limited (coordinate s.args.p i) v.1)
 
-plan : (c : After-max_square-2) → c.max_square.result + c.max_square-2.result ≡ square-at c.args.b c.args.p 0 + square-at c.args.b c.args.p 1
+plan : (c : After-max_square-2) → c.max_square.result + c.max_square-2.result
+    ≡ square-at c.args.b c.args.p 0 + square-at c.args.b c.args.p 1
 plan c =
     let px : SFits w32 (coordinate c.args.p 0) = sfits_of c.max_square-arg-2-1.given in
     let py : SFits w32 (coordinate c.args.p 1) = sfits_of c.max_square-arg-4-1.given in
-    let ex : c.max_square.result ≡ square-at c.args.b c.args.p 0 = simp (to_z-of_z {w = w32} px) at c.max_square.ensures in
-    let ey : c.max_square-2.result ≡ square-at c.args.b c.args.p 1 = simp (to_z-of_z {w = w32} py) at c.max_square-2.ensures in
+    let ex : c.max_square.result
+    ≡ square-at c.args.b c.args.p 0 = simp (to_z-of_z {w = w32} px) at c.max_square.ensures in
+    let ey : c.max_square-2.result
+    ≡ square-at c.args.b c.args.p 1 = simp (to_z-of_z {w = w32} py) at c.max_square-2.ensures in
     omega arith
 
-height : (c : After-max_square-then-axes-eq-HEIGHT) → c.max_square-then-axes-eq-HEIGHT.result ≡ square-at c.args.b c.args.p 2
+height : (c : After-max_square-then-axes-eq-HEIGHT) → c.max_square-then-axes-eq-HEIGHT.result
+    ≡ square-at c.args.b c.args.p 2
 height c =
     let pz : SFits w32 (coordinate c.args.p 2) = sfits_of c.max_square-arg-then-axes-eq-HEIGHT-2-1.given in
     simp (to_z-of_z {w = w32} pz) at c.max_square-then-axes-eq-HEIGHT.ensures
@@ -60,7 +65,12 @@ max_square-requires-2 c =
 
 pub overflow_add-plan : goal.overflow_add-plan
 overflow_add-plan c =
-    omega (arith, plan c, bounded (goal.at.overflow_add-plan c).Start 0 (omega arith), bounded (goal.at.overflow_add-plan c).Start 1 (omega arith))
+    omega (
+      arith,
+      plan c,
+      bounded (goal.at.overflow_add-plan c).Start 0 (omega arith),
+      bounded (goal.at.overflow_add-plan c).Start 1 (omega arith),
+    )
 
 pub max_square-requires-then-axes-eq-HEIGHT : goal.max_square-requires-then-axes-eq-HEIGHT
 max_square-requires-then-axes-eq-HEIGHT c =
@@ -79,10 +89,21 @@ pub returns-then-axes-eq-HEIGHT : goal.returns-then-axes-eq-HEIGHT
 unfolding sum
 returns-then-axes-eq-HEIGHT c =
     let h : c.args.axes ≡ 3 = omega arith in
-    rw h (omega (arith, plan (goal.at.returns-then-axes-eq-HEIGHT c).After-max_square-2, height c, max-dist-sum c.args.b c.args.p 3 (omega arith) (omega arith)))
+    rw h (omega (
+      arith,
+      plan (goal.at.returns-then-axes-eq-HEIGHT c).After-max_square-2,
+      height c,
+      max-dist-sum c.args.b c.args.p 3
+          (omega arith) (omega arith),
+    ))
 
 pub returns-else-axes-eq-HEIGHT : goal.returns-else-axes-eq-HEIGHT
 unfolding sum
 returns-else-axes-eq-HEIGHT c =
     let h : c.args.axes ≡ 2 = omega arith in
-    rw h (omega (arith, plan (goal.at.returns-else-axes-eq-HEIGHT c).After-max_square-2, max-dist-sum c.args.b c.args.p 2 (omega arith) (omega arith)))
+    rw h (omega (
+      arith,
+      plan (goal.at.returns-else-axes-eq-HEIGHT c).After-max_square-2,
+      max-dist-sum c.args.b c.args.p 2
+          (omega arith) (omega arith),
+    ))

@@ -35,14 +35,17 @@ bounded s i l =
     let y = coordinate s.args.q i in
     square_bound x y (limited x v.0) (limited y v.1)
 
-plan : (c : After-square-2) → c.square.result + c.square-2.result ≡ square-at c.args.p c.args.q 0 + square-at c.args.p c.args.q 1
+plan : (c : After-square-2) → c.square.result + c.square-2.result
+    ≡ square-at c.args.p c.args.q 0 + square-at c.args.p c.args.q 1
 plan c =
     let px : SFits w32 (coordinate c.args.p 0) = sfits_of c.square-arg-1.given in
     let qx : SFits w32 (coordinate c.args.q 0) = sfits_of c.square-arg-2-1.given in
     let py : SFits w32 (coordinate c.args.p 1) = sfits_of c.square-arg-3-1.given in
     let qy : SFits w32 (coordinate c.args.q 1) = sfits_of c.square-arg-4-1.given in
-    let ex : c.square.result ≡ square-at c.args.p c.args.q 0 = simp (to_z-of_z {w = w32} px, to_z-of_z {w = w32} qx) at c.square.ensures in
-    let ey : c.square-2.result ≡ square-at c.args.p c.args.q 1 = simp (to_z-of_z {w = w32} py, to_z-of_z {w = w32} qy) at c.square-2.ensures in
+    let ex : c.square.result
+    ≡ square-at c.args.p c.args.q 0 = simp (to_z-of_z {w = w32} px, to_z-of_z {w = w32} qx) at c.square.ensures in
+    let ey : c.square-2.result
+    ≡ square-at c.args.p c.args.q 1 = simp (to_z-of_z {w = w32} py, to_z-of_z {w = w32} qy) at c.square-2.ensures in
     omega arith
 
 height : (c : After-square-then-axes-eq-HEIGHT) → c.square-then-axes-eq-HEIGHT.result ≡ square-at c.args.p c.args.q 2
@@ -65,13 +68,19 @@ square-requires-2 c =
 
 pub overflow_add-plan : goal.overflow_add-plan
 overflow_add-plan c =
-    omega (arith, plan c, bounded (goal.at.overflow_add-plan c).Start 0 (omega arith), bounded (goal.at.overflow_add-plan c).Start 1 (omega arith))
+    omega (
+      arith,
+      plan c,
+      bounded (goal.at.overflow_add-plan c).Start 0 (omega arith),
+      bounded (goal.at.overflow_add-plan c).Start 1 (omega arith),
+    )
 
 pub square-requires-then-axes-eq-HEIGHT : goal.square-requires-then-axes-eq-HEIGHT
 square-requires-then-axes-eq-HEIGHT c =
     let p : SFits w32 (coordinate c.args.p 2) = sfits_of c.square-arg-then-axes-eq-HEIGHT-1.given in
     let q : SFits w32 (coordinate c.args.q 2) = sfits_of c.square-arg-then-axes-eq-HEIGHT-2-1.given in
-    rw (to_z-of_z {w = w32} p, to_z-of_z {w = w32} q) (valid (goal.at.square-requires-then-axes-eq-HEIGHT c).Start 2 (omega arith))
+    rw (to_z-of_z {w = w32} p, to_z-of_z {w = w32} q)
+    (valid (goal.at.square-requires-then-axes-eq-HEIGHT c).Start 2 (omega arith))
 
 pub overflow_add-result : goal.overflow_add-result
 overflow_add-result c =
@@ -84,10 +93,21 @@ pub returns-then-axes-eq-HEIGHT : goal.returns-then-axes-eq-HEIGHT
 unfolding sum
 returns-then-axes-eq-HEIGHT c =
     let h : c.args.axes ≡ 3 = omega arith in
-    rw h (omega (arith, plan (goal.at.returns-then-axes-eq-HEIGHT c).After-square-2, height c, dist-sum c.args.p c.args.q 3 (omega arith) (omega arith)))
+    rw h (omega (
+      arith,
+      plan (goal.at.returns-then-axes-eq-HEIGHT c).After-square-2,
+      height c,
+      dist-sum c.args.p c.args.q 3
+          (omega arith) (omega arith),
+    ))
 
 pub returns-else-axes-eq-HEIGHT : goal.returns-else-axes-eq-HEIGHT
 unfolding sum
 returns-else-axes-eq-HEIGHT c =
     let h : c.args.axes ≡ 2 = omega arith in
-    rw h (omega (arith, plan (goal.at.returns-else-axes-eq-HEIGHT c).After-square-2, dist-sum c.args.p c.args.q 2 (omega arith) (omega arith)))
+    rw h (omega (
+      arith,
+      plan (goal.at.returns-else-axes-eq-HEIGHT c).After-square-2,
+      dist-sum c.args.p c.args.q 2 (omega arith)
+          (omega arith),
+    ))

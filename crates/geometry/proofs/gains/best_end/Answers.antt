@@ -27,9 +27,11 @@ tested c =
 pub returns-then-g : goal.returns-then-g
 unfolding best_end
 returns-then-g c =
-    to_z-of_z {w = w32} (limited_fits (axis c.args.o c.requires.0).high) ∙ rw (sym (tested (goal.at.returns-then-g c).After-struct_told-1) ∙ c.if-g.true)
+    to_z-of_z {w = w32} (limited_fits (axis c.args.o c.requires.0).high)
+    ∙ rw (sym (tested (goal.at.returns-then-g c).After-struct_told-1) ∙ c.if-g.true)
 
 pub returns-else-g : goal.returns-else-g
 unfolding best_end
 returns-else-g c =
-    to_z-of_z {w = w32} (limited_fits (axis c.args.o c.requires.0).low) ∙ rw (sym (tested (goal.at.returns-else-g c).After-struct_told-1) ∙ c.if-g.false)
+    to_z-of_z {w = w32} (limited_fits (axis c.args.o c.requires.0).low)
+    ∙ rw (sym (tested (goal.at.returns-else-g c).After-struct_told-1) ∙ c.if-g.false)

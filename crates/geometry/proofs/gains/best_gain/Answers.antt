@@ -25,9 +25,11 @@ tested c =
 pub returns-then-g : goal.returns-then-g
 returns-then-g c =
     to_z-of_z {w = w64} (sfits_of c.struct_told-1.given.1.0.1) ∙ c.gains_at_ends-g.ensures.1
-    ∙ sym (best_gain c.args.o c.args.e c.args.b ∙ rw (sym (tested (goal.at.returns-then-g c).After-struct_told-1) ∙ c.if-g.true))
+    ∙ sym (best_gain c.args.o c.args.e c.args.b
+    ∙ rw (sym (tested (goal.at.returns-then-g c).After-struct_told-1) ∙ c.if-g.true))
 
 pub returns-else-g : goal.returns-else-g
 returns-else-g c =
     to_z-of_z {w = w64} (sfits_of c.struct_told-1.given.0.1) ∙ c.gains_at_ends-g.ensures.0
-    ∙ sym (best_gain c.args.o c.args.e c.args.b ∙ rw (sym (tested (goal.at.returns-else-g c).After-struct_told-1) ∙ c.if-g.false))
+    ∙ sym (best_gain c.args.o c.args.e c.args.b
+    ∙ rw (sym (tested (goal.at.returns-else-g c).After-struct_told-1) ∙ c.if-g.false))

@@ -34,15 +34,19 @@ squares-low c =
 squares-high : (c : After-min_square-2) → (c.max_square-2.result ≡ far_on c.args.e (hi c.args.o))
     × (c.min_square-2.result ≡ near_on c.args.b (hi c.args.o))
 squares-high c =
-    let fits = limited_fits (axis c.args.o c.requires.0).high in
-    (simp (to_z-of_z {w = w32} fits) at c.max_square-2.ensures, simp (to_z-of_z {w = w32} fits) at c.min_square-2.ensures)
+    let fits = limited_fits (axis c.args.o c.requires.0).high in (
+      simp (to_z-of_z {w = w32} fits) at c.max_square-2.ensures,
+      simp (to_z-of_z {w = w32} fits) at c.min_square-2.ensures,
+    )
 
 -- the squares from the low end
 pub max_square-requires : goal.max_square-requires
-max_square-requires c = (c.requires.1.0, search (low (goal.at.max_square-requires c).Start, high (goal.at.max_square-requires c).Start))
+max_square-requires c
+    = (c.requires.1.0, search (low (goal.at.max_square-requires c).Start, high (goal.at.max_square-requires c).Start))
 
 pub min_square-requires : goal.min_square-requires
-min_square-requires c = (c.requires.1.1, search (low (goal.at.min_square-requires c).Start, high (goal.at.min_square-requires c).Start))
+min_square-requires c
+    = (c.requires.1.1, search (low (goal.at.min_square-requires c).Start, high (goal.at.min_square-requires c).Start))
 
 pub difference-low-requires : goal.difference-low-requires
 difference-low-requires c =
@@ -53,10 +57,18 @@ difference-low-requires c =
 
 -- the squares from the high end
 pub max_square-requires-2 : goal.max_square-requires-2
-max_square-requires-2 c = (c.requires.1.0, search (low (goal.at.max_square-requires-2 c).Start, high (goal.at.max_square-requires-2 c).Start))
+max_square-requires-2 c
+    = (
+      c.requires.1.0,
+      search (low (goal.at.max_square-requires-2 c).Start, high (goal.at.max_square-requires-2 c).Start),
+    )
 
 pub min_square-requires-2 : goal.min_square-requires-2
-min_square-requires-2 c = (c.requires.1.1, search (low (goal.at.min_square-requires-2 c).Start, high (goal.at.min_square-requires-2 c).Start))
+min_square-requires-2 c
+    = (
+      c.requires.1.1,
+      search (low (goal.at.min_square-requires-2 c).Start, high (goal.at.min_square-requires-2 c).Start),
+    )
 
 pub difference-high-requires : goal.difference-high-requires
 difference-high-requires c =

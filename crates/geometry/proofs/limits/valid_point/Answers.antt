@@ -17,7 +17,13 @@ unfolding every
 plan c =
     let px : SFits w32 (coordinate c.args.p 0) = sfits_of c.within_limits-arg-1.given in
     let py : SFits w32 (coordinate c.args.p 1) = sfits_of c.within_limits-arg-2-1.given in
-    simp (c.both-plan.ensures, c.within_limits-2.ensures, c.within_limits.ensures, to_z-of_z {w = w32} px, to_z-of_z {w = w32} py)
+    simp (
+      c.both-plan.ensures,
+      c.within_limits-2.ensures,
+      c.within_limits.ensures,
+      to_z-of_z {w = w32} px,
+      to_z-of_z {w = w32} py,
+    )
 
 pub returns-then-axes-eq-HEIGHT : goal.returns-then-axes-eq-HEIGHT
 unfolding every

@@ -14,9 +14,17 @@ returns-then-block c = rw (eq-eqb _ _ c.if-block-ne-BLOCK_SIZE.false, ne_eqb _ _
 pub returns-then-not-agrees : goal.returns-then-not-agrees
 unfolding block_check block_tests
 returns-then-not-agrees c =
-    rw (eq-eqb _ _ c.if-block-ne-BLOCK_SIZE.false, eq-eqb _ _ c.if-block.false, failed c.agrees.ensures c.if-not-agrees.true)
+    rw (
+      eq-eqb _ _ c.if-block-ne-BLOCK_SIZE.false,
+      eq-eqb _ _ c.if-block.false,
+      failed c.agrees.ensures c.if-not-agrees.true,
+    )
 
 pub returns : goal.returns
 unfolding block_check block_tests
 returns c =
-    rw (eq-eqb _ _ c.if-block-ne-BLOCK_SIZE.false, eq-eqb _ _ c.if-block.false, passed c.agrees.ensures c.if-not-agrees.false)
+    rw (
+      eq-eqb _ _ c.if-block-ne-BLOCK_SIZE.false,
+      eq-eqb _ _ c.if-block.false,
+      passed c.agrees.ensures c.if-not-agrees.false,
+    )

@@ -17,26 +17,33 @@ box-o : (c : After-pad_box-o) →
 box-o c =
     let a = c.ranges in
     c.pad_box-o.ensures
-    ∙ simp (to_z-of_z {w = w32} a.ox0, to_z-of_z {w = w32} a.ox1, to_z-of_z {w = w32} a.oy0, to_z-of_z {w = w32} a.oy1) at c.box_of.ensures
+    ∙ simp (to_z-of_z {w = w32} a.ox0, to_z-of_z {w = w32} a.ox1, to_z-of_z {w = w32} a.oy0, to_z-of_z {w = w32} a.oy1)
+    at c.box_of.ensures
 
 box-e : (c : After-pad_box-e) →
     take 2 c.pad_box-e.result ≡ box_from c.args.ex0 c.args.ex1 c.args.ey0 c.args.ey1
 box-e c =
     let a = c.ranges in
     c.pad_box-e.ensures
-    ∙ simp (to_z-of_z {w = w32} a.ex0, to_z-of_z {w = w32} a.ex1, to_z-of_z {w = w32} a.ey0, to_z-of_z {w = w32} a.ey1) at c.box_of-2.ensures
+    ∙ simp (to_z-of_z {w = w32} a.ex0, to_z-of_z {w = w32} a.ex1, to_z-of_z {w = w32} a.ey0, to_z-of_z {w = w32} a.ey1)
+    at c.box_of-2.ensures
 
 box-b : (c : After-pad_box-b) →
     take 2 c.pad_box-b.result ≡ box_from c.args.bx0 c.args.bx1 c.args.by0 c.args.by1
 box-b c =
     let a = c.ranges in
     c.pad_box-b.ensures
-    ∙ simp (to_z-of_z {w = w32} a.bx0, to_z-of_z {w = w32} a.bx1, to_z-of_z {w = w32} a.by0, to_z-of_z {w = w32} a.by1) at c.box_of-3.ensures
+    ∙ simp (to_z-of_z {w = w32} a.bx0, to_z-of_z {w = w32} a.bx1, to_z-of_z {w = w32} a.by0, to_z-of_z {w = w32} a.by1)
+    at c.box_of-3.ensures
 
 pub returns-then-not-valid_boxes : goal.returns-then-not-valid_boxes
 returns-then-not-valid_boxes c =
     bad_number _ _ _ (failed c.valid_boxes.ensures c.if-not-valid_boxes.true)
-    ∙ rw (box-o (goal.at.returns-then-not-valid_boxes c).After-pad_box-o, box-e (goal.at.returns-then-not-valid_boxes c).After-pad_box-e, box-b (goal.at.returns-then-not-valid_boxes c).After-pad_box-b)
+    ∙ rw (
+      box-o (goal.at.returns-then-not-valid_boxes c).After-pad_box-o,
+      box-e (goal.at.returns-then-not-valid_boxes c).After-pad_box-e,
+      box-b (goal.at.returns-then-not-valid_boxes c).After-pad_box-b,
+    )
 
 pub margin_within-requires : goal.margin_within-requires
 margin_within-requires c =
@@ -49,4 +56,8 @@ returns c =
     let fits : SFits w64 c.margin_within.result = sfits_of c.margin_within.type_inv in
     to_z-of_z {w = w64} fits ∙ c.margin_within.ensures
     ∙ good_number _ _ _ (passed c.valid_boxes.ensures c.if-not-valid_boxes.false)
-    ∙ rw (box-o (goal.at.returns c).After-pad_box-o, box-e (goal.at.returns c).After-pad_box-e, box-b (goal.at.returns c).After-pad_box-b)
+    ∙ rw (
+      box-o (goal.at.returns c).After-pad_box-o,
+      box-e (goal.at.returns c).After-pad_box-e,
+      box-b (goal.at.returns c).After-pad_box-b,
+    )

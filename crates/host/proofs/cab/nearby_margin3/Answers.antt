@@ -55,7 +55,12 @@ box-b c =
 
 pub returns-then-not-valid_boxes : goal.returns-then-not-valid_boxes
 returns-then-not-valid_boxes c =
-    bad_number _ _ _ (failed c.valid_boxes.ensures c.if-not-valid_boxes.true) ∙ rw (box-o (goal.at.returns-then-not-valid_boxes c).After-box3_of-o, box-e (goal.at.returns-then-not-valid_boxes c).After-box3_of-e, box-b (goal.at.returns-then-not-valid_boxes c).After-box3_of-b)
+    bad_number _ _ _ (failed c.valid_boxes.ensures c.if-not-valid_boxes.true)
+    ∙ rw (
+      box-o (goal.at.returns-then-not-valid_boxes c).After-box3_of-o,
+      box-e (goal.at.returns-then-not-valid_boxes c).After-box3_of-e,
+      box-b (goal.at.returns-then-not-valid_boxes c).After-box3_of-b,
+    )
 
 pub margin_within-requires : goal.margin_within-requires
 margin_within-requires c =
@@ -68,4 +73,8 @@ returns c =
     let fits : SFits w64 c.margin_within.result = sfits_of c.margin_within.type_inv in
     to_z-of_z {w = w64} fits ∙ c.margin_within.ensures
     ∙ good_number _ _ _ (passed c.valid_boxes.ensures c.if-not-valid_boxes.false)
-    ∙ rw (box-o (goal.at.returns c).After-box3_of-o, box-e (goal.at.returns c).After-box3_of-e, box-b (goal.at.returns c).After-box3_of-b)
+    ∙ rw (
+      box-o (goal.at.returns c).After-box3_of-o,
+      box-e (goal.at.returns c).After-box3_of-e,
+      box-b (goal.at.returns c).After-box3_of-b,
+    )

@@ -7,7 +7,9 @@ use Rattle.host.proofs.files.nearby_prune.Goals as goal
 pub returns : goal.returns
 returns c =
     let a = c.ranges in
-    let o = simp (to_z-of_z {w = w32} a.x0, to_z-of_z {w = w32} a.x1, to_z-of_z {w = w32} a.y0, to_z-of_z {w = w32} a.y1) at c.box_of-o.ensures in
+    let o = simp
+    (to_z-of_z {w = w32} a.x0, to_z-of_z {w = w32} a.x1, to_z-of_z {w = w32} a.y0, to_z-of_z {w = w32} a.y1) at
+    c.box_of-o.ensures in
     let end = c.prune.ensures in
     record {
       answer = c.report_prune.ensures ∙ ap prune_report (rw o at end.result_value);

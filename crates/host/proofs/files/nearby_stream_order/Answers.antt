@@ -7,7 +7,9 @@ use Rattle.host.proofs.files.nearby_stream_order.Goals as goal
 pub returns : goal.returns
 returns c =
     let a = c.ranges in
-    let o = simp (to_z-of_z {w = w32} a.x0, to_z-of_z {w = w32} a.x1, to_z-of_z {w = w32} a.y0, to_z-of_z {w = w32} a.y1) at c.box_of.ensures in
+    let o = simp
+    (to_z-of_z {w = w32} a.x0, to_z-of_z {w = w32} a.x1, to_z-of_z {w = w32} a.y0, to_z-of_z {w = w32} a.y1) at
+    c.box_of.ensures in
     let end = c.stream_order.ensures in
     record {
       answer = c.report_stream.ensures ∙ ap stream_report (rw o at end.result_value);

@@ -7,7 +7,14 @@ use Rattle.host.proofs.files.nearby_stream_order3.Goals as goal
 pub returns : goal.returns
 returns c =
     let a = c.ranges in
-    let o = simp (to_z-of_z {w = w32} a.x0, to_z-of_z {w = w32} a.x1, to_z-of_z {w = w32} a.y0, to_z-of_z {w = w32} a.y1, to_z-of_z {w = w32} a.z0, to_z-of_z {w = w32} a.z1)
+    let o = simp (
+      to_z-of_z {w = w32} a.x0,
+      to_z-of_z {w = w32} a.x1,
+      to_z-of_z {w = w32} a.y0,
+      to_z-of_z {w = w32} a.y1,
+      to_z-of_z {w = w32} a.z0,
+      to_z-of_z {w = w32} a.z1,
+    )
     at c.box3_of.ensures in
     let end = c.stream_order3.ensures in
     record {

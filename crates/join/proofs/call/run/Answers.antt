@@ -106,30 +106,61 @@ lengths c =
     )
 
 pub overflow_mul-n : goal.overflow_mul-n
-overflow_mul-n c = omega (arith, few_enough c.requires.1, all-places c.args.h c.args.xs.now c.args.ys.now c.args.zs.now c.args.k (some (goal.at.overflow_mul-n c).Start))
+overflow_mul-n c = omega (
+  arith,
+  few_enough c.requires.1,
+  all-places c.args.h c.args.xs.now c.args.ys.now c.args.zs.now c.args.k
+      (some (goal.at.overflow_mul-n c).Start),
+)
 
 pub clear_places-requires : goal.clear_places-requires
 clear_places-requires c =
     let a = c.requires.1.args in
-    let n = all-places c.args.h c.args.xs.now c.args.ys.now c.args.zs.now c.args.k (some (goal.at.clear_places-requires c).Start) in
+    let n = all-places c.args.h c.args.xs.now c.args.ys.now c.args.zs.now c.args.k
+    (some (goal.at.clear_places-requires c).Start) in
     (omega (arith, n, a.dist), (omega (arith, n, a.site), omega (arith, n, a.cue)))
 
 pub around-requires : goal.around-requires
 around-requires c =
-    let some : 0 < length c.args.xs.now = omega (arith, c.requires.1.args.some, count c.args.h c.args.xs.now c.args.ys.now c.args.zs.now (some (goal.at.around-requires c).Start)) in
-    (some, omega (arith, (long (goal.at.around-requires c).Start).0), omega (arith, (long (goal.at.around-requires c).Start).1))
+    let some : 0 < length c.args.xs.now = omega (
+      arith,
+      c.requires.1.args.some,
+      count c.args.h c.args.xs.now c.args.ys.now c.args.zs.now
+          (some (goal.at.around-requires c).Start),
+    ) in (
+      some,
+      omega (arith, (long (goal.at.around-requires c).Start).0),
+      omega (arith, (long (goal.at.around-requires c).Start).1),
+    )
 
 pub mark_pruned-pruned-requires : goal.mark_pruned-pruned-requires
-mark_pruned-pruned-requires c =
-    (c.requires.1.dir, c.requires.1.args.marks, rw (box (goal.at.mark_pruned-pruned-requires c).After-around) (region c.requires.1))
+mark_pruned-pruned-requires c = (
+  c.requires.1.dir,
+  c.requires.1.args.marks,
+  rw (box (goal.at.mark_pruned-pruned-requires c).After-around)
+      (region c.requires.1),
+)
 
 pub gather_stops-requires : goal.gather_stops-requires
-gather_stops-requires c =
-    ((long (goal.at.gather_stops-requires c).Start).0, (long (goal.at.gather_stops-requires c).Start).1, omega (arith, c.requires.1.args.few, count c.args.h c.args.xs.now c.args.ys.now c.args.zs.now (some (goal.at.gather_stops-requires c).Start)))
+gather_stops-requires c = (
+  (long (goal.at.gather_stops-requires c).Start).0,
+  (long (goal.at.gather_stops-requires c).Start).1,
+  omega (
+    arith,
+    c.requires.1.args.few,
+    count c.args.h c.args.xs.now c.args.ys.now c.args.zs.now
+        (some (goal.at.gather_stops-requires c).Start),
+  ),
+)
 
 pub slice_bounds-stops-end : goal.slice_bounds-stops-end
 slice_bounds-stops-end c =
-    omega (arith, c.requires.1.args.few, count c.args.h c.args.xs.now c.args.ys.now c.args.zs.now (some (goal.at.slice_bounds-stops-end c).Start))
+    omega (
+      arith,
+      c.requires.1.args.few,
+      count c.args.h c.args.xs.now c.args.ys.now c.args.zs.now
+          (some (goal.at.slice_bounds-stops-end c).Start),
+    )
 
 pub slice_bounds-serve-end : goal.slice_bounds-serve-end
 slice_bounds-serve-end c =
@@ -142,8 +173,15 @@ slice_bounds-serve-end c =
     )
 
 pub serve-requires : goal.serve-requires
-serve-requires c =
-    (rw (points (goal.at.serve-requires c).After-gather_stops) (roomy c.args.h c.args.xs.now c.args.ys.now c.args.zs.now), rw (points (goal.at.serve-requires c).After-gather_stops, stops-are c.args.h c.args.xs.now c.args.ys.now c.args.zs.now (some (goal.at.serve-requires c).Start)) (stops_ready c.requires.1 (begins (goal.at.serve-requires c).After-mark_pruned-pruned)))
+serve-requires c = (
+  rw (points (goal.at.serve-requires c).After-gather_stops)
+      (roomy c.args.h c.args.xs.now c.args.ys.now c.args.zs.now),
+  rw (
+    points (goal.at.serve-requires c).After-gather_stops,
+    stops-are c.args.h c.args.xs.now c.args.ys.now c.args.zs.now (some (goal.at.serve-requires c).Start),
+  )
+      (stops_ready c.requires.1 (begins (goal.at.serve-requires c).After-mark_pruned-pruned)),
+)
 
 pub count_opened-opened-requires : goal.count_opened-opened-requires
 count_opened-opened-requires c =
@@ -151,7 +189,13 @@ count_opened-opened-requires c =
 
 pub overflow_cast-result : goal.overflow_cast-result
 overflow_cast-result c =
-    omega (arith, used_few c.requires.1 (λ i. omega (arith, c.type_inv.f i)) (tried (goal.at.overflow_cast-result c).After-serve (begins (goal.at.overflow_cast-result c).After-mark_pruned-pruned) (points (goal.at.overflow_cast-result c).After-gather_stops)) (ap serving_outcome c.in-Served.is))
+    omega (
+      arith,
+      used_few c.requires.1 (λ i. omega (arith, c.type_inv.f i))
+          (tried (goal.at.overflow_cast-result c).After-serve
+          (begins (goal.at.overflow_cast-result c).After-mark_pruned-pruned)
+          (points (goal.at.overflow_cast-result c).After-gather_stops)) (ap serving_outcome c.in-Served.is),
+    )
 
 pub overflow_cast-result-in-Served : goal.overflow_cast-result-in-Served
 overflow_cast-result-in-Served c = omega (arith, tiles_few c.args.f.now c.args.h c.requires.1.dir)
@@ -161,7 +205,8 @@ overflow_cast-result-in-Served-2 c =
     omega (arith, tiles_few c.args.f.now c.args.h c.requires.1.dir, c.count_opened-opened.ensures.1)
 
 pub overflow_cast-result-in-Served-3 : goal.overflow_cast-result-in-Served-3
-overflow_cast-result-in-Served-3 c = omega (arith, tiles_few c.args.f.now c.args.h c.requires.1.dir, c.mark_pruned-pruned.ensures.value.1)
+overflow_cast-result-in-Served-3 c = omega
+    (arith, tiles_few c.args.f.now c.args.h c.requires.1.dir, c.mark_pruned-pruned.ensures.value.1)
 
 pub shape_of-dist-in-Served : goal.shape_of-dist-in-Served
 shape_of-dist-in-Served c = (lengths (goal.at.shape_of-dist-in-Served c).After-serve).0
@@ -177,8 +222,12 @@ shape_of-marks-in-Served c = (lengths (goal.at.shape_of-marks-in-Served c).After
 
 pub returns-in-Served : goal.returns-in-Served
 returns-in-Served c =
-    run_answers c.requires.1 (λ i. omega (arith, c.type_inv.f i)) (tried (goal.at.returns-in-Served c).After-serve (begins (goal.at.returns-in-Served c).After-mark_pruned-pruned) (points (goal.at.returns-in-Served c).After-gather_stops)) (ap serving_outcome c.in-Served.is)
-    (c.mark_pruned-pruned.ensures.value.0 ∙ ap (λ b. pruned_count (entries c.args.f.now c.args.h) b c.args.k) (box (goal.at.returns-in-Served c).After-around))
+    run_answers c.requires.1 (λ i. omega (arith, c.type_inv.f i))
+    (tried (goal.at.returns-in-Served c).After-serve (begins (goal.at.returns-in-Served c).After-mark_pruned-pruned)
+    (points (goal.at.returns-in-Served c).After-gather_stops)) (ap serving_outcome c.in-Served.is)
+    (c.mark_pruned-pruned.ensures.value.0
+    ∙ ap (λ b. pruned_count (entries c.args.f.now c.args.h) b c.args.k)
+    (box (goal.at.returns-in-Served c).After-around))
     c.count_opened-opened.ensures.0
 
 pub shape_of-dist-in-Refused : goal.shape_of-dist-in-Refused
@@ -195,4 +244,6 @@ shape_of-marks-in-Refused c = (lengths (goal.at.shape_of-marks-in-Refused c).Aft
 
 pub returns-in-Refused : goal.returns-in-Refused
 returns-in-Refused c =
-    run_refuses c.requires.1 (λ i. omega (arith, c.type_inv.f i)) (tried (goal.at.returns-in-Refused c).After-serve (begins (goal.at.returns-in-Refused c).After-mark_pruned-pruned) (points (goal.at.returns-in-Refused c).After-gather_stops)) (ap serving_outcome c.in-Refused.is)
+    run_refuses c.requires.1 (λ i. omega (arith, c.type_inv.f i))
+    (tried (goal.at.returns-in-Refused c).After-serve (begins (goal.at.returns-in-Refused c).After-mark_pruned-pruned)
+    (points (goal.at.returns-in-Refused c).After-gather_stops)) (ap serving_outcome c.in-Refused.is)

@@ -34,7 +34,11 @@ overflow_mul-last c = omega (arith, square-small (goal.at.overflow_mul-last c).E
 pub returns-then-d-last : goal.returns-then-d-last
 unfolding level_call
 returns-then-d-last c =
-    rw (reach-valid (goal.at.returns-then-d-last c).Else-not-valid_reach, lt-ltb (last_heard c.args.reach) c.args.d (omega arith)) refl
+    rw (
+      reach-valid (goal.at.returns-then-d-last c).Else-not-valid_reach,
+      lt-ltb (last_heard c.args.reach) c.args.d
+          (omega arith),
+    ) refl
 
 pub quotient_of-requires : goal.quotient_of-requires
 quotient_of-requires c =

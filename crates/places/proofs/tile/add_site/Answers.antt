@@ -18,7 +18,8 @@ pub returns-then-not-ranks : goal.returns-then-not-ranks
 returns-then-not-ranks c =
     let a = c.args in
     let p = stop_of a.h a.target.stop in
-    rw (the_muted a.h a.s.now p a.first a.slot (failed (ranks-told (goal.at.returns-then-not-ranks c).After-ranks) c.if-not-ranks.true))
+    rw (the_muted a.h a.s.now p a.first a.slot
+    (failed (ranks-told (goal.at.returns-then-not-ranks c).After-ranks) c.if-not-ranks.true))
     (put_nothing _ a.target.at a.used a.target.k)
 
 pub returns : goal.returns
@@ -26,7 +27,8 @@ returns c =
     let a = c.args in
     let p = stop_of a.h a.target.stop in
     rw (
-      the_ranking a.h a.s.now p a.first a.slot (passed (ranks-told (goal.at.returns c).After-ranks) c.if-not-ranks.false),
+      the_ranking a.h a.s.now p a.first a.slot
+          (passed (ranks-told (goal.at.returns c).After-ranks) c.if-not-ranks.false),
       ← c.place_in-x.ensures,
     )
     c.insert_place.ensures

@@ -23,7 +23,8 @@ loop-slot-smaller c =
 
 pub loop-slot-preserved : goal.loop-slot-preserved
 loop-slot-preserved c =
-    adding_skip (adding_turn c.loop-slot.invariant c.loop-slot-test.true c.add_site-m.ensures) c.next_slot-slot-in-loop-slot.ensures
+    adding_skip (adding_turn c.loop-slot.invariant c.loop-slot-test.true c.add_site-m.ensures)
+    c.next_slot-slot-in-loop-slot.ensures
 
 pub shape_of-dist : goal.shape_of-dist
 shape_of-dist c = (adding_lengths c.loop-slot.invariant).dist

@@ -113,10 +113,16 @@ serve_stop-answer-requires c =
       tiles = rw w.1 (waiting_tiles waits' c.args.h.tiles);
       rise = rw w.1 (waiting_rise waits' c.args.h.tiles);
       stop = rw (c.stop_in-stop.ensures, ← (point c.args.h c.args.stops.now below))
-          (all_get_d (ValidStop a.h) (ps c.args.h c.args.stops.now) c.loop-i.i [] (a-stop c.args.h c.args.stops.now below) c.requires.1.valid);
+          (all_get_d (ValidStop a.h) (ps c.args.h c.args.stops.now) c.loop-i.i []
+          (a-stop c.args.h c.args.stops.now below) c.requires.1.valid);
       list = stop_ready t (a-stop c.args.h c.args.stops.now below) c.requires.1.some c.requires.1.long;
       room =
-          omega (arith, few-gathered (goal.at.serve_stop-answer-requires c).After-gather-m, c.loop-i.invariant.0, length-take c.gather-m.result c.gather-m.new.order);
+          omega (
+            arith,
+            few-gathered (goal.at.serve_stop-answer-requires c).After-gather-m,
+            c.loop-i.invariant.0,
+            length-take c.gather-m.result c.gather-m.new.order,
+          );
       marks = omega (arith, c.requires.1.marks, t.long);
       opens = t.opens;
     }
@@ -154,8 +160,10 @@ shape_of-marks-in_default c =
 
 pub returns-in_default : goal.returns-in_default
 returns-in_default c =
-    stop_refused c.loop-i.invariant.1 (a-stop c.args.h c.args.stops.now c.loop-i-test.true) (served (goal.at.returns-in_default c).After-serve_stop-answer)
-    (ap serving_outcome c.in_default.is) (rw (all-places c.args.h c.args.stops.now c.args.k) c.clear_places.ensures) c.clear8.ensures
+    stop_refused c.loop-i.invariant.1 (a-stop c.args.h c.args.stops.now c.loop-i-test.true)
+    (served (goal.at.returns-in_default c).After-serve_stop-answer)
+    (ap serving_outcome c.in_default.is) (rw (all-places c.args.h c.args.stops.now c.args.k) c.clear_places.ensures)
+    c.clear8.ensures
 
 pub overflow_add-i : goal.overflow_add-i
 overflow_add-i c =
@@ -163,7 +171,8 @@ overflow_add-i c =
 
 pub overflow_add-at : goal.overflow_add-at
 overflow_add-at c =
-    let ready = stop_ready c.loop-i.invariant.1 (a-stop c.args.h c.args.stops.now c.loop-i-test.true) c.requires.1.some c.requires.1.long
+    let ready = stop_ready c.loop-i.invariant.1 (a-stop c.args.h c.args.stops.now c.loop-i-test.true) c.requires.1.some
+    c.requires.1.long
     in
     omega (arith, ready.long.0)
 
@@ -171,7 +180,8 @@ pub loop-i-preserved : goal.loop-i-preserved
 loop-i-preserved c =
     let t = c.loop-i.invariant in (
       c.serve_stop-answer.auto.keys ∙ t.0,
-      stop_next t.1 (a-stop c.args.h c.args.stops.now c.loop-i-test.true) (served (goal.at.loop-i-preserved c).After-serve_stop-answer) _
+      stop_next t.1 (a-stop c.args.h c.args.stops.now c.loop-i-test.true)
+          (served (goal.at.loop-i-preserved c).After-serve_stop-answer) _
           (ap serving_outcome c.in-Served.is),
     )
 

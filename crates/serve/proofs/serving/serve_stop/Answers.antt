@@ -117,10 +117,12 @@ returns-in_default c =
     let n = c.next_key-least in
     let t = get_or a.order.now n.result.at 0 in
     let e = c.in_default.is in
-    let d = and_then_refused (opening_of a.f.now a.h t) _ (told serving_outcome c.take_tile-answer.ensures.result_value e) in
+    let d = and_then_refused (opening_of a.f.now a.h t) _
+    (told serving_outcome c.take_tile-answer.ensures.result_value e) in
     let same = rw d at (slices-taken (goal.at.returns-in_default c).After-take_tile-answer) in
     rw (ap serving_outcome e, same)
-    (tile_refused c.loop-h.invariant.1 n.result n.ensures (key_left (goal.at.returns-in_default c).Else-key) (not_full (goal.at.returns-in_default c).Else-last_ahead) _ _ d)
+    (tile_refused c.loop-h.invariant.1 n.result n.ensures (key_left (goal.at.returns-in_default c).Else-key)
+    (not_full (goal.at.returns-in_default c).Else-last_ahead) _ _ d)
 
 pub offset_bounds-keys-j : goal.offset_bounds-keys-j
 offset_bounds-keys-j c =
@@ -149,9 +151,11 @@ loop-h-preserved c =
     let d = and_then_accepted (opening_of a.f.now a.h t) _
     (told serving_outcome c.take_tile-answer.ensures.result_value c.in-Served.is) in
     let same = rw d.1 at (slices-taken (goal.at.loop-h-preserved c).After-take_tile-answer) in
-    let next = tile_next turn n.result n.ensures (key_left (goal.at.loop-h-preserved c).Else-key) (not_full (goal.at.loop-h-preserved c).Else-last_ahead) d.0 d.1 (tile-below (goal.at.loop-h-preserved c).Else-key)
+    let next = tile_next turn n.result n.ensures (key_left (goal.at.loop-h-preserved c).Else-key)
+    (not_full (goal.at.loop-h-preserved c).Else-last_ahead) d.0 d.1 (tile-below (goal.at.loop-h-preserved c).Else-key)
     (omega (arith, c.requires.marks, turn.long)) (sym (accepted_injective d.2)) in (
       length-set c.loop-h.keys n.result.at none ∙ c.loop-h.invariant.0,
       rw same next,
-      passed_next c.loop-h.keys (length a.order.now) n.result n.ensures (key_left (goal.at.loop-h-preserved c).Else-key) turn.keyed.long,
+      passed_next c.loop-h.keys (length a.order.now) n.result n.ensures
+          (key_left (goal.at.loop-h-preserved c).Else-key) turn.keyed.long,
     )

@@ -9,7 +9,8 @@ use Rattle.serve.proofs.serving.serve_stop.Given as goal
 abbrev pub invariant-loop-h : goal.invariant-loop-h
 invariant-loop-h l =
     (length l.keys ≡ length l.initial.keys)
-    × TileTurn l.f l.h l.order l.target (lent l.initial.dist l.initial.site l.initial.cue l.initial.marks) l.keys (lent l.dist l.site l.cue l.marks) l.used
+    × TileTurn l.f l.h l.order l.target (lent l.initial.dist l.initial.site l.initial.cue l.initial.marks) l.keys
+    (lent l.dist l.site l.cue l.marks) l.used
     × Passed l.keys (length l.order) l.from l.bound
 
 abbrev pub decreases-loop-h : goal.decreases-loop-h

@@ -32,7 +32,8 @@ tests : (s : Start) →
 unfolding stops_valid
 tests s =
     let n = s.args.axes in
-    ap (every (valid_stop (take n (all s.args.xs.now s.args.ys.now s.args.zs.now)))) (take_count n (omega (arith, s.requires.0.0)) (all s.args.xs.now s.args.ys.now s.args.zs.now))
+    ap (every (valid_stop (take n (all s.args.xs.now s.args.ys.now s.args.zs.now))))
+    (take_count n (omega (arith, s.requires.0.0)) (all s.args.xs.now s.args.ys.now s.args.zs.now))
 
 pub loop-i-init : goal.loop-i-init
 loop-i-init c = (omega arith, λ j h. absurd (omega arith))
@@ -45,7 +46,8 @@ stop_at-requires c =
 pub returns-then-not-valid_point : goal.returns-then-not-valid_point
 returns-then-not-valid_point c =
     let v = sym (tested (goal.at.returns-then-not-valid_point c).After-valid_point) ∙ c.if-not-valid_point.true in
-    sym (tests (goal.at.returns-then-not-valid_point c).Start ∙ every_fails _ (length c.args.xs.now) c.loop-i.i c.loop-i-test.true v)
+    sym (tests (goal.at.returns-then-not-valid_point c).Start
+    ∙ every_fails _ (length c.args.xs.now) c.loop-i.i c.loop-i-test.true v)
 
 pub loop-i-preserved : goal.loop-i-preserved
 loop-i-preserved c =
@@ -54,4 +56,5 @@ loop-i-preserved c =
 
 pub returns : goal.returns
 returns c =
-    sym (tests (goal.at.returns c).Start ∙ every_holds _ (length c.args.xs.now) (λ j h. c.loop-i.invariant.1 j (omega arith)))
+    sym (tests (goal.at.returns c).Start
+    ∙ every_holds _ (length c.args.xs.now) (λ j h. c.loop-i.invariant.1 j (omega arith)))

@@ -11,7 +11,8 @@ use Rattle.base.proofs.Outcomes.{number_accepted, number_refused}
 use Rattle.base.proofs.Tests.{passed, failed, equal, unequal}
 use Rattle.tiles.specs.Tile.{tile_padding, site_inside, tile_block}
 use Rattle.tiles.proofs.tile.tile_block.Goals as goal
-use Rattle.tiles.proofs.tile.tile_block.Goals.{After-start_number-start, Else-not-sites_inside, Else-not-tile_padding, Else-start-ne0, Else-u16_at-count, Else-u16_at-p}
+use Rattle.tiles.proofs.tile.tile_block.Goals.{After-start_number-start, Else-not-sites_inside, Else-not-tile_padding}
+use Rattle.tiles.proofs.tile.tile_block.Goals.{Else-start-ne0, Else-u16_at-count, Else-u16_at-p}
 
 -- what each test that passed has shown
 start : (c : After-start_number-start) →
@@ -22,7 +23,9 @@ start c =
 
 passed_start : (c : Else-start-ne0) →
     block_start (tile_kind c.args.axes) c.args.s.now c.args.p ≡ accepted tt
-passed_start c = number_accepted _ _ (c.start_number-start.ensures ∙ ap (λ kind. block_start kind c.args.s.now c.args.p) c.tile_kind.ensures) c.if-start-ne0.false
+passed_start c = number_accepted _ _
+    (c.start_number-start.ensures ∙ ap (λ kind. block_start kind c.args.s.now c.args.p) c.tile_kind.ensures)
+    c.if-start-ne0.false
 
 passed-position : (c : Else-u16_at-p) →
     eqb (position_in c.args.s.now) c.args.p ≡ true
@@ -44,31 +47,52 @@ passed-inside c = passed c.sites_inside.ensures c.if-not-sites_inside.false
 pub returns-then-start-ne0 : goal.returns-then-start-ne0
 unfolding tile_block
 returns-then-start-ne0 c =
-    c.refused.ensures ∙ sym (rw (number_refused _ _ (start (goal.at.returns-then-start-ne0 c).After-start_number-start) c.if-start-ne0.true))
+    c.refused.ensures
+    ∙ sym (rw
+    (number_refused _ _ (start (goal.at.returns-then-start-ne0 c).After-start_number-start) c.if-start-ne0.true))
 
 pub returns-then-u16_at-p : goal.returns-then-u16_at-p
 unfolding tile_block
 returns-then-u16_at-p c =
-    c.refused-then-u16_at-p.ensures ∙ sym (rw (passed_start (goal.at.returns-then-u16_at-p c).Else-start-ne0, unequal c.u16_at.ensures.0 refl c.if-u16_at-p.true))
+    c.refused-then-u16_at-p.ensures
+    ∙ sym (rw
+    (passed_start (goal.at.returns-then-u16_at-p c).Else-start-ne0, unequal c.u16_at.ensures.0 refl c.if-u16_at-p.true))
 
 pub returns-then-u16_at-count : goal.returns-then-u16_at-count
 unfolding tile_block
 returns-then-u16_at-count c =
     let f = unequal c.u16_at-2.ensures.0 refl c.if-u16_at-count.true in
-    c.refused-then-u16_at-count.ensures ∙ sym (rw (passed_start (goal.at.returns-then-u16_at-count c).Else-start-ne0, passed-position (goal.at.returns-then-u16_at-count c).Else-u16_at-p, f))
+    c.refused-then-u16_at-count.ensures
+    ∙ sym (rw (
+      passed_start (goal.at.returns-then-u16_at-count c).Else-start-ne0,
+      passed-position (goal.at.returns-then-u16_at-count c).Else-u16_at-p,
+      f,
+    ))
 
 pub returns-then-not-tile_padding : goal.returns-then-not-tile_padding
 unfolding tile_block
 returns-then-not-tile_padding c =
     let f = failed c.tile_padding.ensures c.if-not-tile_padding.true in
-    c.refused-then-not-tile_padding.ensures ∙ sym (rw (passed_start (goal.at.returns-then-not-tile_padding c).Else-start-ne0, passed-position (goal.at.returns-then-not-tile_padding c).Else-u16_at-p, passed-entries (goal.at.returns-then-not-tile_padding c).Else-u16_at-count, f))
+    c.refused-then-not-tile_padding.ensures
+    ∙ sym (rw (
+      passed_start (goal.at.returns-then-not-tile_padding c).Else-start-ne0,
+      passed-position (goal.at.returns-then-not-tile_padding c).Else-u16_at-p,
+      passed-entries (goal.at.returns-then-not-tile_padding c).Else-u16_at-count,
+      f,
+    ))
 
 pub returns-then-not-sites_inside : goal.returns-then-not-sites_inside
 unfolding tile_block
 returns-then-not-sites_inside c =
     let f = failed c.sites_inside.ensures c.if-not-sites_inside.true in
     c.refused-then-not-sites_inside.ensures
-    ∙ sym (rw (passed_start (goal.at.returns-then-not-sites_inside c).Else-start-ne0, passed-position (goal.at.returns-then-not-sites_inside c).Else-u16_at-p, passed-entries (goal.at.returns-then-not-sites_inside c).Else-u16_at-count, passed-padding (goal.at.returns-then-not-sites_inside c).Else-not-tile_padding, f))
+    ∙ sym (rw (
+      passed_start (goal.at.returns-then-not-sites_inside c).Else-start-ne0,
+      passed-position (goal.at.returns-then-not-sites_inside c).Else-u16_at-p,
+      passed-entries (goal.at.returns-then-not-sites_inside c).Else-u16_at-count,
+      passed-padding (goal.at.returns-then-not-sites_inside c).Else-not-tile_padding,
+      f,
+    ))
 
 pub returns-then-muted_in-muted : goal.returns-then-muted_in-muted
 unfolding tile_block
