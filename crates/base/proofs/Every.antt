@@ -3,12 +3,14 @@
 --   every_at, every_holds, every_fails   from all to one, from each to all, one that fails
 --   every_first                          the first number taken out
 --   every-same                           tests that agree
-use Prim.Native.Nat.{ℕ, zero, suc, ◌<◌}
+--   every_range                          the numbers of a range, as an iterator gives them
+use Prim.Native.Nat.{ℕ, zero, suc, ◌+◌, ◌<◌}
 use mathlib.Core.Bool.{Bool, true, false, ◌&&◌, and-true, and_assoc}
 use mathlib.Core.Logic.{⊎_elim}
 use mathlib.Core.Path.{◌≡◌, refl, ap, ◌∙◌}
-use native.Mathlib.Nat.{not-suc-le-zero, eq-or-lt_of_le, le_of_suc-le-suc}
+use native.Mathlib.Nat.{add-zero, zero-add, not-suc-le-zero, eq-or-lt_of_le, le_of_suc-le-suc}
 use native.Mathlib.Omega.{arith}
+use Rattle.std.specs.List.{range_with_len, list_all}
 use Rattle.base.specs.Every.{every}
 use Rattle.base.proofs.Tests.{and_both, both_and, by_test, clash}
 
@@ -39,3 +41,14 @@ pub every-same : (f g : ℕ → Bool) (n : ℕ) → ((i : ℕ) → i < n → f i
 unfolding every
 every-same f g zero h = refl
 every-same f g (suc n) h = rw (every-same f g n (λ i l. h i (omega arith)), h n (omega arith))
+
+-- the numbers of a range, as an iterator gives them
+range_from : (f : ℕ → Bool) (a n : ℕ) → list_all f (range_with_len a n) ≡ every (λ i. f (a + i)) n
+unfolding every
+range_from f a zero = refl
+range_from f a (suc n) =
+    let rest = every-same (λ i. f (a + 1 + i)) (λ i. f (a + suc i)) n (λ i _. ap f (omega arith)) in
+    rw (every_first (λ i. f (a + i)) n, range_from f (a + 1) n, rest, add-zero)
+
+pub every_range : (f : ℕ → Bool) (n : ℕ) → list_all f (range_with_len 0 n) ≡ every f n
+every_range f n = range_from f 0 n ∙ every-same (λ i. f (0 + i)) f n (λ i _. ap f (zero-add i))

@@ -4,18 +4,17 @@
 --   get_d_joined                        an element by its part
 --   joined-all, joined_same             what holds of all elements; the same parts
 --   joined_parts                        a list cut into parts
---   joined_turn, joined_end             a loop that writes part after part
+--   joined_end                          the end of a loop that writes part after part
 use Prim.Native.Nat.{ℕ, zero, suc, ◌+◌, ◌*◌, ◌-◌, ◌<◌, ◌≤◌}
 use mathlib.Core.List.{List, [], ◌∷◌, ◌++◌}
 use mathlib.Core.Path.{◌≡◌, refl, sym, ap, ◌∙◌}
 use native.Mathlib.Nat.{add-zero, zero-add, not-suc-le-zero, le_of_suc-le-suc}
-use native.Mathlib.Numerals.{sub-one}
 use native.Mathlib.Omega.{arith}
 use lib.ListN.{length, get_or, take, drop, length-append, get_or-append}
 use lib.Seq.{get_or-append-add, drop-drop, take-add}
 use Rattle.base.specs.Over.{over}
 use Rattle.base.specs.Tabulate.{joined}
-use Rattle.base.proofs.Over.{over_nil, over_next}
+use Rattle.base.proofs.Over.{over_nil}
 
 module _ {A : Type 0} (g : ℕ → List A) where
   -- parts of one width
@@ -110,14 +109,8 @@ module _ {A : Type 0} (l : List A) (start size : ℕ → ℕ) (next : (t : ℕ) 
       (sym (drop-drop (size a) (start a) l))
       ∙ sym (take-add (size a) (start (a + 1 + n) - (start a + size a)) (drop (start a) l)))
 
--- a loop that writes one part after the other: a turn, and its end
+-- the end of a loop that writes one part after the other
 module _ (g : ℕ → List ℕ) (l : List ℕ) (at : ℕ) where
-  pub joined_turn : (next a n : ℕ) {e : List ℕ} → 0 < n → e ≡ over l at (g a) → next ≡ at + length (g a) →
-      over e next (joined g (a + 1) (n - 1)) ≡ over l at (joined g a n)
-  unfolding joined
-  joined_turn next a zero h q k = absurd (not-suc-le-zero h)
-  joined_turn next a (suc n) h q k = rw (q, sub-one) (over_next l at next (g a) (joined g (a + 1) n) k)
-
   pub joined_end : (a n : ℕ) → n ≤ 0 → l ≡ over l at (joined g a n)
   unfolding joined
   joined_end a n h = let e : n ≡ 0 = omega arith in rw e (sym (over_nil l at))

@@ -1,5 +1,6 @@
 pub mod Tests
 pub mod Outcomes
+pub mod Passing
 pub mod InTurn
 pub mod Every
 pub mod HowMany

@@ -5,12 +5,10 @@
 --   require_accepted, and_then_accepted    what an accepted outcome shows of its parts
 --   and_then-same, and_then_refused        when what comes next does not matter
 --   told                                   an answer that was taken apart
---   number_accepted, number_refused        answers by number
-use Prim.Native.Nat.{ℕ, zero, suc}
+use Prim.Native.Nat.{ℕ}
 use mathlib.Core.Bool.{Bool, true, false}
 use mathlib.Core.Path.{◌≡◌, refl, sym, ap, ◌∙◌}
 use native.Mathlib.Omega.{arith}
-use Rattle.base.specs.Inner.AnswerNumber.{number_outcome}
 use Rattle.base.specs.Refusal.{Outcome, accepted, refused, require, and_then}
 
 -- by an outcome
@@ -52,15 +50,3 @@ and_then_refused (refused n p) g e = cc
 -- an answer that was taken apart
 pub told : {A B : Type 0} (outcome : A → Outcome B) {a x : A} {o : Outcome B} → outcome a ≡ o → a ≡ x → o ≡ outcome x
 told outcome e q = sym e ∙ ap outcome q
-
--- an answer by number
-module _ (n p : ℕ) {o : Outcome Unit} where
-  pub number_accepted : number_outcome n p ≡ o → n ≡ 0 → o ≡ accepted tt
-  number_accepted e z = sym e ∙ ap (λ k. number_outcome k p) z
-
-  pub number_refused : number_outcome n p ≡ o → (n ≡ 0 → ⊥) → o ≡ refused n p
-  number_refused e z = sym e ∙ go n z
-    where
-      go : (n : ℕ) → (n ≡ 0 → ⊥) → number_outcome n p ≡ refused n p
-      go zero z = absurd (z refl)
-      go (suc n) z = refl

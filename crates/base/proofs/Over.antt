@@ -4,17 +4,15 @@
 --   over_nil, over-cons                    no run; a run by its first element
 --   get_d_before, get_d_run, get_d_after   its elements before, in and past the run
 --   over_next, also                        a run right after another: of lists, of calls that write
---   fill_turn, fill_end                    a loop that writes one value
 --   over-set, over_under                   what was written under a run does not show
 --   set-over, over_last                    an element past the run, and right behind it
-use Prim.Native.Nat.{ℕ, zero, suc, ◌+◌, ◌-◌, ◌<◌, ◌≤◌}
+use Prim.Native.Nat.{ℕ, zero, suc, ◌+◌, ◌<◌, ◌≤◌}
 use mathlib.Core.List.{List, [], ◌∷◌, ◌++◌}
 use mathlib.Core.Path.{◌≡◌, refl, sym, ap, ◌∙◌}
 use native.Mathlib.Nat.{add-zero, add-suc, suc-add}
-use native.Mathlib.Numerals.{add-one}
 use native.Mathlib.Omega.{arith}
 use lib.Dec.{eqb}
-use lib.ListN.{length, get_or, set, take, drop, replicate, length-set}
+use lib.ListN.{length, get_or, set, take, drop, length-set}
 use lib.Seq.{sets, sets-eq, length-sets, get_or-set_same, get_or-set_other, set-set, set_comm}
 use borrow.Author.Tests.{eqb-true, eqb-false}
 use Rattle.base.proofs.Tests.{by_test}
@@ -70,16 +68,6 @@ over_next l i j a b e = rw e (sets-append l i a b)
 pub also : (l : List ℕ) (i j : ℕ) (a b : List ℕ) {d e : List ℕ} → d ≡ over l i a → e ≡ over d j b → j ≡ i + length a →
     e ≡ over l i (a ++ b)
 also l i j a b p q h = q ∙ ap (λ x. over x j b) p ∙ over_next l i j a b h
-
--- a loop that writes a from i up to n - 1: a turn, and its end
-pub fill_turn : (l : List ℕ) (i n a : ℕ) → i < n → over (set l i a) (i + 1) (replicate (n - (i + 1)) a)
-    ≡ over l i (replicate (n - i) a)
-unfolding over
-fill_turn l i n a h = let e : n - i ≡ suc (n - (i + 1)) = omega arith in rw (e, add-one)
-
-pub fill_end : (l : List ℕ) (i n a : ℕ) → n ≤ i → l ≡ over l i (replicate (n - i) a)
-unfolding over
-fill_end l i n a h = let e : n - i ≡ 0 = omega arith in rw e
 
 -- an element past the run
 pub get_d_after : (l : List ℕ) (j i : ℕ) (vs : List ℕ) → j + length vs ≤ i → get_or (over l j vs) i 0 ≡ get_or l i 0
