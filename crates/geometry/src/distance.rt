@@ -4,18 +4,12 @@ ghost use Rattle.std.specs.Prelude.{◌≡◌, true, take};
 ghost use Rattle.geometry.specs.Axes.{KnownAxes};
 ghost use Rattle.geometry.specs.Box.{valid_box, valid_point};
 ghost use Rattle.geometry.specs.Distance.{D, min_dist, max_dist};
-ghost use Rattle.base.specs.Refusal as outcome;
-ghost use Rattle.geometry.specs.Calls.{distance_outcome, min_dist_call, max_dist_call};
+ghost use Rattle.base.specs.Answer.{outcome_of, tested_at};
+ghost use Rattle.geometry.specs.Calls.{distance_tests, min_dist_call, max_dist_call};
 
-use crate::padding::{HEIGHT, PLAN};
+use crate::padding::HEIGHT;
 use crate::{axis, limits, padding};
-use base::Refusal;
-
-#[derive(Clone, Copy)]
-pub enum DistanceAnswer {
-    Squared(u64),
-    Refused(Refusal),
-}
+use base::{Reason, Refusal};
 
 // D of two points.
 pub fn squared_dist(axes: usize, p: [i32; 3], q: [i32; 3]) -> u64
@@ -54,58 +48,38 @@ pub fn max_dist_within(axes: usize, b: [[i32; 2]; 3], p: [i32; 3]) -> u64
     }
 }
 
-fn refused(number: u32) -> DistanceAnswer
-    ensures { distance_outcome result ≡ outcome.refused number 0 }
-{
-    DistanceAnswer::Refused(Refusal { number, block: 0 })
-}
-
-fn min_dist_over(axes: usize, b: [[i32; 2]; 3], p: [i32; 3]) -> DistanceAnswer
+// Tests 9 and 13.
+fn tests(axes: usize, b: [[i32; 2]; 3], p: [i32; 3]) -> Result<(), Reason>
     requires { KnownAxes axes }
-    ensures { distance_outcome result ≡ min_dist_call (take axes b) (take axes p) }
+    ensures { tested_at 0 result ≡ distance_tests (take axes b) (take axes p) }
 {
     if !limits::valid_box(axes, b) {
-        return refused(base::BOX);
+        return Err(Reason::Box);
     }
     if !limits::valid_point(axes, p) {
-        return refused(base::SPOT);
+        return Err(Reason::Spot);
     }
-    DistanceAnswer::Squared(min_dist_within(axes, b, p))
+    Ok(())
 }
 
-fn max_dist_over(axes: usize, b: [[i32; 2]; 3], p: [i32; 3]) -> DistanceAnswer
-    requires { KnownAxes axes }
-    ensures { distance_outcome result ≡ max_dist_call (take axes b) (take axes p) }
+// Near, of a box and a point of N axes.
+pub fn min_dist<const N: usize>(b: [[i32; 2]; N], p: [i32; N]) -> Result<u64, Refusal>
+    requires { KnownAxes N }
+    ensures { outcome_of result ≡ min_dist_call b.entry p.entry }
 {
-    if !limits::valid_box(axes, b) {
-        return refused(base::BOX);
-    }
-    if !limits::valid_point(axes, p) {
-        return refused(base::SPOT);
-    }
-    DistanceAnswer::Squared(max_dist_within(axes, b, p))
+    let bounds = padding::pad_box(b);
+    let point = padding::pad_point(p);
+    tests(N, bounds, point)?;
+    Ok(min_dist_within(N, bounds, point))
 }
 
-pub fn min_dist(b: [[i32; 2]; 2], p: [i32; 2]) -> DistanceAnswer
-    ensures { distance_outcome result ≡ min_dist_call b p }
+// Far.
+pub fn max_dist<const N: usize>(b: [[i32; 2]; N], p: [i32; N]) -> Result<u64, Refusal>
+    requires { KnownAxes N }
+    ensures { outcome_of result ≡ max_dist_call b.entry p.entry }
 {
-    min_dist_over(PLAN, padding::pad_box(b), padding::pad_point(p))
-}
-
-pub fn max_dist(b: [[i32; 2]; 2], p: [i32; 2]) -> DistanceAnswer
-    ensures { distance_outcome result ≡ max_dist_call b p }
-{
-    max_dist_over(PLAN, padding::pad_box(b), padding::pad_point(p))
-}
-
-pub fn min_dist3(b: [[i32; 2]; 3], p: [i32; 3]) -> DistanceAnswer
-    ensures { distance_outcome result ≡ min_dist_call b p }
-{
-    min_dist_over(HEIGHT, b, p)
-}
-
-pub fn max_dist3(b: [[i32; 2]; 3], p: [i32; 3]) -> DistanceAnswer
-    ensures { distance_outcome result ≡ max_dist_call b p }
-{
-    max_dist_over(HEIGHT, b, p)
+    let bounds = padding::pad_box(b);
+    let point = padding::pad_point(p);
+    tests(N, bounds, point)?;
+    Ok(max_dist_within(N, bounds, point))
 }

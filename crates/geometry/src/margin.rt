@@ -1,15 +1,13 @@
 // The margin of three boxes, with three points that reach it, and whether E is closer than B from O.
 ghost use Rattle.std.specs.Prelude.{◌≡◌, ◌&&◌, take};
-ghost use Rattle.base.specs.Refusal.{#box};
 ghost use Rattle.geometry.specs.Axes.{KnownAxes};
 ghost use Rattle.geometry.specs.Box.{valid_box, ValidBoxes};
 ghost use Rattle.geometry.specs.Margin.{reached, margin, closer};
-ghost use Rattle.geometry.specs.Calls.{reached_of, reached_of3, reached_in};
-ghost use Rattle.geometry.specs.Calls.{margin_outcome, margin_outcome3, margin_call};
+ghost use Rattle.geometry.specs.Calls.{reached_of, reached_in, reached_outcome, margin_call};
 
-use crate::padding::{HEIGHT, PLAN, pad_box};
+use crate::padding::{HEIGHT, pad_box};
 use crate::{gains, limits};
-use base::Refusal;
+use base::{Reason, Refusal};
 
 pub fn margin_within(axes: usize, o: [[i32; 2]; 3], e: [[i32; 2]; 3], b: [[i32; 2]; 3]) -> i64
     requires { KnownAxes axes × ValidBoxes (take axes o) (take axes e) (take axes b) }
@@ -30,57 +28,22 @@ pub fn closer_within(axes: usize, o: [[i32; 2]; 3], e: [[i32; 2]; 3], b: [[i32; 
     margin_within(axes, o, e, b) < 0
 }
 
-#[derive(Clone, Copy)]
-pub struct Point {
-    pub x: i32,
-    pub y: i32,
-}
-
-#[derive(Clone, Copy)]
-pub struct MarginPoints {
+// The margin, and three points of N coordinates that reach it.
+#[derive(Clone, Copy, Debug, PartialEq, Eq)]
+pub struct MarginPoints<const N: usize> {
     pub margin: i64,
-    pub o: Point,
-    pub e: Point,
-    pub b: Point,
+    pub o: [i32; N],
+    pub e: [i32; N],
+    pub b: [i32; N],
 }
 
-#[derive(Clone, Copy)]
-pub enum MarginAnswer {
-    Reached(MarginPoints),
-    Refused(Refusal),
-}
-
-#[derive(Clone, Copy)]
-pub struct Point3 {
-    pub x: i32,
-    pub y: i32,
-    pub z: i32,
-}
-
-#[derive(Clone, Copy)]
-pub struct MarginPoints3 {
-    pub margin: i64,
-    pub o: Point3,
-    pub e: Point3,
-    pub b: Point3,
-}
-
-#[derive(Clone, Copy)]
-pub enum MarginAnswer3 {
-    Reached(MarginPoints3),
-    Refused(Refusal),
-}
-
-// The margin with its points for either number of axes: arrays, which no enum may hold.
-#[derive(Clone, Copy)]
-struct Padded {
-    margin: i64,
-    o: [i32; 3],
-    e: [i32; 3],
-    b: [i32; 3],
-}
-
-fn margin_points(axes: usize, o: [[i32; 2]; 3], e: [[i32; 2]; 3], b: [[i32; 2]; 3]) -> Padded
+// Of either number of axes, with room for three.
+fn margin_points(
+    axes: usize,
+    o: [[i32; 2]; 3],
+    e: [[i32; 2]; 3],
+    b: [[i32; 2]; 3],
+) -> MarginPoints<3>
     requires { KnownAxes axes × ValidBoxes (take axes o) (take axes e) (take axes b) }
     ensures { reached_in axes result ≡ reached (take axes o) (take axes e) (take axes b) }
 {
@@ -89,14 +52,14 @@ fn margin_points(axes: usize, o: [[i32; 2]; 3], e: [[i32; 2]; 3], b: [[i32; 2]; 
     let y = gains::best_ends(o[1], e[1], b[1]);
     if axes == HEIGHT {
         let z = gains::best_ends(o[2], e[2], b[2]);
-        Padded {
+        MarginPoints {
             margin,
             o: [x.o, y.o, z.o],
             e: [x.e, y.e, z.e],
             b: [x.b, y.b, z.b],
         }
     } else {
-        Padded {
+        MarginPoints {
             margin,
             o: [x.o, y.o, 0],
             e: [x.e, y.e, 0],
@@ -120,76 +83,42 @@ pub fn valid_boxes(axes: usize, o: [[i32; 2]; 3], e: [[i32; 2]; 3], b: [[i32; 2]
     limits::valid_box(axes, b)
 }
 
-fn bad_box() -> Refusal
-    ensures { (result.number ≡ #box) × (result.block ≡ 0) }
+// The first N of three coordinates.
+fn first<const N: usize>(p: [i32; 3]) -> [i32; N]
+    requires { KnownAxes N }
+    ensures { result ≡ take N p }
 {
-    Refusal {
-        number: base::BOX,
-        block: 0,
-    }
+    let mut q = [0; N];
+    q.copy_from_slice(&p[..N]);
+    q
 }
 
-// The points as an answer shows them: on the plan, and with height.
-fn plan_points(m: Padded) -> MarginPoints
-    ensures { reached_of result ≡ reached_in 2 m }
+// The points as an answer shows them, without the room left over.
+fn shown<const N: usize>(m: MarginPoints<3>) -> MarginPoints<N>
+    requires { KnownAxes N }
+    ensures { reached_of result ≡ reached_in N m }
 {
     MarginPoints {
         margin: m.margin,
-        o: Point {
-            x: m.o[0],
-            y: m.o[1],
-        },
-        e: Point {
-            x: m.e[0],
-            y: m.e[1],
-        },
-        b: Point {
-            x: m.b[0],
-            y: m.b[1],
-        },
+        o: first(m.o),
+        e: first(m.e),
+        b: first(m.b),
     }
 }
 
-fn high_points(m: Padded) -> MarginPoints3
-    ensures { reached_of3 result ≡ reached_in 3 m }
-{
-    MarginPoints3 {
-        margin: m.margin,
-        o: Point3 {
-            x: m.o[0],
-            y: m.o[1],
-            z: m.o[2],
-        },
-        e: Point3 {
-            x: m.e[0],
-            y: m.e[1],
-            z: m.e[2],
-        },
-        b: Point3 {
-            x: m.b[0],
-            y: m.b[1],
-            z: m.b[2],
-        },
-    }
-}
-
-pub fn margin(o: [[i32; 2]; 2], e: [[i32; 2]; 2], b: [[i32; 2]; 2]) -> MarginAnswer
-    ensures { margin_outcome result ≡ margin_call o e b }
+pub fn margin<const N: usize>(
+    o: [[i32; 2]; N],
+    e: [[i32; 2]; N],
+    b: [[i32; 2]; N],
+) -> Result<MarginPoints<N>, Refusal>
+    requires { KnownAxes N }
+    ensures { reached_outcome result ≡ margin_call o.entry e.entry b.entry }
 {
     let po = pad_box(o);
     let pe = pad_box(e);
     let pb = pad_box(b);
-    if !valid_boxes(PLAN, po, pe, pb) {
-        return MarginAnswer::Refused(bad_box());
+    if !valid_boxes(N, po, pe, pb) {
+        return Err(Reason::Box.at(0));
     }
-    MarginAnswer::Reached(plan_points(margin_points(PLAN, po, pe, pb)))
-}
-
-pub fn margin3(o: [[i32; 2]; 3], e: [[i32; 2]; 3], b: [[i32; 2]; 3]) -> MarginAnswer3
-    ensures { margin_outcome3 result ≡ margin_call o e b }
-{
-    if !valid_boxes(HEIGHT, o, e, b) {
-        return MarginAnswer3::Refused(bad_box());
-    }
-    MarginAnswer3::Reached(high_points(margin_points(HEIGHT, o, e, b)))
+    Ok(shown(margin_points(N, po, pe, pb)))
 }
