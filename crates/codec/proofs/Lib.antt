@@ -2,3 +2,4 @@ pub mod Zeros
 pub mod Number
 pub mod Holds
 pub mod Bytes
+pub mod Written
