@@ -2,7 +2,7 @@
 --
 --   sums_turn, sums_end         one more byte, in sums that are kept whole; no more bytes
 --   sums-small                  the sums are below 255
---   Within, within_start, _next, _room   how large sums get that are reduced late: 21 bytes fit 16 bits
+--   Within, within_next, _room  how large sums get that are reduced late: 21 bytes fit 16 bits
 use Prim.Native.Nat.{ℕ, ◌+◌, ◌*◌, ◌%◌, ◌<◌, ◌≤◌}
 use mathlib.Core.List.{List, [], ◌∷◌}
 use mathlib.Core.Path.{◌≡◌, ap, ◌∙◌}
@@ -46,9 +46,6 @@ sums-small (b ∷ bytes) a c h g =
 pub record Within (n a c : ℕ) : Type 0 where
   pub most_a : a ≤ 254 + 255 * n
   pub most_c : 2 * c ≤ 508 + 763 * n + 255 * (n * n)
-
-pub within_start : {a c : ℕ} → a < 255 → c < 255 → Within 0 a c
-within_start h g = record { most_a = omega arith; most_c = omega arith }
 
 pub within_next : {n a c w : ℕ} → w < 256 → Within n a c → Within (n + 1) (a + w) (c + (a + w))
 within_next h m = record { most_a = omega (arith, m); most_c = omega (arith, m) }

@@ -2,8 +2,7 @@
 --
 --   tiles_good, length_good, block_at_good, directory_good   what tests 6 and 1, a block and the directory show
 --   directory_enough                     that it is enough
---   per_block, first_few, index_below    how many entries a block holds
---   product_small, by_product, index_rest   which block and which of its entries, without a division
+--   first_few, index_below               how many entries a block holds
 --   entry_room, entries_end              where the entries of a block end
 --   some_block, few_blocks, entry_block, entry_due   which entry is a tile's
 --   first_block                          what the code goes by behind block 0
@@ -33,7 +32,6 @@ use Rattle.blocks.specs.Directory.{directory_block_at}
 use Rattle.blocks.specs.Directory.{directory_rest, directory, box_at, count_at, muted_at}
 use Rattle.blocks.specs.Layout.{block_size, height, max_length, payload_at, check_at, directory_kind, entry_size}
 use Rattle.blocks.specs.Layout.{entries_per_block, max_sites, max_tiles}
-use Rattle.blocks.specs.Inner.Reciprocal.{entry_reciprocal}
 use Rattle.blocks.specs.declared.header.Header.{Header}
 use Rattle.blocks.proofs.BlockLaws.{start_good, start_enough, axes_known, axes_of_kind}
 
@@ -92,33 +90,9 @@ length_enough a n k g =
     rw (le-leb 1 n g.least, eq-eqb (n % block_size) 0 g.whole, le-leb n (max_length height) most)
 
 -- ---- a directory block
--- how many entries a block holds
-pub per_block : (a : ℕ) → KnownAxes a → (17 ≤ entries_per_block a) × (entries_per_block a ≤ 24)
-per_block a k =
-    by_axes (λ a. (17 ≤ entries_per_block a) × (entries_per_block a ≤ 24))
-    (omega arith, omega arith) (omega arith, omega arith) a k
-
 -- the first entry of block p
 pub first_few : (a p : ℕ) → KnownAxes a → entries_per_block a * p ≤ 24 * p
 first_few a p k = by_axes (λ a. entries_per_block a * p ≤ 24 * p) (omega arith) (omega arith) a k
-
--- a division by it, as a product
-pub product_small : (a t : ℕ) → KnownAxes a → t < 131072 → t * entry_reciprocal a < 131072 * 246724
-product_small a t k l =
-    by_axes (λ a. t * entry_reciprocal a < 131072 * 246724) (omega (arith, l)) (omega (arith, l)) a k
-
-pub by_product : (a t : ℕ) → KnownAxes a → t < 131072 → t * entry_reciprocal a / 4194304 ≡ t / entries_per_block a
-by_product a t k l =
-    by_axes (λ a. t * entry_reciprocal a / 4194304 ≡ t / entries_per_block a) (omega (arith, l)) (omega (arith, l)) a k
-
--- and its remainder
-pub index_rest : (a t : ℕ) → KnownAxes a →
-    (entries_per_block a * (t / entries_per_block a) ≤ t)
-    × (t - entries_per_block a * (t / entries_per_block a) ≡ t % entries_per_block a)
-index_rest a t k =
-    by_axes (λ a. (entries_per_block a * (t / entries_per_block a) ≤ t)
-    × (t - entries_per_block a * (t / entries_per_block a) ≡ t % entries_per_block a))
-    (omega arith, omega arith) (omega arith, omega arith) a k
 
 pub index_below : (a t : ℕ) → KnownAxes a → t % entries_per_block a < entries_per_block a
 index_below a t k = by_axes (λ a. t % entries_per_block a < entries_per_block a) (omega arith) (omega arith) a k

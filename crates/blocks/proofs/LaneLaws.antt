@@ -4,17 +4,14 @@
 --   lanes-zero, lanes_start    lanes of 0 are reduced, and the start of the block's sums
 --   row_added, lanes-reduced   a row put into the lanes, and their remainders, leave the block's sums as they are
 --   minus_moment               -1 times the moment, without a number below 0
---   UpTo, up_to_next           a loop that changes lane after lane
+--   UpTo                       a loop that changes lane after lane
 use Prim.Native.Nat.{ℕ, zero, suc, ◌+◌, ◌*◌, ◌-◌, ◌%◌, ◌<◌, ◌≤◌}
 use mathlib.Core.List.{List}
 use mathlib.Core.Path.{◌≡◌, refl, sym, ap, ◌∙◌}
 use native.Mathlib.Nat.{add-zero}
 use native.Mathlib.Omega.{arith}
-use lib.Dec.{eqb}
-use lib.ListN.{length, get_or, set, replicate, length-set, get_or-replicate}
-use lib.Seq.{slice, get_or-set_same, get_or-set_other}
-use borrow.Author.Tests.{eqb-true, eqb-false}
-use Rattle.base.proofs.Tests.{by_test}
+use lib.ListN.{length, get_or, replicate, get_or-replicate}
+use lib.Seq.{slice}
 use Rattle.blocks.specs.Checksum.{sums_from, sums}
 use Rattle.blocks.specs.Layout.{check_at}
 use Rattle.blocks.specs.Inner.Lanes.{lanes, sum_to, total_of, moment_of, sums_on, Small, Reduced}
@@ -99,17 +96,6 @@ pub record UpTo (g : ℕ → ℕ) (before now : List ℕ) (j : ℕ) : Type 0 whe
   pub size : length now ≡ lanes
   pub done : (k : ℕ) → k < j → get_or now k 0 ≡ g k
   pub left : (k : ℕ) → j ≤ k → get_or now k 0 ≡ get_or before k 0
-
-module _ {g : ℕ → ℕ} {before : List ℕ} where
-  pub up_to_next : {now : List ℕ} {j v : ℕ} → j < lanes → UpTo g before now j → v ≡ g j →
-      UpTo g before (set now j v) (j + 1)
-  up_to_next {now} {j} {v} h u e = record {
-    size = length-set now j v ∙ u.size;
-    done = λ k l. by_test (eqb k j)
-        (λ q. let n = eqb-true k j q in rw n (get_or-set_same now j v 0 (omega (arith, u.size)) ∙ e))
-        (λ q. let n = eqb-false k j q in get_or-set_other now j k v 0 n ∙ u.done k (omega (arith, n)));
-    left = λ k l. get_or-set_other now j k v 0 (omega arith) ∙ u.left k (omega arith);
-  }
 
 -- modulo 255, 14,280 less the moment is -1 times the moment
 pub minus_moment : (t m : ℕ) → m ≤ 14280 → (lanes * t + (14280 - m)) % 255 ≡ (lanes * t + 254 * m) % 255

@@ -1,6 +1,5 @@
 pub mod Layout
 pub mod Checksum
-pub mod Outcome
 pub mod Block
 pub mod Directory
 pub mod Document01

@@ -1,6 +1,6 @@
 // The blocks of a file: where they stand, and the tests that both kinds have in common.
-ghost use Rattle.std.specs.Prelude.{◌≡◌, ◌+◌, ◌*◌, ◌<◌, ◌≤◌, length};
-ghost use Rattle.base.specs.Inner.AnswerNumber.{number_outcome};
+ghost use Rattle.std.specs.Prelude.{ℕ, ◌≡◌, ◌+◌, ◌*◌, ◌<◌, ◌≤◌, length};
+ghost use Rattle.base.specs.Answer.{tested_at};
 ghost use Rattle.codec.specs.Number.{limit16};
 ghost use Rattle.geometry.specs.Axes.{KnownAxes};
 ghost use Rattle.blocks.specs.Layout.{block_size};
@@ -8,6 +8,7 @@ ghost use Rattle.blocks.specs.Block.{block_at, axes_in, header_in, kind_due, blo
 
 use crate::header::Header;
 use crate::{checksum, layout};
+use base::Reason;
 use codec::reading::u16_at;
 
 // The block at position p, in place.
@@ -21,6 +22,7 @@ pub fn block_at(f: &[u8], p: usize) -> &[u8]
 }
 
 // The axes that a directory block has: those of its kind.
+#[tactic(auto, unfolding(crate::specs::Block::axes_in))]
 fn axes_in(s: &[u8]) -> usize
     requires { length s.now ≡ block_size }
     ensures { (result ≡ axes_in s.now) × KnownAxes result }
@@ -43,6 +45,7 @@ pub fn header_in(s: &[u8]) -> Header
 }
 
 // Whether the block is of the kind that is due.
+#[tactic(auto, unfolding(crate::specs::Block::kind_due))]
 fn kind_due(s: &[u8], kind: u8) -> bool
     requires { length s.now ≡ block_size }
     ensures { result ≡ kind_due kind s.now }
@@ -50,19 +53,20 @@ fn kind_due(s: &[u8], kind: u8) -> bool
     s[layout::KIND_AT] == kind
 }
 
-// The number of the first of tests 2 to 4 that a block at position p fails, or 0.
-pub fn start_number(s: &[u8], kind: u8, p: usize) -> u32
+// Tests 2 to 4 of a block: the reason is that of the first one failed.
+#[tactic(auto, unfolding(crate::specs::Block::block_start))]
+pub fn start_tests(s: &[u8], kind: u8) -> Result<(), Reason>
     requires { length s.now ≡ block_size }
-    ensures { number_outcome result p ≡ block_start kind s.now p }
+    ensures { (p : ℕ) → tested_at p result ≡ block_start kind s.now p }
 {
     if s[0] != layout::SYNC_BYTE {
-        return base::SYNC;
+        return Err(Reason::Sync);
     }
     if !checksum::agrees(s) {
-        return base::CHECK;
+        return Err(Reason::Check);
     }
     if !kind_due(s, kind) {
-        return base::KIND;
+        return Err(Reason::Kind);
     }
-    0
+    Ok(())
 }

@@ -5,18 +5,21 @@ ghost use Rattle.blocks.specs.Layout.{block_size, check_at};
 ghost use Rattle.blocks.specs.Checksum.{sums_from, sums, check_agrees};
 ghost use Rattle.blocks.specs.Inner.Lanes.{max_added};
 
-use crate::lanes::{LANES, Lanes, ROWS_SIZE, add_rows, reduced, whole, wide};
+use crate::lanes::{LANES, Lanes, ROWS_SIZE, add_rows, reduced, whole};
 use crate::layout::CHECK_AT;
 use base::both;
 
-#[derive(Clone, Copy)]
+#[derive(Clone, Copy, Debug, PartialEq, Eq)]
 pub struct Sums {
     pub a: u16,
     pub c: u16,
 }
 
-// The last place from which ROWS_SIZE bytes still lie before the check.
-const LAST_ROWS_AT: usize = CHECK_AT - ROWS_SIZE;
+// The first byte that is summed.
+const SUMMED_AT: usize = 1;
+
+// How often ROWS_SIZE bytes are added: as many as lie before the check.
+const TIMES: usize = (CHECK_AT - SUMMED_AT) / ROWS_SIZE;
 
 // Adds the last bytes, from `from` on: so few that the sums are reduced once.
 fn add_last(t: Sums, s: &[u8], from: usize) -> Sums
@@ -26,11 +29,9 @@ fn add_last(t: Sums, s: &[u8], from: usize) -> Sums
 {
     let mut a = t.a;
     let mut c = t.c;
-    let mut i = from;
-    while i < CHECK_AT {
-        a += wide(s[i]);
+    for i in from..CHECK_AT {
+        a += u16::from(s[i]);
         c += a;
-        i += 1;
     }
     Sums {
         a: a % 255,
@@ -47,14 +48,13 @@ pub fn sums_of(s: &[u8]) -> Sums
         a: [0; LANES],
         c: [0; LANES],
     };
-    let mut i: usize = 1;
-    while i <= LAST_ROWS_AT {
-        l = reduced(add_rows(l, s, i));
-        i += ROWS_SIZE;
+    for time in 0..TIMES {
+        l = reduced(add_rows(l, s, SUMMED_AT + ROWS_SIZE * time));
     }
-    add_last(whole(l), s, i)
+    add_last(whole(l), s, SUMMED_AT + ROWS_SIZE * TIMES)
 }
 
+#[tactic(auto, unfolding(crate::specs::Checksum::check_agrees))]
 pub fn agrees(s: &[u8]) -> bool
     requires { length s.now ≡ block_size }
     ensures { result ≡ check_agrees s.now }
@@ -62,5 +62,5 @@ pub fn agrees(s: &[u8]) -> bool
     let t = sums_of(s);
     let a = t.a;
     let c = t.c;
-    both(wide(s[CHECK_AT]) == a, wide(s[CHECK_AT + 1]) == c)
+    both(u16::from(s[CHECK_AT]) == a, u16::from(s[CHECK_AT + 1]) == c)
 }

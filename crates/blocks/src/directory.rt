@@ -1,10 +1,10 @@
 // The directory: its blocks in order, and the box and the counts of a tile.
 ghost use Rattle.std.specs.Prelude.{◌≡◌, ◌+◌, ◌*◌, ◌<◌, ◌≤◌, length, take};
-ghost use Rattle.base.specs.Refusal.{accepted, refused};
+ghost use Rattle.base.specs.Answer.{outcome_of};
+ghost use Rattle.base.specs.Refusal.{accepted};
 ghost use Rattle.codec.specs.Number.{limit16};
 ghost use Rattle.geometry.specs.Axes.{KnownAxes};
 ghost use Rattle.blocks.specs.Layout.{block_size, entries_per_block};
-ghost use Rattle.blocks.specs.Outcome.{directory_outcome};
 ghost use Rattle.blocks.specs.Block.{block_at, header_in};
 ghost use Rattle.blocks.specs.Directory.{directory_blocks, entries_due, tiles_due, directory_padding};
 ghost use Rattle.blocks.specs.Directory.{directory_block, directory_block_at, length_due, length_fits, directory_rest};
@@ -12,27 +12,11 @@ ghost use Rattle.blocks.specs.Directory.{directory, box_at, count_at, muted_at};
 
 use crate::header::Header;
 use crate::{block, entry, layout};
-use base::{Refusal, both};
+use base::{Reason, Refusal, both};
 use codec::reading::{u16_at, zeros};
 
-#[derive(Clone, Copy)]
-pub enum DirectoryAnswer {
-    Accepted(Header),
-    Refused(Refusal),
-}
-
-// The refusal of the block at position p. Every position that is read fits 16 bits.
-fn refused(number: u32, p: usize) -> DirectoryAnswer
-    requires { p < limit16 }
-    ensures { directory_outcome result ≡ refused number p }
-{
-    DirectoryAnswer::Refused(Refusal {
-        number,
-        block: p as u32,
-    })
-}
-
 // The number of directory blocks.
+#[tactic(auto, unfolding(crate::specs::Directory::directory_blocks))]
 pub fn directory_blocks(h: Header) -> usize
     requires { KnownAxes h.axes × (h.tiles < limit16) }
     ensures { (result ≡ directory_blocks h) × (result ≤ h.tiles) }
@@ -42,6 +26,7 @@ pub fn directory_blocks(h: Header) -> usize
 }
 
 // The number of entries due in the directory block at position p.
+#[tactic(auto, unfolding(crate::specs::Directory::entries_due))]
 pub fn entries_due(h: Header, p: usize) -> usize
     requires { KnownAxes h.axes × (p < limit16) }
     ensures { (result ≡ entries_due h p) × (result ≤ entries_per_block h.axes) }
@@ -57,6 +42,7 @@ pub fn entries_due(h: Header, p: usize) -> usize
 }
 
 // Test 6: T against block 0's and against the number of the file's blocks.
+#[tactic(auto, unfolding(crate::specs::Directory::tiles_due))]
 fn tiles_due(h: Header, first: Header, blocks: usize) -> bool
     requires { KnownAxes h.axes × (h.tiles < limit16) }
     ensures { result ≡ tiles_due h first blocks }
@@ -69,6 +55,7 @@ fn tiles_due(h: Header, first: Header, blocks: usize) -> bool
 }
 
 // Test 8, of a block with n entries.
+#[tactic(auto, unfolding(crate::specs::Directory::directory_padding))]
 fn directory_padding(axes: usize, s: &[u8], n: usize) -> bool
     requires { KnownAxes axes × (n ≤ entries_per_block axes) × (length s.now ≡ block_size) }
     ensures { result ≡ directory_padding axes s.now n }
@@ -81,6 +68,7 @@ fn directory_padding(axes: usize, s: &[u8], n: usize) -> bool
 }
 
 // Test 1, once block 0 has settled the axes.
+#[tactic(auto, unfolding(crate::specs::Directory::length_fits))]
 fn length_fits(axes: usize, n: usize) -> bool
     requires { KnownAxes axes }
     ensures { result ≡ length_fits axes n }
@@ -89,64 +77,61 @@ fn length_fits(axes: usize, n: usize) -> bool
 }
 
 // One directory block of a file of n bytes: the first test that fails decides.
-fn directory_block(s: &[u8], p: usize, first: Header, n: usize) -> DirectoryAnswer
+#[tactic(auto, unfolding(crate::specs::Directory::directory_block))]
+fn directory_block(s: &[u8], p: usize, first: Header, n: usize) -> Result<Header, Refusal>
     requires { (length s.now ≡ block_size) × (p < limit16) × KnownAxes first.axes }
-    ensures { directory_outcome result ≡ directory_block s.now p first n }
+    ensures { outcome_of result ≡ directory_block s.now p first n }
 {
-    let start = block::start_number(s, layout::directory_kind(first.axes), p);
-    if start != 0 {
-        return refused(start, p);
+    if let Err(reason) = block::start_tests(s, layout::directory_kind(first.axes)) {
+        return Err(reason.at(p));
     }
     if !length_fits(first.axes, n) {
-        return refused(base::LENGTH, p);
+        return Err(Reason::Length.at(p));
     }
     if u16_at(s, layout::POSITION_AT) != p {
-        return refused(base::POSITION, p);
+        return Err(Reason::Position.at(p));
     }
     let h = block::header_in(s);
     if !tiles_due(h, first, n / layout::BLOCK_SIZE) {
-        return refused(base::TILES, p);
+        return Err(Reason::Tiles.at(p));
     }
     let due = entries_due(h, p);
     if u16_at(s, layout::ENTRIES_AT) != due {
-        return refused(base::ENTRIES, p);
+        return Err(Reason::Entries.at(p));
     }
     if !directory_padding(first.axes, s, due) {
-        return refused(base::PADDING, p);
+        return Err(Reason::Padding.at(p));
     }
     if !entry::entries_valid(first.axes, s, due) {
-        return refused(base::BOX, p);
+        return Err(Reason::Box.at(p));
     }
-    DirectoryAnswer::Accepted(h)
+    Ok(h)
 }
 
 // The directory block at position p of a file whose block 0 has the header `first`.
-fn directory_block_at(f: &[u8], p: usize, first: Header) -> DirectoryAnswer
+#[tactic(auto, unfolding(crate::specs::Directory::directory_block_at))]
+fn directory_block_at(f: &[u8], p: usize, first: Header) -> Result<Header, Refusal>
     requires { (block_size * p + block_size ≤ length f.now) × (p < limit16) × (first ≡ header_in (block_at f.now 0)) }
-    ensures { directory_outcome result ≡ directory_block_at f.now p }
+    ensures { outcome_of result ≡ directory_block_at f.now p }
 {
     directory_block(block::block_at(f, p), p, first, f.len())
 }
 
 // The directory blocks after block 0.
-fn directory_rest(f: &[u8], h: Header) -> DirectoryAnswer
+fn directory_rest(f: &[u8], h: Header) -> Result<Header, Refusal>
     requires { (block_size * directory_blocks h ≤ length f.now) × (h.tiles < limit16) × KnownAxes h.axes
         × (h ≡ header_in (block_at f.now 0)) }
-    ensures { directory_outcome result ≡ directory_rest f.now h }
+    ensures { outcome_of result ≡ directory_rest f.now h }
 {
     let d = directory_blocks(h);
-    let mut p = 1;
-    while p < d {
-        let answer = directory_block_at(f, p, h);
-        let DirectoryAnswer::Accepted(_) = answer else {
-            return answer;
-        };
-        p += 1;
+    for p in 1..d {
+        directory_block_at(f, p, h)?;
     }
-    DirectoryAnswer::Accepted(h)
+    Ok(h)
 }
 
 // Test 1, before all else.
+#[tactic(auto, unfolding(crate::specs::Directory::length_due))]
 fn length_due(n: usize) -> bool
     ensures { result ≡ length_due n }
 {
@@ -157,17 +142,15 @@ fn length_due(n: usize) -> bool
 }
 
 // Reads the directory of a file: its header, or the first refusal.
-pub fn read_directory(f: &[u8]) -> DirectoryAnswer
-    ensures { directory_outcome result ≡ directory f.now }
+#[tactic(auto, unfolding(crate::specs::Directory::directory))]
+pub fn read_directory(f: &[u8]) -> Result<Header, Refusal>
+    ensures { outcome_of result ≡ directory f.now }
 {
     if !length_due(f.len()) {
-        return refused(base::LENGTH, 0);
+        return Err(Reason::Length.at(0));
     }
     let h = block::header_in(block::block_at(f, 0));
-    let answer = directory_block_at(f, 0, h);
-    let DirectoryAnswer::Accepted(_) = answer else {
-        return answer;
-    };
+    directory_block_at(f, 0, h)?;
     directory_rest(f, h)
 }
 

@@ -39,6 +39,7 @@ pub fn entry_index(axes: usize, t: usize) -> usize
     t - layout::entries_per_block(axes) * entry_block(axes, t)
 }
 
+#[tactic(auto, unfolding(crate::specs::Directory::entry_offset))]
 pub fn entry_offset(axes: usize, i: usize) -> usize
     requires { KnownAxes axes × (i ≤ entries_per_block axes) }
     ensures { (result ≡ entry_offset axes i) × (result ≡ payload_at + entry_size axes * i) }
@@ -74,6 +75,7 @@ pub fn entry_box(axes: usize, s: &[u8], i: usize) -> [[i32; 2]; 3]
     }
 }
 
+#[tactic(auto, unfolding(crate::specs::Directory::entry_count))]
 pub fn entry_count(axes: usize, s: &[u8], i: usize) -> usize
     requires { KnownAxes axes × (i < entries_per_block axes) × (length s.now ≡ block_size) }
     ensures { result ≡ entry_count axes s.now i }
@@ -81,6 +83,7 @@ pub fn entry_count(axes: usize, s: &[u8], i: usize) -> usize
     u16_at(s, entry_offset(axes, i) + layout::count_offset(axes))
 }
 
+#[tactic(auto, unfolding(crate::specs::Directory::entry_muted))]
 pub fn entry_muted(axes: usize, s: &[u8], i: usize) -> usize
     requires { KnownAxes axes × (i < entries_per_block axes) × (length s.now ≡ block_size) }
     ensures { result ≡ entry_muted axes s.now i }
@@ -89,6 +92,7 @@ pub fn entry_muted(axes: usize, s: &[u8], i: usize) -> usize
 }
 
 // Test 9 of one entry.
+#[tactic(auto, unfolding(crate::specs::Directory::entry_valid))]
 fn entry_valid(axes: usize, s: &[u8], i: usize) -> bool
     requires { KnownAxes axes × (i < entries_per_block axes) × (length s.now ≡ block_size) }
     ensures { result ≡ entry_valid axes s.now i }
@@ -119,12 +123,5 @@ pub fn entries_valid(axes: usize, s: &[u8], n: usize) -> bool
     requires { KnownAxes axes × (n ≤ entries_per_block axes) × (length s.now ≡ block_size) }
     ensures { result ≡ every (entry_valid axes s.now) n }
 {
-    let mut i = 0;
-    while i < n {
-        if !entry_passes(axes, s, i) {
-            return false;
-        }
-        i += 1;
-    }
-    true
+    (0..n).all(|i| entry_passes(axes, s, i))
 }

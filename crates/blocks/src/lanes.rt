@@ -15,16 +15,10 @@ const MAX_ADDED: usize = 21;
 // The bytes of MAX_ADDED rows.
 pub const ROWS_SIZE: usize = LANES * MAX_ADDED;
 
-#[derive(Clone, Copy)]
+#[derive(Clone, Copy, Debug, PartialEq, Eq)]
 pub struct Lanes {
     pub a: [u16; LANES],
     pub c: [u16; LANES],
-}
-
-pub fn wide(x: u8) -> u16
-    ensures { (result ≡ x) × (result < 256) }
-{
-    x as u16
 }
 
 // Adds the row at i, a byte to each lane.
@@ -34,11 +28,9 @@ fn add_row(l: Lanes, s: &[u8], i: usize) -> Lanes
 {
     let mut a = l.a;
     let mut c = l.c;
-    let mut j: usize = 0;
-    while j < LANES {
-        a[j] += wide(s[i + j]);
+    for j in 0..LANES {
+        a[j] += u16::from(s[i + j]);
         c[j] += a[j];
-        j += 1;
     }
     Lanes { a, c }
 }
@@ -49,10 +41,8 @@ pub fn add_rows(l: Lanes, s: &[u8], i: usize) -> Lanes
     ensures { sums_on result s.now (i + rows_size) ≡ sums_on l s.now i }
 {
     let mut l = l;
-    let mut row: usize = 0;
-    while row < MAX_ADDED {
+    for row in 0..MAX_ADDED {
         l = add_row(l, s, i + LANES * row);
-        row += 1;
     }
     l
 }
@@ -62,11 +52,9 @@ pub fn reduced(l: Lanes) -> Lanes
 {
     let mut a = l.a;
     let mut c = l.c;
-    let mut j: usize = 0;
-    while j < LANES {
+    for j in 0..LANES {
         a[j] = a[j] % 255;
         c[j] = c[j] % 255;
-        j += 1;
     }
     Lanes { a, c }
 }
@@ -76,11 +64,9 @@ fn total(x: [u16; LANES]) -> u16
     requires { Small x }
     ensures { (result ≡ total_of x) × (result ≤ 2040) }
 {
-    let mut sum: u16 = 0;
-    let mut j: usize = 0;
-    while j < LANES {
-        sum += x[j];
-        j += 1;
+    let mut sum = 0;
+    for v in x {
+        sum += v;
     }
     sum
 }
@@ -90,11 +76,9 @@ fn moment(x: [u16; LANES]) -> u16
     requires { Small x }
     ensures { (result ≡ moment_of x) × (result ≤ 14280) }
 {
-    let mut sum: u16 = 0;
-    let mut j: usize = 0;
-    while j < LANES {
+    let mut sum = 0;
+    for j in 0..LANES {
         sum += j as u16 * x[j];
-        j += 1;
     }
     sum
 }

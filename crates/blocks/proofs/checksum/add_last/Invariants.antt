@@ -1,4 +1,4 @@
-use Prim.Native.Nat.{◌-◌, ◌%◌, ◌≤◌}
+use Prim.Native.Nat.{◌-◌, ◌%◌}
 use mathlib.Core.Path.{◌≡◌}
 use lib.Seq.{slice}
 use Rattle.blocks.specs.Checksum.{sums_from}
@@ -8,9 +8,6 @@ use Rattle.blocks.proofs.checksum.add_last.Given as goal
 
 abbrev pub invariant-loop-i : goal.invariant-loop-i
 invariant-loop-i l =
-    (l.from ≤ l.i) × (l.i ≤ check_at) × Within (l.i - l.from) l.a l.c
+    Within (l.i - l.from) l.a l.c
     × (sums_from (l.a % 255) (l.c % 255) (slice l.i check_at l.s)
     ≡ sums_from l.initial.a l.initial.c (slice l.from check_at l.s))
-
-abbrev pub decreases-loop-i : goal.decreases-loop-i
-decreases-loop-i l = check_at - l.i

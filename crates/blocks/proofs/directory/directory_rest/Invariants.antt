@@ -1,4 +1,4 @@
-use Prim.Native.Nat.{◌-◌, ◌≤◌}
+use Prim.Native.Nat.{◌-◌}
 use mathlib.Core.Path.{◌≡◌}
 use Rattle.base.specs.Refusal.{in_turn}
 use Rattle.blocks.specs.Directory.{directory_blocks, directory_block_at}
@@ -6,8 +6,4 @@ use Rattle.blocks.proofs.directory.directory_rest.Given as goal
 
 abbrev pub invariant-loop-p : goal.invariant-loop-p
 invariant-loop-p l =
-    (1 ≤ l.p) × (in_turn (directory_block_at l.f) l.p (l.d - l.p)
-    ≡ in_turn (directory_block_at l.f) 1 (directory_blocks l.h - 1))
-
-abbrev pub decreases-loop-p : goal.decreases-loop-p
-decreases-loop-p l = l.d - l.p
+    in_turn (directory_block_at l.f) l.p (l.d - l.p) ≡ in_turn (directory_block_at l.f) 1 (directory_blocks l.h - 1)

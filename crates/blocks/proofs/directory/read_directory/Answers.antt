@@ -3,11 +3,9 @@ use mathlib.Core.Path.{◌≡◌, sym, ap, ◌∙◌}
 use native.Mathlib.Omega.{arith}
 use lib.ListN.{length}
 use borrow.Author.Rules.{rules}
-use Rattle.base.proofs.Outcomes.{told}
-use Rattle.base.proofs.Tests.{passed, failed}
+use Rattle.base.proofs.Tests.{passed}
 use Rattle.blocks.specs.Block.{block_at, header_in}
 use Rattle.blocks.specs.Directory.{length_due, directory}
-use Rattle.blocks.specs.Outcome.{directory_outcome}
 use Rattle.blocks.proofs.DirectoryLaws.{length_good, first_block}
 use Rattle.blocks.proofs.directory.read_directory.Goals as goal
 use Rattle.blocks.proofs.directory.read_directory.Goals.{After-header_in-h, Else-not-length_due}
@@ -23,43 +21,24 @@ header : (c : After-header_in-h) →
 header c =
     c.header_in-h.ensures.0 ∙ ap (λ s. header_in s) c.block_at.ensures.0
 
-pub returns-then-not-length_due : goal.returns-then-not-length_due
-unfolding directory
-returns-then-not-length_due c =
-    c.refused.ensures ∙ sym (rw (failed c.length_due.ensures c.if-not-length_due.true))
-
 pub block_at-requires : goal.block_at-requires
 block_at-requires c = omega (arith, length_good _ (due c))
 
-pub directory_block_at-answer-requires : goal.directory_block_at-answer-requires
-directory_block_at-answer-requires c
-    = (
-      omega (arith, length_good _ (due (goal.at.directory_block_at-answer-requires c).Else-not-length_due)),
-      search rules,
-      header c,
-    )
-
-pub returns-in_default : goal.returns-in_default
-unfolding directory
-returns-in_default c =
-    let e = c.in_default.is in
-    ap directory_outcome e
-    ∙ sym (rw (
-      due (goal.at.returns-in_default c).Else-not-length_due,
-      told directory_outcome c.directory_block_at-answer.ensures
-          e,
-    ))
+pub directory_block_at-requires : goal.directory_block_at-requires
+directory_block_at-requires c =
+    let l = due (goal.at.directory_block_at-requires c).Else-not-length_due in
+    (omega (arith, length_good _ l), search rules, header c)
 
 pub directory_rest-requires : goal.directory_rest-requires
 directory_rest-requires c =
     let h = header (goal.at.directory_rest-requires c).After-header_in-h in
-    let k = first_block _ _ (told directory_outcome c.directory_block_at-answer.ensures c.in-Accepted.is) h in
+    let k = first_block _ _ (sym c.in_ok-directory_block_at.ensures) h in
     (k.1, k.2, k.3, h)
 
 pub returns : goal.returns
 unfolding directory
 returns c =
-    let first = told directory_outcome c.directory_block_at-answer.ensures c.in-Accepted.is in
+    let first = sym c.in_ok-directory_block_at.ensures in
     c.directory_rest.ensures
     ∙ sym (rw (
       due (goal.at.returns c).Else-not-length_due,

@@ -1,11 +1,8 @@
-use Prim.Native.Nat.{◌*◌, ◌-◌, ◌≤◌}
+use Prim.Native.Nat.{◌*◌, ◌≤◌}
 use mathlib.Core.Path.{◌≡◌}
 use lib.ListN.{get_or}
-use Rattle.blocks.specs.Inner.Lanes.{lanes, sum_to}
+use Rattle.blocks.specs.Inner.Lanes.{sum_to}
 use Rattle.blocks.proofs.lanes.total.Given as goal
 
-abbrev pub invariant-loop-j : goal.invariant-loop-j
-invariant-loop-j l = (l.j ≤ lanes) × (l.sum ≤ 255 * l.j) × (l.sum ≡ sum_to (λ k. get_or l.x k 0) l.j)
-
-abbrev pub decreases-loop-j : goal.decreases-loop-j
-decreases-loop-j l = lanes - l.j
+abbrev pub invariant-loop-v : goal.invariant-loop-v
+invariant-loop-v l = (l.sum ≤ 255 * l.v-index) × (l.sum ≡ sum_to (λ k. get_or l.v-items k 0) l.v-index)
