@@ -1,5 +1,5 @@
 -- What an accepted tile and an accepted file show, and that this is enough; where a tile is refused. Assumes nothing.
-use Prim.Native.Nat.{ℕ, ◌+◌, ◌*◌, ◌<◌, ◌≤◌}
+use Prim.Native.Nat.{ℕ, ◌+◌, ◌*◌, ◌≤◌}
 use mathlib.Core.Bool.{Bool, true, false}
 use mathlib.Core.List.{List}
 use mathlib.Core.Path.{◌≡◌, refl, sym, ap, ◌∙◌}
@@ -93,12 +93,6 @@ module _ (a : ℕ) (s : List ℕ) (p : ℕ) (bounds : List (List ℤ)) (count mu
       (λ e. accepted_refused refl e))))))
 
 -- where the sites of a block end
-pub site_room : (a slot : ℕ) → KnownAxes a → slot < max_sites a
-    → payload_at + site_size a * slot + site_size a ≤ check_at
-site_room a slot k =
-    by_axes (λ a. slot < max_sites a → payload_at + site_size a * slot + site_size a ≤ check_at)
-    (λ l. omega (arith, l)) (λ l. omega (arith, l)) a k
-
 pub sites_end : (a n : ℕ) → KnownAxes a → n ≤ max_sites a → payload_at + site_size a * n ≤ check_at
 sites_end a n k =
     by_axes (λ a. n ≤ max_sites a → payload_at + site_size a * n ≤ check_at)

@@ -1,7 +1,5 @@
-pub mod Outcome
 pub mod Tile
 pub mod Validate
 pub mod Document01
 pub mod WithoutHeight
 pub mod Accepted
-pub mod Inner

@@ -1,42 +1,25 @@
 // Opening a tile, and its sites, read in place.
 ghost use Rattle.std.specs.Prelude.{◌≡◌, ◌+◌, ◌*◌, ◌<◌, ◌≤◌, length, take};
-ghost use Rattle.base.specs.Refusal.{accepted, refused};
+ghost use Rattle.base.specs.Answer.{outcome_of};
+ghost use Rattle.base.specs.Refusal.{accepted};
 ghost use Rattle.base.specs.Every.{every};
 ghost use Rattle.codec.specs.Number.{limit16};
 ghost use Rattle.geometry.specs.Axes.{KnownAxes};
 ghost use Rattle.blocks.specs.Layout.{block_size, payload_at, site_size, max_sites};
 ghost use Rattle.blocks.specs.Directory.{directory};
-ghost use Rattle.tiles.specs.Inner.Opening.{opening_outcome};
 ghost use Rattle.tiles.specs.Tile.{site_offset, site_in, tile_padding, site_inside, tile_block, tile_position};
 ghost use Rattle.tiles.specs.Tile.{muted_in, open_tile};
 
-use base::{Refusal, both};
+use base::{Reason, Refusal, both};
 use blocks::header::Header;
 use blocks::{block, directory, layout};
 use codec::reading::{i32_at, u16_at, u32_at, zeros};
 use geometry::limits::inside;
 
-// The cue of a muted site.
+// The cue of a muted site: 02.1 has it as this number, in the bytes of the file.
 pub const MUTED_CUE: u32 = 0;
 
-// What an opening answers: the number of sites, or the refusal.
-#[derive(Clone, Copy)]
-pub enum Opening {
-    Opened(usize),
-    Refused(Refusal),
-}
-
-// The refusal of the block at position p.
-fn refused(number: u32, p: usize) -> Opening
-    requires { p < limit16 }
-    ensures { opening_outcome result ≡ refused number p }
-{
-    Opening::Refused(Refusal {
-        number,
-        block: p as u32,
-    })
-}
-
+#[tactic(auto, unfolding(crate::specs::Tile::site_offset))]
 pub fn site_offset(axes: usize, slot: usize) -> usize
     requires { KnownAxes axes × (slot ≤ max_sites axes) }
     ensures { (result ≡ site_offset axes slot) × (result ≡ payload_at + site_size axes * slot) }
@@ -60,6 +43,7 @@ pub fn point_in(axes: usize, s: &[u8], slot: usize) -> [i32; 3]
 }
 
 // The cue of the site of a slot.
+#[tactic(auto, unfolding(crate::specs::Tile::site_in))]
 pub fn cue_in(axes: usize, s: &[u8], slot: usize) -> u32
     requires { KnownAxes axes × (slot < max_sites axes) × (length s.now ≡ block_size) }
     ensures { result ≡ (site_in axes s.now slot).cue }
@@ -73,15 +57,14 @@ fn muted_in(axes: usize, s: &[u8], n: usize) -> usize
     ensures { result ≡ muted_in axes s.now n }
 {
     let mut muted: usize = 0;
-    let mut slot: usize = 0;
-    while slot < n {
+    for slot in 0..n {
         muted += (cue_in(axes, s, slot) == MUTED_CUE) as usize;
-        slot += 1;
     }
     muted
 }
 
 // Test 8, of a tile with n sites.
+#[tactic(auto, unfolding(crate::specs::Tile::tile_padding))]
 fn tile_padding(axes: usize, s: &[u8], n: usize) -> bool
     requires { KnownAxes axes × (n ≤ max_sites axes) × (length s.now ≡ block_size) }
     ensures { result ≡ tile_padding axes s.now n }
@@ -94,6 +77,7 @@ fn tile_padding(axes: usize, s: &[u8], n: usize) -> bool
 }
 
 // Test 10 of one site.
+#[tactic(auto, unfolding(crate::specs::Tile::site_inside))]
 fn site_inside(axes: usize, bounds: [[i32; 2]; 3], s: &[u8], slot: usize) -> bool
     requires { KnownAxes axes × (slot < max_sites axes) × (length s.now ≡ block_size) }
     ensures { result ≡ site_inside axes (take axes bounds) s.now slot }
@@ -105,14 +89,7 @@ fn sites_inside(axes: usize, bounds: [[i32; 2]; 3], s: &[u8], n: usize) -> bool
     requires { KnownAxes axes × (n ≤ max_sites axes) × (length s.now ≡ block_size) }
     ensures { result ≡ every (site_inside axes (take axes bounds) s.now) n }
 {
-    let mut i = 0;
-    while i < n {
-        if !site_inside(axes, bounds, s, i) {
-            return false;
-        }
-        i += 1;
-    }
-    true
+    (0..n).all(|slot| site_inside(axes, bounds, s, slot))
 }
 
 // A tile's block, by box, count and muted number of its entry: the first test that fails decides.
@@ -123,30 +100,29 @@ fn tile_block(
     bounds: [[i32; 2]; 3],
     count: usize,
     muted: usize,
-) -> Opening
+) -> Result<usize, Refusal>
     requires { KnownAxes axes × (length s.now ≡ block_size) × (p < limit16) × (count ≤ max_sites axes) }
-    ensures { opening_outcome result ≡ tile_block axes s.now p (take axes bounds) count muted }
+    ensures { outcome_of result ≡ tile_block axes s.now p (take axes bounds) count muted }
 {
-    let start = block::start_number(s, layout::tile_kind(axes), p);
-    if start != 0 {
-        return refused(start, p);
+    if let Err(reason) = block::start_tests(s, layout::tile_kind(axes)) {
+        return Err(reason.at(p));
     }
     if u16_at(s, layout::POSITION_AT) != p {
-        return refused(base::POSITION, p);
+        return Err(Reason::Position.at(p));
     }
     if u16_at(s, layout::ENTRIES_AT) != count {
-        return refused(base::ENTRIES, p);
+        return Err(Reason::Entries.at(p));
     }
     if !tile_padding(axes, s, count) {
-        return refused(base::PADDING, p);
+        return Err(Reason::Padding.at(p));
     }
     if !sites_inside(axes, bounds, s, count) {
-        return refused(base::STRAY, p);
+        return Err(Reason::Stray.at(p));
     }
     if muted_in(axes, s, count) != muted {
-        return refused(base::MUTED, p);
+        return Err(Reason::Muted.at(p));
     }
-    Opening::Opened(count)
+    Ok(count)
 }
 
 // Where tile t stands, of a file whose directory is accepted.
@@ -158,9 +134,9 @@ pub fn tile_position(f: &[u8], h: Header, t: usize) -> usize
 }
 
 // Opens tile t of a file whose directory is accepted: the number of its sites, or the first refusal.
-pub fn open_tile(f: &[u8], h: Header, t: usize) -> Opening
+pub fn open_tile(f: &[u8], h: Header, t: usize) -> Result<usize, Refusal>
     requires { (directory f.now ≡ accepted h) × (t < h.tiles) }
-    ensures { opening_outcome result ≡ open_tile f.now h t }
+    ensures { outcome_of result ≡ open_tile f.now h t }
 {
     let p = tile_position(f, h, t);
     let bounds = directory::box_at(f, h, t);

@@ -8,14 +8,7 @@ use Rattle.tiles.proofs.tile.muted_in.Goals as goal
 
 pub loop-slot-init : goal.loop-slot-init
 unfolding muted_in how_many
-loop-slot-init c = (omega arith, omega arith, refl)
-
-pub overflow_add-muted : goal.overflow_add-muted
-overflow_add-muted c =
-    let t = muted_cue c.cue_in.result in
-    let b = bit_byte t in
-    let m = bit-small t in
-    omega arith
+loop-slot-init c = (omega arith, refl)
 
 pub loop-slot-preserved : goal.loop-slot-preserved
 unfolding muted_in how_many
@@ -26,11 +19,4 @@ loop-slot-preserved c =
     let a = c.args in
     let e : bit t ≡ bit (muted_cue (site_in a.axes a.s.now c.loop-slot.slot).cue) =
     ap (λ q. bit (muted_cue q)) c.cue_in.ensures in
-    (omega arith, omega arith, rw (add-one c.loop-slot.slot) (omega (arith, c.loop-slot.invariant.2)))
-
-pub returns : goal.returns
-returns c =
-    let l = c.loop-slot in
-    let a = c.args in
-    let e : l.slot ≡ a.n = omega arith in
-    rw e at l.invariant.2
+    (omega arith, rw (add-one c.loop-slot.slot) (omega (arith, c.loop-slot.invariant.1)))

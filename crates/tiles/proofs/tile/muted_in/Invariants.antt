@@ -1,10 +1,7 @@
-use Prim.Native.Nat.{◌≤◌, ◌-◌}
+use Prim.Native.Nat.{◌≤◌}
 use mathlib.Core.Path.{◌≡◌}
 use Rattle.tiles.specs.Tile.{muted_in}
 use Rattle.tiles.proofs.tile.muted_in.Given as goal
 
 abbrev pub invariant-loop-slot : goal.invariant-loop-slot
-invariant-loop-slot l = (l.slot ≤ l.n) × (l.muted ≤ l.slot) × (l.muted ≡ muted_in l.axes l.s l.slot)
-
-abbrev pub decreases-loop-slot : goal.decreases-loop-slot
-decreases-loop-slot l = l.n - l.slot
+invariant-loop-slot l = (l.muted ≤ l.slot) × (l.muted ≡ muted_in l.axes l.s l.slot)

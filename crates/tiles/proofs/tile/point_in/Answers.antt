@@ -4,48 +4,7 @@ use native.Mathlib.Omega.{arith}
 use Rattle.base.specs.Tabulate.{tabulate}
 use Rattle.codec.proofs.Number.{local_i32}
 use Rattle.tiles.specs.Tile.{site_in}
-use Rattle.tiles.proofs.TileLaws.{site_room}
 use Rattle.tiles.proofs.tile.point_in.Goals as goal
-
-pub i32_at-x-requires : goal.i32_at-x-requires
-i32_at-x-requires c =
-    omega (
-      arith,
-      site_room c.args.axes c.args.slot c.requires.0 c.requires.1,
-      c.site_offset-at.ensures.1,
-    )
-
-pub overflow_add-at : goal.overflow_add-at
-overflow_add-at c =
-    omega (
-      arith,
-      site_room c.args.axes c.args.slot c.requires.0 c.requires.1,
-      c.site_offset-at.ensures.1,
-    )
-
-pub i32_at-y-requires : goal.i32_at-y-requires
-i32_at-y-requires c =
-    omega (
-      arith,
-      site_room c.args.axes c.args.slot c.requires.0 c.requires.1,
-      c.site_offset-at.ensures.1,
-    )
-
-pub overflow_add-at-then-axes-eq-HEIGHT : goal.overflow_add-at-then-axes-eq-HEIGHT
-overflow_add-at-then-axes-eq-HEIGHT c =
-    omega (
-      arith,
-      site_room c.args.axes c.args.slot c.requires.0 c.requires.1,
-      c.site_offset-at.ensures.1,
-    )
-
-pub i32_at-requires : goal.i32_at-requires
-i32_at-requires c =
-    omega (
-      arith,
-      site_room c.args.axes c.args.slot c.requires.0 c.requires.1,
-      c.site_offset-at.ensures.1,
-    )
 
 pub returns-then-axes-eq-HEIGHT : goal.returns-then-axes-eq-HEIGHT
 unfolding site_in tabulate

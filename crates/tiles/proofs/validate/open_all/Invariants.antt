@@ -6,6 +6,3 @@ use Rattle.tiles.proofs.validate.open_all.Given as goal
 
 abbrev pub invariant-loop-t : goal.invariant-loop-t
 invariant-loop-t l = in_turn (open_tile l.f l.h) l.t (l.h.tiles - l.t) ≡ in_turn (open_tile l.f l.h) 0 l.h.tiles
-
-abbrev pub decreases-loop-t : goal.decreases-loop-t
-decreases-loop-t l = l.h.tiles - l.t

@@ -1,19 +1,13 @@
-use mathlib.Core.Path.{sym, ◌∙◌}
-use Rattle.blocks.specs.Outcome.{directory_outcome}
-use Rattle.base.proofs.Outcomes.{told}
+use mathlib.Core.Path.{◌∙◌}
+use Rattle.base.proofs.Passing.{passed_on, refused_before, accepted_before}
 use Rattle.tiles.specs.Validate.{validate}
 use Rattle.tiles.proofs.validate.validate.Goals as goal
 
-pub open_all-requires : goal.open_all-requires
-open_all-requires c =
-    told directory_outcome c.read_directory.ensures c.in-Accepted.is
-
-pub returns-in-Accepted : goal.returns-in-Accepted
+pub returns-in_err-h : goal.returns-in_err-h
 unfolding validate
-returns-in-Accepted c =
-    c.open_all.ensures ∙ sym (rw (told directory_outcome c.read_directory.ensures c.in-Accepted.is))
+returns-in_err-h c =
+    passed_on c.from_residual.result _ c.from_residual.ensures ∙ refused_before _ c.in_err-h.ensures
 
-pub returns-in-Refused : goal.returns-in-Refused
+pub returns : goal.returns
 unfolding validate
-returns-in-Refused c =
-    sym (rw (told directory_outcome c.read_directory.ensures c.in-Refused.is))
+returns c = c.open_all.ensures ∙ accepted_before _ c.in_ok-h.ensures
