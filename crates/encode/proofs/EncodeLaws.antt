@@ -5,16 +5,17 @@
 --   length_body, length-block_bytes             of a block
 --   length-directory_block, length_tile_block   of a block of each kind
 --   parts_fit                                   entries or sites in a payload
---   one-part, part_within                       parts of one width
+--   part_within                                 a part of one width
 --   due_few, due_within, due_next               how many entries there are
---   tile_of                                     a tile's block, by what the code goes by
+--   length-tile_of, tile_of                     a tile's block: its length; by what the code goes by
 --   sums_byte, sums_body, sums_part             the check: its sums, of a body, of the part that is lent
+--   joined_next                                 a loop that writes parts of one width: a turn
 --   head_row, entry_row, plan_site_row, height_site_row, check_row, block_row   what each row of calls leaves
 use Prim.Native.Nat.{ℕ, zero, suc, min, ◌+◌, ◌*◌, ◌-◌, ◌/◌, ◌<◌, ◌≤◌}
-use mathlib.Core.List.{List, [], ◌∷◌, ◌++◌}
+use mathlib.Core.List.{List, [], ◌∷◌, ◌++◌, append-nil, append_assoc}
 use mathlib.Core.Path.{◌≡◌, refl, sym, ap, ◌∙◌}
-use native.Mathlib.Nat.{min-le_left, div-zero, le-div_iff_mul-le, mul-le-mul_left, not-suc-le-zero}
-use native.Mathlib.Numerals.{sub-one}
+use native.Mathlib.Nat.{add-zero, min-le_left, div-zero, le-div_iff_mul-le, mul-le-mul_left, not-suc-le-zero}
+use native.Mathlib.Numerals.{add-one}
 use native.Mathlib.Omega.{arith}
 use lib.Dec.{lit<}
 use lib.IntN.{ℤ, pos}
@@ -96,11 +97,7 @@ module _ (head payload : List ℕ) (h : length head ≡ reserved_at) (fits : pay
 pub parts_fit : (w n : ℕ) → 0 < w → n ≤ payload_size / w → payload_at + w * n ≤ check_at
 parts_fit w n some l = omega (arith, (le-div_iff_mul-le some).0 l)
 
--- parts of one width: the first of several, and part t of n
-pub one-part : (w n : ℕ) → 0 < n → w * n ≡ w + w * (n - 1)
-one-part w zero l = absurd (not-suc-le-zero l)
-one-part w (suc n) l = rw sub-one (omega arith)
-
+-- part t of n parts of one width
 pub part_within : (w t n : ℕ) → t < n → w * t + w ≤ w * n
 part_within w t n l = let e : w * suc t ≡ w * t + w = omega arith in rw e at (mul-le-mul_left w l)
 
@@ -152,6 +149,11 @@ length_tile_block a spots cues p i n h =
     (length_head (tile_kind a) p n 0)
     (omega (arith, length-sites a spots cues i n, parts_fit (site_size a) n (omega arith) h))
 
+pub length-tile_of : (a : ℕ) (counts : List ℕ) (spots : List (List ℤ)) (cues : List ℕ) (t : ℕ) →
+    count_of counts t ≤ max_sites a → length (tile_bytes_of a counts spots cues t) ≡ block_size
+unfolding tile_bytes_of
+length-tile_of a counts spots cues t h = length_tile_block a spots cues _ (offset counts t) (count_of counts t) h
+
 -- the block of tile t, by what the code goes by
 pub tile_of : (a : ℕ) (counts : List ℕ) (spots : List (List ℤ)) (cues : List ℕ) (t : ℕ) {p first n : ℕ} →
     p ≡ directory_blocks (header_of a counts) + t → first ≡ offset counts t → n ≡ count_of counts t →
@@ -178,6 +180,21 @@ sums_body s body h n l =
 pub sums_part : (l : List ℕ) (at : ℕ) (r : Sums) → r ≡ sums (take (at + block_size - at) (drop at l)) →
     r ≡ sums (take block_size (drop at l))
 sums_part l at r e = let k : at + block_size - at ≡ block_size = omega arith in rw k at e
+
+-- ---- loops that write parts of one width, one after the other: a turn
+joined_snoc : (g : ℕ → List ℕ) (a n : ℕ) → joined g a (suc n) ≡ joined g a n ++ g (a + n)
+unfolding joined
+joined_snoc g a zero = rw (append-nil, add-zero)
+joined_snoc g a (suc n) =
+    let e : a + 1 + n ≡ a + suc n = omega arith in
+    rw (joined_snoc g (a + 1) n, e) (sym (append_assoc (g a) (joined g (a + 1) n) (g (a + suc n))))
+
+pub joined_next : (g : ℕ → List ℕ) (w : ℕ) (l : List ℕ) (at a n : ℕ) {d e : List ℕ} →
+    ((i : ℕ) → i < n → length (g (a + i)) ≡ w) → d ≡ over l at (joined g a n) → e ≡ over d (at + w * n) (g (a + n)) →
+    e ≡ over l at (joined g a (n + 1))
+joined_next g w l at a n h p q =
+    also l at (at + w * n) (joined g a n) (g (a + n)) p q (ap (λ k. at + k) (sym (length-joined g w a n h)))
+    ∙ rw (add-one, joined_snoc)
 
 -- ---- rows of calls
 module _ (l : List ℕ) (at : ℕ) where

@@ -9,6 +9,7 @@ use blocks::layout;
 use codec::writing::{put_u8, put_u16};
 
 // Bytes 0 to 7 of the block at `at`.
+#[tactic(auto, using(crate::proofs::EncodeLaws::head_row))]
 pub fn put_head(d: &mut [u8], at: usize, kind: u8, p: usize, n: usize, t: usize)
     requires { at + reserved_at ≤ length d.old }
     ensures { d.new ≡ over d.old at (head_bytes kind p n t) }
@@ -20,15 +21,8 @@ pub fn put_head(d: &mut [u8], at: usize, kind: u8, p: usize, n: usize, t: usize)
     put_u16(d, at + layout::TILES_AT, t);
 }
 
-// A sum, as the byte that holds it.
-fn low(n: u16) -> u8
-    requires { n < 256 }
-    ensures { result ≡ n }
-{
-    n as u8
-}
-
 // Bytes 510 and 511 of the block at `at`, from bytes 1 to 509.
+#[tactic(auto, using(crate::proofs::EncodeLaws::sums_byte))]
 pub fn put_checksum(d: &mut [u8], at: usize)
     requires { at + block_size ≤ length d.old }
     ensures { d.new
@@ -36,8 +30,6 @@ pub fn put_checksum(d: &mut [u8], at: usize)
 {
     let end = at + layout::BLOCK_SIZE;
     let s = sums_of(&d[at..end]);
-    let a = s.a;
-    let c = s.c;
-    put_u8(d, at + layout::CHECK_AT, low(a));
-    put_u8(d, at + layout::CHECK_AT + 1, low(c));
+    put_u8(d, at + layout::CHECK_AT, s.a as u8);
+    put_u8(d, at + layout::CHECK_AT + 1, s.c as u8);
 }

@@ -3,7 +3,6 @@ use mathlib.Core.List.{[], ◌∷◌}
 use mathlib.Core.Path.{ap, ◌∙◌}
 use native.Mathlib.Omega.{arith}
 use lib.ListN.{take}
-use borrow.Author.Rules.{rules}
 use Rattle.base.specs.Over.{over}
 use Rattle.base.specs.Tabulate.{joined}
 use Rattle.blocks.specs.Layout.{tile_kind, block_size, check_at}
@@ -18,36 +17,16 @@ used-end : (c : After-site_offset-used) → c.site_offset-used.result ≤ check_
 used-end c =
     rw c.site_offset-used.ensures.1 (sites_end c.args.axes c.args.n c.requires.0 c.requires.2)
 
-pub put_sites-requires : goal.put_sites-requires
-put_sites-requires c =
-    let end = sites_end c.args.axes c.args.n c.requires.0 c.requires.2 in
-    search rules
-
-pub overflow_add-at-4 : goal.overflow_add-at-4
-overflow_add-at-4 c =
-    let end = used-end (goal.at.overflow_add-at-4 c).After-site_offset-used in
-    search rules
-
-pub overflow_add-at-5 : goal.overflow_add-at-5
-overflow_add-at-5 c =
-    let end = used-end (goal.at.overflow_add-at-5 c).After-site_offset-used in
-    search rules
-
-pub put_zeros-requires-2 : goal.put_zeros-requires-2
-put_zeros-requires-2 c =
-    let end = used-end (goal.at.put_zeros-requires-2 c).After-site_offset-used in
-    search rules
-
 pub returns : goal.returns
 unfolding tile_bytes
 returns c =
     let a = c.args in
     let at = block_size * a.p in
     let kind = tile_kind a.axes in
-    let spots = take a.axes (a.xs.now ∷ a.ys.now ∷ a.zs.now ∷ []) in
-    let q = length-sites a.axes spots a.cues.now a.first a.n in
+    let spots = take a.axes (a.sites.xs.now ∷ a.sites.ys.now ∷ a.sites.zs.now ∷ []) in
+    let q = length-sites a.axes spots a.sites.cues.now a.first a.n in
     block_row a.d.now at (head_bytes kind a.p a.n 0)
-    (joined (site_bytes a.axes spots a.cues.now) a.first a.n) c.site_offset-used.result
+    (joined (site_bytes a.axes spots a.sites.cues.now) a.first a.n) c.site_offset-used.result
     (length_head kind a.p a.n 0) (c.site_offset-used.ensures.1 ∙ omega (arith, q))
     (used-end (goal.at.returns c).After-site_offset-used) c.requires.1
     (c.put_head.ensures ∙ ap (λ k. over a.d.now at (head_bytes k a.p a.n 0)) c.tile_kind.ensures)
