@@ -3,7 +3,7 @@
 --   tiles_fit, entry_fits, lists_fit   tests 6, 9 of a tile, and 15 of the site lists
 --   sites_fit, tile_fits               test 10: of a run of sites, of a tile
 --   write_tests                        all tests in order
---   write_outcome, write_call          what the answer and what the call comes to
+--   write_call                         what the call comes to
 --   leaves, write_exit                 the output slice afterwards: by outcome, of the call
 use Rattle.std.specs.Prelude.{ℕ, ◌+◌, ◌*◌, Bool, ◌&&◌, List, eqb, leb, ℤ, length}
 use Rattle.base.specs.Over.{over}
@@ -15,8 +15,6 @@ use Rattle.encode.specs.Encode.{file_bytes, file_length}
 use Rattle.encode.specs.Supply.{Supply, axes_of, header_of, tiles_of, numbers_per_box, box_of, count_of, offset, site_total}
 use Rattle.geometry.specs.Around.{equal_columns, row}
 use Rattle.geometry.specs.Box.{inside}
-use Rattle.writer.specs.declared.write.WriteAnswer.{WriteAnswer}
-use Rattle.writer.specs.declared.write.WriteAnswer.TheVariants.{Written, Refused}
 
 -- 6: "T is 0, over 960"
 unfoldable pub tiles_fit : ℕ → Bool
@@ -48,11 +46,6 @@ write_tests s room =
     (require (every (tile_fits (axes_of s) s.boxes s.counts s.spots) (tiles_of s)) #stray 0
     (require (leb (file_length (header_of (axes_of s) s.counts)) room) #short 0
     (accepted tt))))))
-
--- what the writer's answer comes to
-abbrev pub write_outcome : WriteAnswer → Outcome ℕ
-write_outcome (Written n) = accepted n
-write_outcome (Refused r) = refused r.number r.block
 
 -- of these lists and an output slice of this length: "It gives the file's length in bytes"
 unfoldable pub write_call : Supply → ℕ → Outcome ℕ

@@ -1,6 +1,6 @@
 // The tests of the writer's lists, in their order.
 ghost use Rattle.std.specs.Prelude.{[], ◌∷◌, ◌≡◌, ℕ, ◌+◌, ◌*◌, ◌<◌, ◌≤◌, pos, get_or, length, take};
-ghost use Rattle.base.specs.Inner.AnswerNumber.{number_outcome};
+ghost use Rattle.base.specs.Answer.{tested_at};
 ghost use Rattle.blocks.specs.Layout.{max_sites, max_tiles};
 ghost use Rattle.base.specs.Every.{every};
 ghost use Rattle.encode.specs.Supply.{supply, numbers_per_box, box_of, count_of, site_total};
@@ -10,11 +10,11 @@ ghost use Rattle.geometry.specs.Axes.{KnownAxes, Columns};
 ghost use Rattle.geometry.specs.Box.{inside};
 ghost use Rattle.writer.specs.Write.{tiles_fit, entry_fits, lists_fit, sites_fit, tile_fits, write_tests};
 
-use base::both;
+use base::{Reason, both};
 use blocks::directory::directory_blocks;
 use blocks::header::Header;
 use blocks::layout;
-use encode::lists::{header_of, numbers_per_box, wide};
+use encode::lists::{header_of, numbers_per_box};
 use geometry::limits::{inside, valid_box};
 
 // The low and the high end of an axis, of the numbers of the boxes.
@@ -47,6 +47,7 @@ fn box_of(axes: usize, boxes: &[i32], t: usize) -> [[i32; 2]; 3]
 }
 
 // Test 6.
+#[tactic(auto, unfolding(crate::specs::Write::tiles_fit))]
 fn tiles_fit(t: usize) -> bool
     ensures { result ≡ tiles_fit t }
 {
@@ -54,6 +55,7 @@ fn tiles_fit(t: usize) -> bool
 }
 
 // Test 9 of tile t.
+#[tactic(auto, unfolding(crate::specs::Write::entry_fits))]
 fn entry_fits(axes: usize, boxes: &[i32], counts: &[u32], t: usize) -> bool
     requires { KnownAxes axes × (numbers_per_box axes * t + numbers_per_box axes ≤ length boxes.now)
         × (t < length counts.now) }
@@ -61,7 +63,7 @@ fn entry_fits(axes: usize, boxes: &[i32], counts: &[u32], t: usize) -> bool
 {
     both(
         valid_box(axes, box_of(axes, boxes, t)),
-        wide(counts[t]) <= layout::max_sites(axes),
+        counts[t] as usize <= layout::max_sites(axes),
     )
 }
 
@@ -69,14 +71,7 @@ fn entries_fit(axes: usize, boxes: &[i32], counts: &[u32]) -> bool
     requires { KnownAxes axes × (length boxes.now ≡ numbers_per_box axes * length counts.now) }
     ensures { result ≡ every (entry_fits axes boxes.now counts.now) (length counts.now) }
 {
-    let mut t = 0;
-    while t < counts.len() {
-        if !entry_fits(axes, boxes, counts, t) {
-            return false;
-        }
-        t += 1;
-    }
-    true
+    (0..counts.len()).all(|t| entry_fits(axes, boxes, counts, t))
 }
 
 // The sum of counts that passed test 9.
@@ -86,10 +81,8 @@ fn sum_of(axes: usize, counts: &[u32]) -> usize
     ensures { result ≡ site_total counts.now }
 {
     let mut sum = 0;
-    let mut t = 0;
-    while t < counts.len() {
-        sum += wide(counts[t]);
-        t += 1;
+    for n in counts {
+        sum += *n as usize;
     }
     sum
 }
@@ -139,14 +132,7 @@ fn sites_fit(
     ensures { result ≡ sites_fit (take axes bounds)
         (take axes (xs.now ∷ ys.now ∷ zs.now ∷ [])) first n }
 {
-    let mut i = 0;
-    while i < n {
-        if !site_fits(axes, bounds, xs, ys, zs, first + i) {
-            return false;
-        }
-        i += 1;
-    }
-    true
+    (0..n).all(|i| site_fits(axes, bounds, xs, ys, zs, first + i))
 }
 
 // Test 10.
@@ -165,20 +151,19 @@ fn tiles_inside(
         (take axes (xs.now ∷ ys.now ∷ zs.now ∷ [])))
         (length counts.now) }
 {
-    let mut t = 0;
     let mut first = 0;
-    while t < counts.len() {
-        let n = wide(counts[t]);
+    for t in 0..counts.len() {
+        let n = counts[t] as usize;
         if !sites_fit(axes, box_of(axes, boxes, t), xs, ys, zs, first, n) {
             return false;
         }
         first += n;
-        t += 1;
     }
     true
 }
 
 // The file's length in bytes.
+#[tactic(auto, unfolding(encode::specs::Encode::file_length))]
 pub fn file_length(h: Header) -> usize
     requires { KnownAxes h.axes × (h.tiles ≤ max_tiles) }
     ensures { result ≡ file_length h }
@@ -186,8 +171,9 @@ pub fn file_length(h: Header) -> usize
     layout::BLOCK_SIZE * (directory_blocks(h) + h.tiles)
 }
 
-// The number of the first test that the lists and an output slice of this length fail, or 0.
-pub fn failed_test(
+// The tests of the lists and of an output slice of this length, in their order: the reason is that of the first one
+// failed.
+pub fn tests(
     axes: usize,
     boxes: &[i32],
     counts: &[u32],
@@ -196,32 +182,32 @@ pub fn failed_test(
     zs: &[i32],
     cues: &[u32],
     room: usize,
-) -> u32
+) -> Result<(), Reason>
     requires { Columns axes ys.now zs.now }
-    ensures { number_outcome result 0 ≡ write_tests
+    ensures { tested_at 0 result ≡ write_tests
         (supply boxes.now counts.now
         (take axes (xs.now ∷ ys.now ∷ zs.now ∷ [])) cues.now)
         room }
 {
     if !tiles_fit(counts.len()) {
-        return base::TILES;
+        return Err(Reason::Tiles);
     }
     if boxes.len() != numbers_per_box(axes) * counts.len() {
-        return base::SUPPLY;
+        return Err(Reason::Supply);
     }
     if !entries_fit(axes, boxes, counts) {
-        return base::BOX;
+        return Err(Reason::Box);
     }
     if !lists_fit(axes, sum_of(axes, counts), xs, ys, zs, cues) {
-        return base::SUPPLY;
+        return Err(Reason::Supply);
     }
     let inside = tiles_inside(axes, boxes, counts, xs, ys, zs);
     let fits = file_length(header_of(axes, counts)) <= room;
     if !inside {
-        return base::STRAY;
+        return Err(Reason::Stray);
     }
     if !fits {
-        return base::SHORT;
+        return Err(Reason::Short);
     }
-    0
+    Ok(())
 }

@@ -1,22 +1,16 @@
 // The writer's call.
 ghost use Rattle.std.specs.Prelude.{[], ◌∷◌, ◌≡◌, length, take};
+ghost use Rattle.base.specs.Answer.{outcome_of};
 ghost use Rattle.encode.specs.Supply.{supply};
 ghost use Rattle.geometry.specs.Axes.{Columns};
-ghost use Rattle.writer.specs.Write.{write_outcome, write_call, write_exit};
+ghost use Rattle.writer.specs.Write.{write_call, write_exit};
 
-use crate::supply::{failed_test, file_length};
+use crate::supply::{file_length, tests};
 use base::Refusal;
 use blocks::layout::{HEIGHT, PLAN};
 use encode::directory::put_directory;
 use encode::lists::header_of;
 use encode::tile::put_tiles;
-
-// What the writer answers: the file's length in bytes, or the first refusal.
-#[derive(Clone, Copy)]
-pub enum WriteAnswer {
-    Written(usize),
-    Refused(Refusal),
-}
 
 // Writes the file of a town of any number of axes: of a plan town the third column is the second again, and not looked
 // at.
@@ -29,9 +23,9 @@ fn write_columns(
     zs: &[i32],
     cues: &[u32],
     out: &mut [u8],
-) -> WriteAnswer
+) -> Result<usize, Refusal>
     requires { Columns axes ys.now zs.now }
-    ensures answer { write_outcome result ≡ write_call
+    ensures answer { outcome_of result ≡ write_call
         (supply boxes.now counts.now
         (take axes (xs.now ∷ ys.now ∷ zs.now ∷ [])) cues.now)
         (length out.old) }
@@ -40,19 +34,14 @@ fn write_columns(
         (take axes (xs.now ∷ ys.now ∷ zs.now ∷ [])) cues.now)
         out.old }
 {
-    let failed = failed_test(axes, boxes, counts, xs, ys, zs, cues, out.len());
-    if failed != 0 {
-        return WriteAnswer::Refused(Refusal {
-            number: failed,
-            block: 0,
-        });
-    }
+    tests(axes, boxes, counts, xs, ys, zs, cues, out.len())?;
     put_directory(out, axes, boxes, counts, cues);
     put_tiles(out, axes, counts, xs, ys, zs, cues);
-    WriteAnswer::Written(file_length(header_of(axes, counts)))
+    Ok(file_length(header_of(axes, counts)))
 }
 
-// Writes the file of a plan town: four numbers of a box and a count for each tile, and the sites in tile order.
+// Writes the file of a plan town: four numbers of a box and a count for each tile, and the sites in tile order. The
+// answer is the file's length in bytes, or the first refusal.
 pub fn write(
     boxes: &[i32],
     counts: &[u32],
@@ -60,8 +49,8 @@ pub fn write(
     ys: &[i32],
     cues: &[u32],
     out: &mut [u8],
-) -> WriteAnswer
-    ensures answer { write_outcome result ≡ write_call
+) -> Result<usize, Refusal>
+    ensures answer { outcome_of result ≡ write_call
         (supply boxes.now counts.now (xs.now ∷ ys.now ∷ []) cues.now)
         (length out.old) }
     ensures output { out.new ≡ write_exit
@@ -71,7 +60,8 @@ pub fn write(
     write_columns(PLAN, boxes, counts, xs, ys, ys, cues, out)
 }
 
-// Writes the file of a town with height: six numbers of a box.
+// Writes the file of a town with height: six numbers of a box. A call of its own: an array of N lists, with N a
+// parameter, gets no proof.
 pub fn write3(
     boxes: &[i32],
     counts: &[u32],
@@ -80,8 +70,8 @@ pub fn write3(
     zs: &[i32],
     cues: &[u32],
     out: &mut [u8],
-) -> WriteAnswer
-    ensures answer { write_outcome result ≡ write_call
+) -> Result<usize, Refusal>
+    ensures answer { outcome_of result ≡ write_call
         (supply boxes.now counts.now
         (xs.now ∷ ys.now ∷ zs.now ∷ []) cues.now)
         (length out.old) }

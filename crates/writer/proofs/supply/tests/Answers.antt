@@ -1,9 +1,7 @@
-use Rattle.std.specs.Prelude.{ℕ, ℤ, List, ◌*◌, ◌≤◌}
+use Rattle.std.specs.Prelude.{ℕ, ℤ, List, ◌*◌}
 use mathlib.Core.Bool.{true}
 use mathlib.Core.List.{[], ◌∷◌}
 use mathlib.Core.Path.{◌≡◌, sym, ap, ◌∙◌}
-use native.Mathlib.Nat.{mul-le-mul_right}
-use native.Mathlib.Omega.{arith}
 use lib.Dec.{eqb, leb}
 use lib.ListN.{length, take}
 use borrow.Author.Tests.{le-leb, lt-leb, eq-eqb, ne_eqb}
@@ -15,10 +13,10 @@ use Rattle.base.proofs.Every.{every_at}
 use Rattle.base.proofs.Tests.{passed, failed}
 use Rattle.writer.specs.Write.{tiles_fit, entry_fits, lists_fit, tile_fits, write_tests}
 use Rattle.writer.proofs.WriteLaws.{tiles_fit_good, entry_fits_good, lists_good, columns_axes, columns-long}
-use Rattle.writer.proofs.supply.failed_test.Goals as goal
-use Rattle.writer.proofs.supply.failed_test.Goals.{After-file_length, After-lists_fit, After-numbers_per_box}
-use Rattle.writer.proofs.supply.failed_test.Goals.{Else-boxes-numbers_per_box, Else-not-entries_fit, Else-not-inside}
-use Rattle.writer.proofs.supply.failed_test.Goals.{Else-not-lists_fit, Else-not-tiles_fit, Start}
+use Rattle.writer.proofs.supply.tests.Goals as goal
+use Rattle.writer.proofs.supply.tests.Goals.{After-file_length, After-lists_fit, After-numbers_per_box}
+use Rattle.writer.proofs.supply.tests.Goals.{Else-boxes-numbers_per_box, Else-not-entries_fit, Else-not-inside}
+use Rattle.writer.proofs.supply.tests.Goals.{Else-not-lists_fit, Else-not-tiles_fit, Start}
 
 -- the columns of the axes
 abbrev spots : ℕ → List ℤ → List ℤ → List ℤ → List (List ℤ)
@@ -110,12 +108,6 @@ pub returns-then-not-tiles_fit : goal.returns-then-not-tiles_fit
 unfolding write_tests
 returns-then-not-tiles_fit c = rw (failed c.tiles_fit.ensures c.if-not-tiles_fit.true)
 
-pub overflow_mul-numbers_per_box : goal.overflow_mul-numbers_per_box
-overflow_mul-numbers_per_box c =
-    let n = length c.args.counts.now in
-    let six : numbers_per_box c.args.axes * n ≤ 6 * n = mul-le-mul_right n (omega (arith, c.requires.0.1)) in
-    omega (arith, due c, six, (tiles_fit_good _ (pass-1 (goal.at.overflow_mul-numbers_per_box c).Else-not-tiles_fit)).1)
-
 pub returns-then-boxes-numbers_per_box : goal.returns-then-boxes-numbers_per_box
 unfolding write_tests
 returns-then-boxes-numbers_per_box c =
@@ -124,9 +116,6 @@ returns-then-boxes-numbers_per_box c =
     let other = ne_eqb (length a.boxes.now) (numbers_per_box a.axes * length a.counts.now)
     (λ e. c.if-boxes-numbers_per_box.true (e ∙ sym (due at.After-numbers_per_box))) in
     rw (own-axes at.Start, pass-1 at.Else-not-tiles_fit, other)
-
-pub entries_fit-requires : goal.entries_fit-requires
-entries_fit-requires c = (c.requires.0, numbers (goal.at.entries_fit-requires c).Else-boxes-numbers_per_box)
 
 pub returns-then-not-entries_fit : goal.returns-then-not-entries_fit
 unfolding write_tests
