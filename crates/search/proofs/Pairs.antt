@@ -5,15 +5,10 @@ use mathlib.Core.Logic.{◌⊎◌, inl, inr, ◌≢◌, ◌↔◌}
 use mathlib.Core.Path.{◌≡◌, refl}
 use native.Mathlib.Omega.{arith}
 use lib.Dec.{ltb, eqb}
-use borrow.Author.Tests.{ltb-true, ltb-false, eqb-true, eqb-false, lt-ltb, le-ltb, eq-eqb, ne_eqb}
+use borrow.Author.Tests.{ltb-true, ltb-false, eqb-true, eqb-false, lt-ltb, le-ltb, eq-eqb}
 use Rattle.base.proofs.Tests.{clash, by_test}
 use Rattle.search.specs.Order.{lex}
 use Rattle.search.specs.Plan.{slots}
-
--- with equal first parts
-pub lex_tie : (a b c d : ℕ) → a ≡ c → ltb b d ≡ lex a b c d
-unfolding lex
-lex_tie a b c d e = rw (eq-eqb a c e, le-ltb a c (omega arith))
 
 -- what it says where it holds, and where it does not
 abbrev pub Ahead : ℕ → ℕ → ℕ → ℕ → Type 0
@@ -25,10 +20,6 @@ Behind a b c d = (c < a) ⊎ ((a ≡ c) × (d ≤ b))
 pub lex_less : {a c : ℕ} (b d : ℕ) → a < c → lex a b c d ≡ true
 unfolding lex
 lex_less {a} {c} b d h = rw (lt-ltb a c h)
-
-pub lex_more : {a c : ℕ} (b d : ℕ) → c < a → lex a b c d ≡ false
-unfolding lex
-lex_more {a} {c} b d h = rw (le-ltb a c (omega arith), ne_eqb a c (λ e. omega arith))
 
 pub lex-same : {a c b d : ℕ} → a ≡ c → b < d → lex a b c d ≡ true
 unfolding lex
