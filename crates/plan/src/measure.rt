@@ -9,8 +9,8 @@ use blocks::directory;
 use blocks::header::Header;
 use geometry::distance::min_dist_within;
 
-// Above every distance.
-pub const NONE: u64 = 18_446_744_073_709_551_615;
+// Above every distance. A number and no Option: it stands in tables of keys, as queue/src/keys.rt says.
+pub const NONE: u64 = u64::MAX;
 
 // Near distance of tile t.
 pub fn near(f: &[u8], h: Header, t: usize, p: Stop) -> u64

@@ -1,23 +1,23 @@
 // The sites of a tile: how many rank, its opening, its block in place, the place of a slot, and whether it ranks.
 ghost use Rattle.std.specs.Prelude.{true, ◌≡◌, ◌<◌, ◌≤◌, length, take};
+ghost use Rattle.base.specs.Answer.{outcome_of};
 ghost use Rattle.base.specs.Refusal.{accepted, and_then};
 ghost use Rattle.blocks.specs.Layout.{block_size, max_sites};
 ghost use Rattle.geometry.specs.Axes.{KnownAxes};
 ghost use Rattle.geometry.specs.Box.{valid_point};
 ghost use Rattle.search.specs.Plan.{slots, ranked};
-ghost use Rattle.tiles.specs.Inner.Opening.{opening_outcome};
 ghost use Rattle.tiles.specs.Tile.{site_in};
 ghost use Rattle.plan.specs.FilePlan.{cue_ranks, entries, opening_of, town_of};
 ghost use Rattle.plan.specs.Inner.Seam.{TileOf, stop_of, ValidStop, Opens, Sited, BlockOf, site_place};
 
 use crate::region::Stop;
+use base::Refusal;
 use blocks::header::Header;
 use blocks::layout::{HEIGHT, PLAN};
 use blocks::{block, directory};
 use geometry::distance::squared_dist;
 use search::Place;
 use tiles::tile;
-use tiles::tile::Opening;
 
 // How many sites of tile t rank.
 pub fn ranked(f: &[u8], h: Header, t: usize) -> usize
@@ -36,9 +36,9 @@ pub fn count(f: &[u8], h: Header, t: usize) -> usize
 }
 
 // Opens tile t: the number of its sites, or the first refusal.
-pub fn open_tile(f: &[u8], h: Header, t: usize) -> Opening
+pub fn open_tile(f: &[u8], h: Header, t: usize) -> Result<usize, Refusal>
     requires { TileOf f.now h t }
-    ensures { opening_outcome result ≡ and_then (opening_of f.now h t) (λ l. accepted (length l)) }
+    ensures { outcome_of result ≡ and_then (opening_of f.now h t) (λ l. accepted (length l)) }
 {
     tile::open_tile(f, h, t)
 }
