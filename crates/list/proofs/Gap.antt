@@ -2,7 +2,7 @@
 use Prim.Native.Nat.{ℕ, zero, suc, ◌+◌, ◌-◌, ◌<◌, ◌≤◌}
 use mathlib.Core.Bool.{true, false}
 use mathlib.Core.List.{[], ◌∷◌, ◌++◌}
-use mathlib.Core.Path.{◌≡◌, refl, sym, ap, ◌∙◌}
+use mathlib.Core.Path.{◌≡◌, sym, ap, ◌∙◌}
 use native.Mathlib.Numerals.{sub-one}
 use native.Mathlib.Omega.{arith}
 use lib.ListN.{length, length-set}
@@ -102,9 +102,6 @@ pub record Gap (o₀ : Lists) (at n : ℕ) (x : Place) (o : Lists) (left : ℕ) 
   pub c : length o.cue ≡ length o₀.cue
   pub ready : Ready o at left (n + 1)
   pub rest : with_place o at left x ≡ with_place o₀ at n x
-
-pub gap_starts : {o : Lists} {at n : ℕ} (x : Place) → Ready o at n (n + 1) → Gap o at n x o n
-gap_starts x ready = record { few = omega arith; d = refl; s = refl; c = refl; ready = ready; rest = refl }
 
 module _ {o₀ : Lists} {at n : ℕ} {x : Place} {o : Lists} {left : ℕ} (g : Gap o₀ at n x o left) where
   module _ (some : 0 < left) (y : Place) (e : y ≡ place_at o (at + left - 1)) where

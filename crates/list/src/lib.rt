@@ -1,4 +1,5 @@
-// The list of a stop: at most k places, sorted, from an index of the three slices on.
+// The list of a stop: at most k places, sorted, from an index of the three slices on. There are three, and not one of
+// places, since C lends them so.
 #![tactic(auto)]
 
 pub mod clear;
@@ -36,19 +37,17 @@ fn make_gap(
     ensures filled { put (lists dist.new site.new cue.new) (at + result) x
         ≡ with_place (lists dist.old site.old cue.old) at n x }
 {
-    let mut left = n;
-    while 0 < left {
+    for left in (0..n).rev() {
         let i = at + left;
-        let y = place_at(dist, site, cue, i - 1);
+        let y = place_at(dist, site, cue, i);
         if ranks_before(y, x) {
-            return left;
+            return left + 1;
         }
-        dist[i] = y.dist;
-        site[i] = y.site;
-        cue[i] = y.cue;
-        left -= 1;
+        dist[i + 1] = y.dist;
+        site[i + 1] = y.site;
+        cue[i + 1] = y.cue;
     }
-    left
+    0
 }
 
 // Puts x into n sorted places from index at on, which become n + 1.

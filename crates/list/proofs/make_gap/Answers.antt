@@ -1,20 +1,28 @@
-use mathlib.Core.Path.{sym, ◌∙◌}
-use Rattle.list.proofs.Gap.{gap_starts, gap_turn, gap_stop, gap_bottom}
+use Prim.Native.Nat.{◌+◌, ◌-◌}
+use mathlib.Core.Path.{◌≡◌, sym, ◌∙◌}
+use native.Mathlib.Omega.{arith}
+use Rattle.list.proofs.Gap.{gap_turn, gap_stop, gap_bottom}
 use Rattle.list.proofs.make_gap.Goals as goal
 
-pub loop-left-init : goal.loop-left-init
-loop-left-init c = gap_starts c.args.x c.requires
-
-pub returns-then-ranks_before : goal.returns-then-ranks_before
-returns-then-ranks_before c =
-    let g = c.loop-left.invariant in
+pub returns-then-ranks_before-clause-filled : goal.returns-then-ranks_before-clause-filled
+returns-then-ranks_before-clause-filled c =
+    let left = c.loop-left.left in
+    let last : c.args.at + (left - 1) ≡ c.args.at + left - 1 = omega arith in
+    let gap : left - 1 + 1 ≡ left = omega arith in
     let ahead = sym c.ranks_before.ensures ∙ c.if-ranks_before.true in
-    record { gap = g.few; filled = gap_stop g c.loop-left-test.true c.place_at-y.result c.place_at-y.ensures ahead }
+    rw gap
+    (gap_stop c.loop-left.invariant c.loop-left-test.true c.place_at-y.result (rw last at c.place_at-y.ensures) ahead)
 
 pub loop-left-preserved : goal.loop-left-preserved
 loop-left-preserved c =
+    let left = c.loop-left.left in
+    let last : c.args.at + (left - 1) ≡ c.args.at + left - 1 = omega arith in
+    let gap : c.args.at + (left - 1) + 1 ≡ c.args.at + left = omega arith in
     let behind = sym c.ranks_before.ensures ∙ c.if-ranks_before.false in
-    gap_turn c.loop-left.invariant c.loop-left-test.true c.place_at-y.result c.place_at-y.ensures behind
+    rw gap
+    (gap_turn c.loop-left.invariant c.loop-left-test.true c.place_at-y.result (rw last at c.place_at-y.ensures) behind)
 
-pub returns : goal.returns
-returns c = let g = c.loop-left.invariant in record { gap = g.few; filled = gap_bottom g c.loop-left-test.false }
+pub returns-clause-filled : goal.returns-clause-filled
+returns-clause-filled c =
+    let none : c.loop-left.left ≡ 0 = omega (arith, c.loop-left-test.false) in
+    rw none at (gap_bottom c.loop-left.invariant c.loop-left-test.false)

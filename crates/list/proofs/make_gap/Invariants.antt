@@ -5,6 +5,3 @@ use Rattle.list.proofs.make_gap.Given as goal
 abbrev pub invariant-loop-left : goal.invariant-loop-left
 invariant-loop-left l =
     Gap (lists l.initial.dist l.initial.site l.initial.cue) l.at l.n l.x (lists l.dist l.site l.cue) l.left
-
-abbrev pub decreases-loop-left : goal.decreases-loop-left
-decreases-loop-left l = l.left
