@@ -15,7 +15,7 @@ use plan::sites;
 use search::SLOTS;
 
 // Whose list it is: a stop, where its list stands in the slices, and how many places it may have.
-#[derive(Clone, Copy)]
+#[derive(Clone, Copy, Debug, PartialEq, Eq)]
 pub struct Target {
     pub stop: Stop,
     pub at: usize,
@@ -27,15 +27,13 @@ fn next_within(h: Header, s: &[u8], n: usize, from: usize, p: Stop, bound: u64) 
     requires { Sited h s.now n × (from ≤ n) × ValidStop h (stop_of h p) }
     ensures { (from ≤ result) × (result ≤ n) × Farther h s.now (stop_of h p) bound from result }
 {
-    let mut i = from;
-    while i < n {
+    for i in from..n {
         let x = sites::place_in(h, s, n, i, 0, p);
         if x.dist <= bound {
             return i;
         }
-        i += 1;
     }
-    i
+    n
 }
 
 // From a slot on, the first one whose site is near enough for the list: of a full list, no farther than its last place.
@@ -112,6 +110,7 @@ fn add_sites(
         (lists dist.new site.new cue.new) }
 {
     let mut m = used;
+    // A `while`, since the next slot is the next one found.
     let mut slot = next_slot(h, s, n, 0, target, m, dist);
     while slot < n {
         m = add_site(h, s, n, slot, first, target, m, dist, site, cue);

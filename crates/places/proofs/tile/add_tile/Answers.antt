@@ -15,7 +15,3 @@ add_sites-requires c = (
   c.requires.2,
   c.requires.3,
 )
-
-pub returns : goal.returns
-returns c =
-    rw (c.count-n.ensures.0, c.block_of.ensures.own) at c.add_sites.ensures
