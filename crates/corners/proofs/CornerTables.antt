@@ -8,7 +8,7 @@ use native.Mathlib.Nat.{add-zero}
 use native.Mathlib.Omega.{arith}
 use lib.Dec.{ltb}
 use lib.IntN.{ℤ}
-use lib.ListN.{get_or, length}
+use lib.ListN.{get_or}
 use borrow.Author.Tests.{ltb-true, ltb-false, le-ltb}
 use Rattle.base.specs.Every.{every}
 use Rattle.base.specs.Refusal.{accepted}
@@ -24,7 +24,7 @@ use Rattle.base.proofs.Every.{every_fails, every-same}
 use Rattle.base.proofs.Tests.{by_test}
 use Rattle.geometry.proofs.Theorems.{by_axes}
 use Rattle.plan.proofs.Measures.{closer_by_corners}
-use Rattle.corners.specs.Inner.Tables.{max_corners, far_size, FarRow, FarTable, NearTable, below_all}
+use Rattle.corners.specs.Inner.Tables.{max_corners, FarRow, FarTable, NearTable, below_all}
 
 -- ---- the corners
 
@@ -51,10 +51,6 @@ unfolding far
 far_of_box f h p t e = rw e
 
 module _ (f : List ℕ) (h : Header) (o : List (List ℤ)) where
-  -- nothing is in
-  pub none-far : (tile : ℕ → ℕ) {d : List ℕ} → length d ≡ far_size h → FarTable f h o tile 0 d
-  none-far tile e = record { long = e; at = λ c i j u. absurd (omega arith) }
-
   -- one more tile
   pub next_far : (tile : ℕ → ℕ) {n : ℕ} {was d : List ℕ} → n < max_tiles → FarTable f h o tile n was
       → FarRow f h o (tile n) n was d → FarTable f h o tile (n + 1) d

@@ -10,16 +10,14 @@ use blocks::header::Header;
 use blocks::layout::{HEIGHT, MAX_TILES};
 use plan::region::MAX_CORNERS;
 
-// From one place on, the first before `to` where far is below near, from corner 0; `to` if there is none.
+// From one place on, the first before `to` where far is below near, from corner 0; `to` if there is none. A `for` that
+// returns the place was tried, and is slower: what the caller does there is then reached by a jump more.
 pub fn next_below(far: &[u64], from: usize, to: usize, near: u64) -> usize
     requires { (from ≤ to) × (to ≤ length far.now) }
     ensures { FirstBelow far.now near from to result }
 {
     let mut e = from;
-    while e < to {
-        if far[e] < near {
-            return e;
-        }
+    while e < to && near <= far[e] {
         e += 1;
     }
     e
@@ -31,14 +29,12 @@ pub fn last_below(far: &[u64], part: usize, low: usize, to: usize, near: u64) ->
     requires { part + to ≤ length far.now }
     ensures { LastBelow far.now part near low to result }
 {
-    let mut i = to;
-    while low < i {
-        if far[part + (i - 1)] < near {
-            return i;
+    for i in (low..to).rev() {
+        if far[part + i] < near {
+            return i + 1;
         }
-        i -= 1;
     }
-    i
+    low.min(to)
 }
 
 // Whether at place e far is below near, from each of the corners `first` to `first` + 3: 0 to 3 have the low z, 4 to 7 the
@@ -50,9 +46,7 @@ fn below_four(far: &[u64], e: usize, near: [u64; MAX_CORNERS], first: usize) -> 
         (get_or near (first + c) 0)) 4 }
 {
     let mut all = true;
-    let mut c: usize = 4;
-    while 0 < c {
-        c -= 1;
+    for c in (0..4).rev() {
         all = both(all, far[(first + c) * MAX_TILES + e] < near[first + c]);
     }
     all

@@ -12,31 +12,27 @@ use plan::measure;
 use plan::region::{MAX_CORNERS, Region, corner_of, corners};
 
 // Far from each corner to tile t, at a place of the table. The box is read once: compiled code then squares each axis
-// once for all corners.
+// once for all corners. Inlined, since a call for each tile is slower.
+#[inline(always)]
 pub fn fill_tile(f: &[u8], h: Header, o: Region, t: usize, at: usize, far: &mut [u64])
     requires { TileOf f.now h t × ValidRegion h (region_of h o) × (at < max_tiles) × (length far.old ≡ far_size h) }
     ensures { FarRow f.now h (region_of h o) t at far.old far.new }
 {
     let b = directory::box_at(f, h, t);
-    let n = corners(h);
-    let mut c: usize = 0;
-    while c < n {
+    for c in 0..corners(h) {
         far[c * MAX_TILES + at] = max_dist_within(h.axes, b, corner_of(h, o, c));
-        c += 1;
     }
 }
 
-// Near from each corner to tile t.
+// Near from each corner to tile t. Inlined for the same reason.
+#[inline(always)]
 pub fn near_from(f: &[u8], h: Header, o: Region, t: usize) -> [u64; MAX_CORNERS]
     requires { TileOf f.now h t × ValidRegion h (region_of h o) }
     ensures { NearTable f.now h (region_of h o) t result }
 {
-    let n = corners(h);
     let mut near = [0u64; MAX_CORNERS];
-    let mut c: usize = 0;
-    while c < n {
+    for c in 0..corners(h) {
         near[c] = measure::near(f, h, t, corner_of(h, o, c));
-        c += 1;
     }
     near
 }

@@ -9,7 +9,6 @@ use lib.ListN.{get_or}
 use borrow.Author.Rules.{rules}
 use Rattle.base.specs.Every.{every}
 use Rattle.blocks.specs.Layout.{max_tiles}
-use Rattle.plan.specs.Inner.Seam.{corner_count}
 use Rattle.base.proofs.Every.{every-same}
 use Rattle.corners.specs.Inner.Tables.{below_all}
 use Rattle.corners.proofs.CornerTables.{corners-few, every_parts}
@@ -28,12 +27,6 @@ low c =
 pub below_four-low-requires : goal.below_four-low-requires
 below_four-low-requires c =
     (c.requires.1, omega (arith, c.requires.2, (corners-few c.args.h c.requires.0).0), search rules)
-
-pub below_four-requires : goal.below_four-requires
-below_four-requires c =
-    let e : c.args.h.axes ≡ 3 = omega arith in
-    let n : corner_count c.args.h ≡ 8 = rw e in
-    (c.requires.1, omega (arith, c.requires.2, n), search rules)
 
 pub returns-then-h-eq-HEIGHT : goal.returns-then-h-eq-HEIGHT
 unfolding below_all

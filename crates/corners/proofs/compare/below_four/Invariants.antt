@@ -1,4 +1,4 @@
-use Prim.Native.Nat.{◌+◌, ◌*◌, ◌≤◌}
+use Prim.Native.Nat.{◌+◌, ◌*◌}
 use mathlib.Core.Bool.{◌&&◌}
 use mathlib.Core.Path.{◌≡◌}
 use lib.Dec.{ltb}
@@ -9,9 +9,5 @@ use Rattle.corners.proofs.compare.below_four.Given as goal
 
 abbrev pub invariant-loop-c : goal.invariant-loop-c
 invariant-loop-c l =
-    (l.c ≤ 4)
-    × (l.all && every (λ i. ltb (get_or l.far ((l.first + i) * max_tiles + l.e) 0) (get_or l.near (l.first + i) 0)) l.c
-    ≡ every (λ i. ltb (get_or l.far ((l.first + i) * max_tiles + l.e) 0) (get_or l.near (l.first + i) 0)) 4)
-
-abbrev pub decreases-loop-c : goal.decreases-loop-c
-decreases-loop-c l = l.c
+    l.all && every (λ i. ltb (get_or l.far ((l.first + i) * max_tiles + l.e) 0) (get_or l.near (l.first + i) 0)) l.c
+    ≡ every (λ i. ltb (get_or l.far ((l.first + i) * max_tiles + l.e) 0) (get_or l.near (l.first + i) 0)) 4

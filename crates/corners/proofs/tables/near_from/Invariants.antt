@@ -1,4 +1,4 @@
-use Prim.Native.Nat.{ℕ, ◌-◌, ◌<◌, ◌≤◌}
+use Prim.Native.Nat.{ℕ, ◌<◌}
 use mathlib.Core.Path.{◌≡◌}
 use lib.ListN.{get_or, length}
 use Rattle.plan.specs.FilePlan.{entries}
@@ -9,9 +9,5 @@ use Rattle.corners.proofs.tables.near_from.Given as goal
 
 abbrev pub invariant-loop-c : goal.invariant-loop-c
 invariant-loop-c l =
-    (l.c ≤ l.n) × (length l.near ≡ max_corners)
-    × ((i : ℕ) → 0 ≤ i → i < l.c
-    → get_or l.near i 0 ≡ plan.near (entries l.f l.h) (corner_of (region_of l.h l.o) i) l.t)
-
-abbrev pub decreases-loop-c : goal.decreases-loop-c
-decreases-loop-c l = l.n - l.c
+    (length l.near ≡ max_corners)
+    × ((i : ℕ) → i < l.c → get_or l.near i 0 ≡ plan.near (entries l.f l.h) (corner_of (region_of l.h l.o) i) l.t)
