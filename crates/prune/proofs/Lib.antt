@@ -1,3 +1,2 @@
 pub mod Summing
-pub mod CornerTables
 pub mod Theorems

@@ -1,11 +1,25 @@
--- A sum over the tiles, turn by turn. Assumes nothing.
+-- A sum over the tiles, turn by turn, and what the sum over a table decides. Assumes nothing.
 use Prim.Native.Nat.{ℕ, zero, suc, ◌+◌, ◌-◌, ◌<◌, ◌≤◌}
 use mathlib.Core.Bool.{Bool, false, cond}
-use mathlib.Core.Path.{◌≡◌}
+use mathlib.Core.List.{List}
+use mathlib.Core.Path.{◌≡◌, refl, ap}
 use native.Mathlib.Nat.{add-zero, zero-add}
 use native.Mathlib.Numerals.{add-one}
 use native.Mathlib.Omega.{arith}
+use lib.Dec.{leb}
+use lib.IntN.{ℤ}
+use Rattle.base.specs.Refusal.{accepted}
+use Rattle.blocks.specs.Directory.{directory}
+use Rattle.blocks.specs.declared.header.Header.{Header}
+use Rattle.corners.specs.Inner.Tables.{FarTable, NearTable}
+use Rattle.plan.specs.FilePlan.{entries}
+use Rattle.plan.specs.Inner.Seam.{ValidRegion}
 use Rattle.search.specs.Lists.{range, bit, count, total}
+use Rattle.search.specs.Pruning.{pruned}
+use Rattle.corners.proofs.CornerTables.{tells_closer}
+use Rattle.search.proofs.Lists.{all_map, range_below}
+use Rattle.search.proofs.SameEntries.{total-same}
+use Rattle.prune.specs.Inner.Sum.{sum_below}
 
 module _ (p : ℕ → Bool) (w : ℕ → ℕ) where
   pub sum_turn : (e n : ℕ) → e < n
@@ -60,3 +74,15 @@ module _ (p : ℕ → Bool) where
   pub count_done : (e n : ℕ) → n ≤ e → count p (range e (n - e)) ≡ 0
   unfolding count
   count_done e n h = let d : n - e ≡ 0 = omega arith in rw d
+
+-- the sum over the tables of a region decides
+pub sum_prunes : (f : List ℕ) (h : Header) → directory f ≡ accepted h → (o : List (List ℤ)) → ValidRegion h o
+    → {d : List ℕ} → FarTable f h o (λ t. t) h.tiles d → (t : ℕ) → t < h.tiles
+    → (nears : List ℕ) → NearTable f h o t nears
+    → (k : ℕ) → leb k (sum_below f h d nears 0 h.tiles) ≡ pruned (entries f h) o k t
+unfolding pruned
+sum_prunes f h dir o v table t below nears from k =
+    let ts = range 0 h.tiles in
+    let all = range_below 0 h.tiles h.tiles (omega arith) in
+    ap (leb k) (total-same _ _ _ _ ts
+    (all_map ts (λ e l. (tells_closer f h o dir v (λ t. t) table t below nears from e l l, refl)) all))

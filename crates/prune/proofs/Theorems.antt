@@ -1,7 +1,7 @@
 -- The theorems of this crate for the reader. Of a call that answers, its marks and the number struck: `prunes_exactly`,
--- what is claimed `PrunesExactly` (specs/Claims). The call is `call::prune`, or `call::prune3` for a town with height,
--- its definitions `prune_call` and `marks_after` (specs/Prune). Of towns without height: `prune_on_plan`,
--- `marks_on_plan` (specs/WithoutHeight). f is the file, o the box O.
+-- what is claimed `PrunesExactly` (specs/Claims). The call is `call::prune`, its definitions `prune_call` and
+-- `marks_after` (specs/Prune). Of towns without height: `prune_on_plan`, `marks_on_plan` (specs/WithoutHeight). f is the
+-- file, o the box O.
 use Prim.Native.Nat.{ℕ, ◌≤◌}
 use mathlib.Core.List.{List, [], map}
 use mathlib.Core.Path.{◌≡◌, refl, sym, ap, ◌∙◌}
@@ -31,8 +31,9 @@ use Rattle.search.proofs.Lists.{all_any}
 use Rattle.search.proofs.Marks.{mark_pruned, mark_neither, marks_pruned}
 use Rattle.search.proofs.SameEntries.{map_same}
 use Rattle.prune.specs.Claims.{PrunesExactly}
-use Rattle.prune.specs.Prune.{Counts, prune_call, prune_marks, marks_after}
+use Rattle.prune.specs.Prune.{prune_call, prune_marks, marks_after}
 use Rattle.prune.specs.WithoutHeight.{prune_call_on_plan, marks_after_on_plan}
+use Rattle.prune.specs.declared.call.Pruned.{Pruned}
 
 -- the marks are those of a join that has opened nothing
 marks_are : (f : List ℕ) (h : Header) (o : List (List ℤ)) (k : ℕ) → prune_marks f h o k ≡ marks (entries f h) o k []
@@ -44,19 +45,19 @@ marks_are f h o k =
 
 module _ (f : List ℕ) (o : List (List ℤ)) (k : ℕ) (lent : List ℕ) where
   -- what an answer shows
-  record Answered (c : Counts) : Type 0 where
+  record Answered (c : Pruned) : Type 0 where
     h : Header
     dir : directory f ≡ accepted h
     room : h.tiles ≤ length lent
     counts : c ≡ record { tiles = h.tiles; pruned = pruned_count (entries f h) o k }
     left : marks_after f o k lent (prune_call f o k lent) ≡ over lent 0 (marks (entries f h) o k [])
 
-  left_by : (c : Counts) (h : Header) → directory f ≡ accepted h
+  left_by : (c : Pruned) (h : Header) → directory f ≡ accepted h
       → marks_after f o k lent (accepted c) ≡ over lent 0 (marks (entries f h) o k [])
   unfolding marks_after
   left_by c h d = rw d (ap (over lent 0) (marks_are f h o k))
 
-  answered : (c : Counts) → prune_call f o k lent ≡ accepted c → Answered c
+  answered : (c : Pruned) → prune_call f o k lent ≡ accepted c → Answered c
   unfolding prune_call
   answered c e =
       let d = and_then_accepted (directory f) _ e in
@@ -74,7 +75,7 @@ module _ (f : List ℕ) (o : List (List ℤ)) (k : ℕ) (lent : List ℕ) where
       }
 
   -- "Marks: 1 struck, 0 not. The result carries T and the number struck."
-  pub prunes_exactly : (c : Counts) → prune_call f o k lent ≡ accepted c → (h : Header) × PrunesExactly f o k lent h c
+  pub prunes_exactly : (c : Pruned) → prune_call f o k lent ≡ accepted c → (h : Header) × PrunesExactly f o k lent h c
   unfolding marks member
   prunes_exactly c e =
       let a = answered c e in
@@ -87,8 +88,8 @@ module _ (f : List ℕ) (o : List (List ℤ)) (k : ℕ) (lent : List ℕ) where
               (mark_pruned (entries f h) o k [] tt t));
           unmarked = λ t l. rw a.left (rw (filled_at m lent h.tiles t a.room l)
               (let n = mark_neither (entries f h) o k [] t in (λ x. (n.0 x).1, λ x. n.1 (refl, x))));
-          tiles = ap (λ (z : Counts). z.tiles) a.counts;
-          count_pruned = ap (λ (z : Counts). z.pruned) a.counts
+          tiles = ap (λ (z : Pruned). z.tiles) a.counts;
+          count_pruned = ap (λ (z : Pruned). z.pruned) a.counts
               ∙ sym (rw a.left (rw (filled-take m lent h.tiles a.room)
               (marks_pruned (entries f h) o k [] tt)));
           past = λ t l. rw a.left (get_d_after lent 0 t (map m (range 0 h.tiles))
@@ -107,7 +108,7 @@ module _ (f : List ℕ) (town : PlanFile f) (o : List (List ℤ)) (k : ℕ) (len
       (λ h e. rw (eq-eqb h.axes (length o) (((plan_towns f h).0 e).1 ∙ sym plane))))
 
   -- by the outcome, and by that of the directory
-  left_on_plan : (c : Outcome Counts) → marks_after f o k lent c ≡ marks_after_on_plan f o k lent c
+  left_on_plan : (c : Outcome Pruned) → marks_after f o k lent c ≡ marks_after_on_plan f o k lent c
   unfolding marks_after marks_after_on_plan
   left_on_plan (accepted c) =
       rw (directory_on_plan_lem f town)

@@ -7,7 +7,8 @@ use Rattle.plan.specs.FilePlan.{entries}
 use Rattle.search.specs.Lists.{count}
 use Rattle.search.specs.Pruning.{pruned}
 use Rattle.search.specs.Run.{pruned_mark, no_mark}
-use Rattle.prune.specs.Prune.{Counts, prune_call, marks_after}
+use Rattle.prune.specs.Prune.{prune_call, marks_after}
+use Rattle.prune.specs.declared.call.Pruned.{Pruned}
 
 module _ (f : List ℕ) (o : List (List ℤ)) (k : ℕ) (lent : List ℕ) where
   -- the marks at the end
@@ -15,7 +16,7 @@ module _ (f : List ℕ) (o : List (List ℤ)) (k : ℕ) (lent : List ℕ) where
   marks_left = marks_after f o k lent (prune_call f o k lent)
 
   -- "Given a file, a box O and k", with the header h of the file's directory and the counts c of the answer
-  pub record PrunesExactly (h : Header) (c : Counts) : Type 0 where
+  pub record PrunesExactly (h : Header) (c : Pruned) : Type 0 where
     pub header : directory f ≡ accepted h
     -- "Marks: 1 struck, 0 not."
     pub marked : (t : ℕ) → t < h.tiles → (get_or marks_left t 0 ≡ pruned_mark) ↔ (pruned (entries f h) o k t ≡ true)

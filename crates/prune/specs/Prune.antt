@@ -1,6 +1,5 @@
 -- Document 01, "Striking", with 02.2: what the call comes to, and what it leaves in the marks.
 --
---   Counts, prune_outcome      what the answer carries
 --   prune_call                 what the call comes to
 --   prune_marks, marks_after   the marks of the tiles, and the slice at the end
 use Rattle.std.specs.Prelude.{ℕ, List, map, eqb, leb, ℤ, length}
@@ -13,21 +12,11 @@ use Rattle.plan.specs.FilePlan.{entries}
 use Rattle.search.specs.Limits.{valid_k}
 use Rattle.search.specs.Lists.{range, bit}
 use Rattle.search.specs.Pruning.{pruned, pruned_count}
-use Rattle.prune.specs.declared.call.PruneAnswer.{PruneAnswer}
-use Rattle.prune.specs.declared.call.PruneAnswer.TheVariants.{Pruned, Refused}
+use Rattle.prune.specs.declared.call.Pruned.{Pruned}
 
--- "The result carries T and the number struck."
-pub record Counts : Type 0 where
-  pub tiles : ℕ
-  pub pruned : ℕ
-
-abbrev pub prune_outcome : PruneAnswer → Outcome Counts
-prune_outcome (Pruned tiles pruned) = accepted (record { tiles = tiles; pruned = pruned })
-prune_outcome (Refused r) = refused r.number r.block
-
--- "Strike: 1, directory, 11, 9 for O, 14"; 02.2: "17 when the call has another number of axes than the town .., in
--- strike after 11"
-unfoldable pub prune_call : List ℕ → List (List ℤ) → ℕ → List ℕ → Outcome Counts
+-- "The result carries T and the number struck."; "Strike: 1, directory, 11, 9 for O, 14"; 02.2: "17 when the call has
+-- another number of axes than the town .., in strike after 11"
+unfoldable pub prune_call : List ℕ → List (List ℤ) → ℕ → List ℕ → Outcome Pruned
 prune_call f o k marks =
     and_then (directory f) (λ h.
     require (valid_k k) #k 0
@@ -41,7 +30,7 @@ unfoldable pub prune_marks : List ℕ → Header → List (List ℤ) → ℕ →
 prune_marks f h o k = map (λ t. bit (pruned (entries f h) o k t)) (range 0 h.tiles)
 
 -- the marks at the end: a refusal "leaves the lent slices unchanged", and "elements past these never change"
-unfoldable pub marks_after : List ℕ → List (List ℤ) → ℕ → List ℕ → Outcome Counts → List ℕ
+unfoldable pub marks_after : List ℕ → List (List ℤ) → ℕ → List ℕ → Outcome Pruned → List ℕ
 marks_after f o k marks (accepted c) = marked (directory f)
   where
     marked : Outcome Header → List ℕ

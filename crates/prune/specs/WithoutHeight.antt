@@ -11,10 +11,11 @@ use Rattle.geometry.specs.Box.{valid_box}
 use Rattle.plan.specs.FilePlan.{entries}
 use Rattle.search.specs.Limits.{valid_k}
 use Rattle.search.specs.Pruning.{pruned_count}
-use Rattle.prune.specs.Prune.{Counts, prune_marks}
+use Rattle.prune.specs.Prune.{prune_marks}
+use Rattle.prune.specs.declared.call.Pruned.{Pruned}
 
 -- "Strike: 1, directory, 11, 9 for O, 14"
-unfoldable pub prune_call_on_plan : List ℕ → List (List ℤ) → ℕ → List ℕ → Outcome Counts
+unfoldable pub prune_call_on_plan : List ℕ → List (List ℤ) → ℕ → List ℕ → Outcome Pruned
 prune_call_on_plan f o k marks =
     and_then (directory_on_plan f) (λ h.
     require (valid_k k) #k 0
@@ -23,7 +24,7 @@ prune_call_on_plan f o k marks =
     (accepted (record { tiles = h.tiles; pruned = pruned_count (entries f h) o k })))))
 
 -- "Marks: 1 struck, 0 not."; a refusal "leaves the lent slices unchanged", and "elements past these never change"
-unfoldable pub marks_after_on_plan : List ℕ → List (List ℤ) → ℕ → List ℕ → Outcome Counts → List ℕ
+unfoldable pub marks_after_on_plan : List ℕ → List (List ℤ) → ℕ → List ℕ → Outcome Pruned → List ℕ
 marks_after_on_plan f o k marks (accepted c) = marked (directory_on_plan f)
   where
     marked : Outcome Header → List ℕ

@@ -2,6 +2,5 @@
 #![tactic(auto)]
 
 pub mod call;
-mod compare;
 pub mod marking;
 mod tables;

@@ -4,11 +4,6 @@ use borrow.Author.Rules.{rules}
 use Rattle.plan.proofs.Measures.{known_axes}
 use Rattle.prune.proofs.marking.mark_pruned.Goals as goal
 
-pub prune_with-requires : goal.prune_with-requires
-prune_with-requires c =
-    let e : c.args.h.axes ≡ 3 = omega arith in
-    (c.requires.0, c.requires.1, c.requires.2, rw e (search rules))
-
 pub prune_with-requires-else-h-eq-HEIGHT : goal.prune_with-requires-else-h-eq-HEIGHT
 prune_with-requires-else-h-eq-HEIGHT c =
     let known = known_axes c.args.f.now c.args.h c.requires.0 in

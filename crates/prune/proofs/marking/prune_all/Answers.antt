@@ -32,27 +32,7 @@ pub loop-t-init : goal.loop-t-init
 unfolding pruned_count prune_marks
 loop-t-init c =
     let d : c.args.h.tiles - 0 ≡ c.args.h.tiles = omega arith in
-    (omega arith, omega arith, refl, rw d (omega arith), rw d)
-
-pub prune_tile-x-requires : goal.prune_tile-x-requires
-prune_tile-x-requires c =
-    let value = c.requires.f_value in
-    record {
-      tile_of = (record { dir = value.0; below = search rules }, value.2, c.middle_tile-middle.ensures);
-      far_table = c.requires.far_table;
-    }
-
-pub bounds-marks-t : goal.bounds-marks-t
-bounds-marks-t c = omega (arith, c.requires.f_value.1)
-
-pub overflow_cast-count : goal.overflow_cast-count
-overflow_cast-count c =
-    omega (arith, c.prune_tile-x.ensures, bit-small (test (goal.at.overflow_cast-count c).Start c.loop-t.t))
-
-pub overflow_add-count : goal.overflow_add-count
-overflow_add-count c =
-    let start = (goal.at.overflow_add-count c).Start in
-    omega (arith, most start, c.prune_tile-x.ensures, bit-small (test start c.loop-t.t))
+    (omega arith, refl, rw d (omega arith), rw d)
 
 pub loop-t-preserved : goal.loop-t-preserved
 loop-t-preserved c =
@@ -62,15 +42,11 @@ loop-t-preserved c =
     let in-loop : t < c.args.h.tiles = search rules in
     let p = test (goal.at.loop-t-preserved c).Start in
     let q = count_turn p t c.args.h.tiles in-loop in (
-      omega arith,
       omega (arith, x, bit-small (p t)),
-      length-set c.loop-t.marks t c.prune_tile-x.result ∙ i.2,
-      omega (arith, x, q, i.3),
-      rw x (table_turn (λ i. bit (p i)) c.loop-t.marks t t c.args.h.tiles in-loop ∙ i.4),
+      length-set c.loop-t.marks t c.prune_tile-x.result ∙ i.1,
+      omega (arith, x, q, i.2),
+      rw x (table_turn (λ i. bit (p i)) c.loop-t.marks t t c.args.h.tiles in-loop ∙ i.3),
     )
-
-pub shape_of-marks : goal.shape_of-marks
-shape_of-marks c = c.loop-t.invariant.2
 
 pub returns : goal.returns
 returns c =
@@ -78,8 +54,8 @@ returns c =
     let p = test (goal.at.returns c).Start in
     let q = count_done p c.loop-t.t c.args.h.tiles past in
     record {
-      value = (omega (arith, q, c.loop-t.invariant.3), omega arith);
+      value = (omega (arith, q, c.loop-t.invariant.2), omega arith);
       marks_after =
           table_done (λ i. bit (p i)) c.loop-t.marks c.loop-t.t c.loop-t.t c.args.h.tiles past
-          ∙ c.loop-t.invariant.4;
+          ∙ c.loop-t.invariant.3;
     }

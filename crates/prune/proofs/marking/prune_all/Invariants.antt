@@ -13,12 +13,9 @@ use Rattle.prune.proofs.marking.prune_all.Given as goal
 
 abbrev pub invariant-loop-t : goal.invariant-loop-t
 invariant-loop-t l =
-    (l.t ≤ l.h.tiles) × (l.count ≤ l.t) × (length l.marks ≡ length l.initial.marks)
+    (l.count ≤ l.t) × (length l.marks ≡ length l.initial.marks)
     × (l.count + lists.count (pruned (entries l.f l.h) (region_of l.h l.o) l.k) (range l.t (l.h.tiles - l.t))
     ≡ pruned_count (entries l.f l.h) (region_of l.h l.o) l.k)
     × (over l.marks l.t
     (map (λ i. bit (pruned (entries l.f l.h) (region_of l.h l.o) l.k i)) (range l.t (l.h.tiles - l.t)))
     ≡ over l.initial.marks 0 (prune_marks l.f l.h (region_of l.h l.o) l.k))
-
-abbrev pub decreases-loop-t : goal.decreases-loop-t
-decreases-loop-t l = l.h.tiles - l.t

@@ -2,7 +2,7 @@ use mathlib.Core.Path.{◌≡◌, sym, ◌∙◌}
 use Rattle.plan.specs.FilePlan.{entries}
 use Rattle.plan.specs.Inner.Seam.{region_of}
 use Rattle.search.specs.Pruning.{pruned}
-use Rattle.prune.proofs.CornerTables.{sum_prunes}
+use Rattle.prune.proofs.Summing.{sum_prunes}
 use Rattle.prune.proofs.marking.prune_tile.Goals as goal
 use Rattle.prune.proofs.marking.prune_tile.Goals.{After-reaches}
 
@@ -12,7 +12,7 @@ sums : (c : After-reaches) → c.reaches.result
 sums c =
     let tile = c.requires.tile_of.0 in
     c.reaches.ensures ∙ sum_prunes c.args.f.now c.args.h tile.dir (region_of c.args.h c.args.o)
-    c.requires.tile_of.1 c.requires.far_table c.args.t tile.below c.near_from.result c.near_from.ensures
+    c.requires.tile_of.1 c.requires.far_table c.args.t tile.below c.near_from-near.result c.near_from-near.ensures
     c.args.k
 
 pub returns-then-reaches : goal.returns-then-reaches

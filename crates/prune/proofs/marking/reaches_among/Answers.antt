@@ -2,6 +2,7 @@ use Prim.Native.Nat.{ℕ, ◌+◌, ◌-◌, ◌*◌, ◌<◌, ◌≤◌}
 use mathlib.Core.Bool.{Bool, cond}
 use mathlib.Core.List.{List}
 use mathlib.Core.Path.{◌≡◌, refl, ap, sym}
+use native.Mathlib.Nat.{zero-add}
 use native.Mathlib.Omega.{arith}
 use lib.Dec.{leb}
 use lib.ListN.{get_or}
@@ -11,12 +12,13 @@ use Rattle.base.specs.Refusal.{accepted}
 use Rattle.blocks.specs.Directory.{directory}
 use Rattle.blocks.specs.Layout.{max_tiles}
 use Rattle.blocks.specs.declared.header.Header.{Header}
+use Rattle.corners.specs.Inner.Tables.{below_all, FirstBelow}
 use Rattle.plan.specs.FilePlan.{entries}
 use Rattle.plan.specs.Inner.Seam.{corner_count}
 use Rattle.search.specs.Plan.{slots, ranked}
-use Rattle.prune.specs.Inner.Tables.{below_all, sum_below, FirstBelow}
+use Rattle.corners.proofs.CornerTables.{corners-few, not_below}
 use Rattle.plan.proofs.Measures.{known_axes, tiles_few}
-use Rattle.prune.proofs.CornerTables.{corners-few, not_below}
+use Rattle.prune.specs.Inner.Sum.{sum_below}
 use Rattle.prune.proofs.Summing.{sum_turn, sum_skip, sum_done}
 use Rattle.prune.proofs.marking.reaches_among.Goals as goal
 use Rattle.prune.proofs.marking.reaches_among.Goals.{Joined-below, else-below, then-below+else-k-sum}
@@ -42,7 +44,7 @@ module _ (f : List ℕ) (h : Header) (far near : List ℕ) (to : ℕ) where
   passed : directory f ≡ accepted h → {a r : ℕ} → FirstBelow far (get_or near 0 0) a to r → rest r ≡ rest a
   passed dir {a} {r} first =
       sum_skip (below_all h far near) (ranked (entries f h)) a r to first.after first.within
-      (λ i l u. not_below h (known_axes f h dir) far near i (first.none i l u))
+      (λ i l u. not_below h far near i 0 (omega (arith, room f h dir)) (rw (zero-add i) (first.none i l u)))
 
 -- the sum behind a tile's turn
 summed : (c : Joined-below) →
@@ -83,10 +85,6 @@ below-requires c =
     let known = known_axes c.args.f.now c.args.h c.requires.f_value.0 in
     (known, omega (arith, few, c.requires.from_le_to.1), c.requires.f_value.1)
 
-pub ranked-sum-requires : goal.ranked-sum-requires
-ranked-sum-requires c =
-    record { dir = c.requires.f_value.0; below = omega (arith, c.requires.from_le_to.1) }
-
 pub overflow_add-sum : goal.overflow_add-sum
 overflow_add-sum c =
     let few = most c.args.f.now c.args.h c.requires.f_value.0 in
@@ -108,9 +106,6 @@ next_below-e-requires-in-loop-e c =
     let few = most c.args.f.now c.args.h c.requires.f_value.0 in
     let corners = room c.args.f.now c.args.h c.requires.f_value.0 in
     (search rules, omega (arith, few, c.requires.f_value.1, c.requires.from_le_to.1, corners))
-
-pub loop-e-smaller : goal.loop-e-smaller
-loop-e-smaller c = let q = c.next_below-e-in-loop-e.ensures.after in search rules
 
 pub loop-e-preserved : goal.loop-e-preserved
 loop-e-preserved c =

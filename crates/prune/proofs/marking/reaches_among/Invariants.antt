@@ -1,7 +1,7 @@
 use Prim.Native.Nat.{◌+◌, ◌-◌, ◌*◌, ◌≤◌}
 use mathlib.Core.Path.{◌≡◌}
 use Rattle.search.specs.Plan.{slots}
-use Rattle.prune.specs.Inner.Tables.{sum_below}
+use Rattle.prune.specs.Inner.Sum.{sum_below}
 use Rattle.prune.proofs.marking.reaches_among.Given as goal
 
 abbrev pub invariant-loop-e : goal.invariant-loop-e
