@@ -40,10 +40,8 @@ fn fill_keys(f: &[u8], h: Header, o: Region, keys: &mut [u64])
     requires { (directory f.now ≡ accepted h) × ValidRegion h (region_of h o) × (length keys.old ≡ max_tiles) }
     ensures { Listed h.tiles keys.new }
 {
-    let mut t: usize = 0;
-    while t < h.tiles {
+    for t in 0..h.tiles {
         keys[t] = key_of(f, h, o, t);
-        t += 1;
     }
 }
 
@@ -62,17 +60,9 @@ pub fn fill_far(f: &[u8], h: Header, o: Region, keys: &[u64], far: &mut [u64])
     requires listed { Listed h.tiles keys.now × (length keys.now ≡ max_tiles) × (length far.old ≡ far_size h) }
     ensures { FarTable f.now h (region_of h o) (tile_at keys.now) h.tiles far.new }
 {
-    let mut i: usize = 0;
-    while i < h.tiles {
+    for i in 0..h.tiles {
         fill_tile(f, h, o, tile_at(keys, i), i, far);
-        i += 1;
     }
-}
-
-fn lesser(a: u64, b: u64) -> u64
-    ensures { (result ≤ a) × (result ≤ b) }
-{
-    if a < b { a } else { b }
 }
 
 // At each place the least far from the first corner of all tiles from there on.
@@ -81,15 +71,14 @@ pub fn fill_least(far: &[u64], n: usize, least: &mut [u64])
     ensures { Least far.now n least.new }
 {
     let mut low = NONE;
-    let mut i = n;
-    while 0 < i {
-        i -= 1;
-        low = lesser(low, far[i]);
+    for i in (0..n).rev() {
+        low = low.min(far[i]);
         least[i] = low;
     }
 }
 
-// A place from which on no far from the first corner is below near.
+// A place from which on no far from the first corner is below near. It is halved by hand: the library's partition_point
+// tells of its place only in a table that is known to rise.
 pub fn place_before(least: &[u64], n: usize, near: u64) -> usize
     requires { (n ≤ length least.now) × (n ≤ max_tiles) }
     ensures { NoneFrom least.now n near result }

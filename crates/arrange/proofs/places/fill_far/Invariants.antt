@@ -1,11 +1,7 @@
-use Prim.Native.Nat.{◌-◌, ◌≤◌}
 use Rattle.corners.specs.Inner.Tables.{FarTable}
 use Rattle.plan.specs.Inner.Seam.{region_of}
 use Rattle.arrange.specs.Inner.Places.{tile_at}
 use Rattle.arrange.proofs.places.fill_far.Given as goal
 
 abbrev pub invariant-loop-i : goal.invariant-loop-i
-invariant-loop-i l = (l.i ≤ l.h.tiles) × FarTable l.f l.h (region_of l.h l.o) (tile_at l.keys) l.i l.far
-
-abbrev pub decreases-loop-i : goal.decreases-loop-i
-decreases-loop-i l = l.h.tiles - l.i
+invariant-loop-i l = FarTable l.f l.h (region_of l.h l.o) (tile_at l.keys) l.i l.far

@@ -1,4 +1,4 @@
-use Prim.Native.Nat.{ℕ, ◌-◌, ◌<◌, ◌≤◌}
+use Prim.Native.Nat.{ℕ, ◌<◌}
 use mathlib.Core.Path.{◌≡◌}
 use lib.ListN.{length}
 use Rattle.blocks.specs.Layout.{max_tiles}
@@ -6,8 +6,4 @@ use Rattle.arrange.specs.Inner.Places.{tile_at}
 use Rattle.arrange.proofs.places.fill_keys.Given as goal
 
 abbrev pub invariant-loop-t : goal.invariant-loop-t
-invariant-loop-t l =
-    (l.t ≤ l.h.tiles) × (length l.keys ≡ max_tiles) × ((i : ℕ) → 0 ≤ i → i < l.t → tile_at l.keys i ≡ i)
-
-abbrev pub decreases-loop-t : goal.decreases-loop-t
-decreases-loop-t l = l.h.tiles - l.t
+invariant-loop-t l = (length l.keys ≡ max_tiles) × ((i : ℕ) → i < l.t → tile_at l.keys i ≡ i)

@@ -31,9 +31,6 @@ small c =
     c.max_dist_within-far.ensures ∙ ap (λ z. max_dist z q) c.box_at.ensures in
     omega (arith, far, max-dist_bounded (box_at f h t) q valid v.valid same)
 
-pub box_at-requires : goal.box_at-requires
-box_at-requires c = (c.requires.0.dir, c.requires.0.below)
-
 pub corner_of-requires : goal.corner_of-requires
 corner_of-requires c = (known (goal.at.corner_of-requires c).Start, c.requires.1)
 

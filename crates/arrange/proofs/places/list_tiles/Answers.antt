@@ -6,7 +6,7 @@ use Rattle.arrange.proofs.places.list_tiles.Goals as goal
 pub sort-requires : goal.sort-requires
 sort-requires c =
     let most = tiles_few c.args.f.now c.args.h c.requires.0 in
-    (omega (arith, most, c.requires.2), omega (arith, most))
+    omega (arith, most, c.requires.2)
 
 pub returns : goal.returns
 returns c =
