@@ -107,11 +107,6 @@ module _ (closer : ℕ → ℕ → Bool) (n : ℕ) (keys : List ℕ) where
     rest = λ i m u l. s.rest i m u (sym (same (tile_at keys i)) ∙ l);
   }
 
-  -- the tile that is gone, by another name
-  pub stands_gone : {left : ℕ → Bool} {gone gone' w from b : ℕ} → gone ≡ gone'
-      → Stands closer n keys left gone w from b → Stands closer n keys left gone' w from b
-  stands_gone e s = rw e at s
-
   -- the numbers of one tile found again
   module _ {b : ℕ} {waits waits' from from' : List ℕ} (found : Released closer n keys b waits waits' from from')
       (room : b < length waits) (room' : b < length from) (here : is_left waits b ≡ true) where

@@ -1,7 +1,6 @@
 -- The theorems of this crate for the reader. Of a call that answers: `streams_exactly` (`StreamsExactly`,
--- specs/Claims), `order_fixed`. The calls are `call::stream_order` and, for a town with height, `call::stream_order3`,
--- their definitions `stream_call` and `order_after` (specs/Stream). That the directory alone decides:
--- `directory_decides`. f is the file, o the box O.
+-- specs/Claims), `order_fixed`. The call is `call::stream_order`, its definitions `stream_call` and `order_after`
+-- (specs/Stream). That the directory alone decides: `directory_decides`. f is the file, o the box O.
 use Prim.Native.Nat.{ℕ, ◌≤◌, ◌<◌}
 use mathlib.Core.Bool.{true}
 use mathlib.Core.List.{List}

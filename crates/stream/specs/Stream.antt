@@ -1,6 +1,5 @@
 -- 02.5, "A sequence for streaming": what the call comes to, and what it leaves in the lent slice.
 --
---   stream_outcome            what the answer carries
 --   closer_from               from O one tile of a file is nearer than another
 --   stream_call               what the call comes to
 --   tile_order, order_after   the tiles in their sequence, and the slice at the end
@@ -12,20 +11,13 @@ use Rattle.blocks.specs.declared.header.Header.{Header}
 use Rattle.geometry.specs.Box.{valid_box}
 use Rattle.geometry.specs.Margin.{closer}
 use Rattle.sequence.specs.Sequence.{sequence}
-use Rattle.stream.specs.declared.call.StreamAnswer.{StreamAnswer}
-use Rattle.stream.specs.declared.call.StreamAnswer.TheVariants.{Ordered, Refused}
-
--- "the result carries T"
-abbrev pub stream_outcome : StreamAnswer → Outcome ℕ
-stream_outcome (Ordered tiles) = accepted tiles
-stream_outcome (Refused r) = refused r.number r.block
 
 -- "E is nearer than B from O", of the boxes of two tiles
 unfoldable pub closer_from : List ℕ → Header → List (List ℤ) → ℕ → ℕ → Bool
 closer_from f h o e b = closer o (box_at f h e) (box_at f h b)
 
 -- "It refuses as strike does, without 11 .. a slice shorter than T is 14": 1, directory, 17, 9 for O, 14; 02.2: "17
--- when the call has another number of axes than the town"
+-- when the call has another number of axes than the town"; "the result carries T"
 unfoldable pub stream_call : List ℕ → List (List ℤ) → List ℕ → Outcome ℕ
 stream_call f o order =
     and_then (directory f) (λ h.

@@ -20,7 +20,8 @@ use corners::compare::{below, last_below};
 use corners::tables::near_from;
 use plan::region::{MAX_CORNERS, Region, corners};
 
-// In the place of a tile to wait for: none is left; the tile itself was taken.
+// In the place of a tile to wait for: none is left; the tile itself was taken. Numbers and no enum, so that a group of
+// places is compared with one tile at once.
 pub const FREE: u32 = 960;
 
 pub const TAKEN: u32 = 961;
@@ -62,6 +63,7 @@ fn last_blocker(
     let n = corners(h);
     let part = (n - 1) * MAX_TILES;
     let bound = near[n - 1];
+    // A `while`, since the next place is the next one found.
     let mut i = last_below(far, part, low, to, bound);
     while low < i {
         if blocks_at(h, far, keys, waits, near, i - 1) {
@@ -151,10 +153,8 @@ pub fn settle_all(
     ensures { Standing (closer_from f.now h (region_of h o)) h.tiles keys.now h.tiles 0
         waits.new from.new × ((a : ℕ) → is_left waits.new a ≡ true) }
 {
-    let mut b: usize = 0;
-    while b < h.tiles {
+    for b in 0..h.tiles {
         settle_first(f, h, o, far, least, keys, b, waits, from);
-        b += 1;
     }
 }
 

@@ -20,12 +20,6 @@ use plan::region::Region;
 // How many tiles are looked at together.
 const GROUP: usize = 32;
 
-fn same(a: u32, b: u32) -> u32
-    ensures { (result ≤ 1) × (result ≡ 0 → a ≢ b) }
-{
-    if a == b { 1 } else { 0 }
-}
-
 // Whether none of the tiles of a group waits for t: a loop of constant length and without a branch, so that compiled
 // code looks at several tiles at once.
 fn none_waits(waits: &[u32], first: usize, t: u32) -> bool
@@ -33,10 +27,8 @@ fn none_waits(waits: &[u32], first: usize, t: u32) -> bool
     ensures { result ≡ true → (b : ℕ) → first ≤ b → b < first + 32 → get_or waits.now b 0 ≢ t }
 {
     let mut found: u32 = 0;
-    let mut i: usize = 0;
-    while i < GROUP {
-        found += same(waits[first + i], t);
-        i += 1;
+    for i in 0..GROUP {
+        found += u32::from(waits[first + i] == t);
     }
     found == 0
 }
@@ -68,24 +60,17 @@ fn release_among(
         t to waits.old waits.new from.old from.new result }
 {
     let mut before = least;
-    let mut b = first;
-    while b < to {
+    for b in first..to {
         if waits[b] == t as u32 {
             release(f, h, o, far, keys, low, b, waits, from);
-            before = lesser(before, b);
+            before = before.min(b);
         }
-        b += 1;
     }
     before
 }
 
-fn lesser(a: usize, b: usize) -> usize
-    ensures { result ≡ min a b }
-{
-    if a < b { a } else { b }
-}
-
-// The same of all tiles, group by group: those of which none waited for t are passed over.
+// The same of all tiles, group by group: those of which none waited for t are passed over. A `for` over the groups, with
+// the first tile of each worked out, was tried, and is slower.
 fn release_all(
     f: &[u8],
     h: Header,
@@ -110,7 +95,7 @@ fn release_all(
     let mut before = t;
     let mut first: usize = 0;
     while first < h.tiles {
-        let to = lesser(first + GROUP, h.tiles);
+        let to = h.tiles.min(first + GROUP);
         if !none_waits(waits, first, t as u32) {
             before = release_among(f, h, o, far, keys, low, t, first, to, before, waits, from);
         }
@@ -124,14 +109,12 @@ fn first_free(waits: &[u32], at: usize, n: usize) -> usize
     requires { (at ≤ n) × (n ≤ length waits.now) }
     ensures { FirstFree waits.now at n result }
 {
-    let mut t = at;
-    while t < n {
+    for t in at..n {
         if waits[t] == FREE {
             return t;
         }
-        t += 1;
     }
-    t
+    n
 }
 
 // From place `low` on the first of a tile that is left.
@@ -139,15 +122,13 @@ fn first_left(keys: &[u64], waits: &[u32], low: usize, n: usize) -> usize
     requires { (low ≤ n) × (n ≤ length keys.now) × Listed n keys.now × (n ≤ length waits.now) }
     ensures { FirstLeft keys.now waits.now low n result }
 {
-    let mut i = low;
-    while i < n {
+    for i in low..n {
         let t = tile_at(keys, i);
         if waits[t] != TAKEN {
             return i;
         }
-        i += 1;
     }
-    i
+    n
 }
 
 // All tiles, from what each waits for at first.
@@ -171,14 +152,12 @@ fn take_all(
 {
     let mut at: usize = 0;
     let mut low: usize = 0;
-    let mut i: usize = 0;
-    while i < h.tiles {
+    for i in 0..h.tiles {
         let t = first_free(waits, at, h.tiles);
         order[i] = t as u32;
         waits[t] = TAKEN;
         low = first_left(keys, waits, low, h.tiles);
         at = release_all(f, h, o, far, keys, low, t, waits, from);
-        i += 1;
     }
 }
 

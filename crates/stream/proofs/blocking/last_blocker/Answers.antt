@@ -32,68 +32,14 @@ passed c to i last j l u =
     (last.none j l u) in
     rw e
 
-pub corners-n-requires : goal.corners-n-requires
-corners-n-requires c = c.requires.known_axes.0
-
-pub overflow_sub-part : goal.overflow_sub-part
-overflow_sub-part c = omega (arith, (few (goal.at.overflow_sub-part c).Start).0, c.corners-n.ensures)
-
-pub overflow_mul-part : goal.overflow_mul-part
-overflow_mul-part c =
-    omega (arith, (few (goal.at.overflow_mul-part c).Start).1, c.corners-n.ensures)
-
-pub overflow_sub-bound : goal.overflow_sub-bound
-overflow_sub-bound c =
-    omega (arith, (few (goal.at.overflow_sub-bound c).Start).0, c.corners-n.ensures)
-
-pub offset_bounds-near-n : goal.offset_bounds-near-n
-offset_bounds-near-n c =
-    omega (arith, (few (goal.at.offset_bounds-near-n c).Start).1, c.corners-n.ensures)
-
 pub bounds-near-n : goal.bounds-near-n
 bounds-near-n c =
     omega (arith, (few (goal.at.bounds-near-n c).Start).1, c.corners-n.ensures)
-
-pub last_below-i-requires : goal.last_below-i-requires
-last_below-i-requires c =
-    let four = (few (goal.at.last_below-i-requires c).Start).0 in
-    let known = c.requires.known_axes in
-    omega (arith, four, c.corners-n.ensures, known.1, known.2, known.3)
 
 pub loop-i-init : goal.loop-i-init
 loop-i-init c =
     let q = c.last_below-i.ensures in
     (q.within, λ j l _ u. passed (goal.at.loop-i-init c).After-corners-n _ _ q j l u)
-
-pub blocks_at-requires : goal.blocks_at-requires
-blocks_at-requires c =
-    let i = c.loop-i.i in
-    let inside : i - 1 < c.args.h.tiles = omega (arith, c.requires.known_axes.2) in
-    let tile = c.requires.keys_len.1.below (i - 1) inside in
-    record {
-      known_axes = (c.requires.known_axes.0, c.requires.known_axes.1, omega (arith, c.requires.known_axes.3));
-      i_in_bounds = (
-        omega (arith, c.requires.known_axes.3, c.requires.keys_len.0),
-        omega (arith, tile, c.requires.keys_len.2, c.requires.known_axes.3),
-      );
-    }
-
-pub returns-then-blocks_at : goal.returns-then-blocks_at
-returns-then-blocks_at c =
-    record {
-      within = c.loop-i.invariant.0;
-      none = c.loop-i.invariant.1;
-      found = λ _. sym c.blocks_at.ensures ∙ c.if-blocks_at.true;
-    }
-
-pub last_below-i-requires-in-loop-i : goal.last_below-i-requires-in-loop-i
-last_below-i-requires-in-loop-i c =
-    let four = (few (goal.at.last_below-i-requires-in-loop-i c).Start).0 in
-    let known = c.requires.known_axes in
-    omega (arith, four, c.corners-n.ensures, known.1, known.2, known.3)
-
-pub loop-i-smaller : goal.loop-i-smaller
-loop-i-smaller c = omega (arith, c.last_below-i-in-loop-i.ensures.within)
 
 pub loop-i-preserved : goal.loop-i-preserved
 loop-i-preserved c =
@@ -110,7 +56,3 @@ loop-i-preserved c =
           passed (goal.at.loop-i-preserved c).After-corners-n _ _ q j m (omega arith)))
           (λ t. c.loop-i.invariant.1 j (ltb-false j i t) o u),
     )
-
-pub returns : goal.returns
-returns c =
-    record { within = c.loop-i.invariant.0; none = c.loop-i.invariant.1; found = λ u. absurd (omega arith) }

@@ -10,28 +10,16 @@ use Rattle.stream.proofs.blocking.release.Goals.{Start}
 most : (s : Start) → s.args.h.tiles ≤ max_tiles
 most s = tiles_few s.args.f.now s.args.h s.requires.tile_of.0.dir
 
-pub near_from-near-requires : goal.near_from-near-requires
-near_from-near-requires c = c.requires.tile_of
-
-pub offset_bounds-from-b : goal.offset_bounds-from-b
-offset_bounds-from-b c = omega (arith, most (goal.at.offset_bounds-from-b c).Start, c.requires.tile_of.0.below)
-
 pub bounds-from-b : goal.bounds-from-b
 bounds-from-b c = omega (arith, most (goal.at.bounds-from-b c).Start, c.requires.tile_of.0.below, c.requires.keys_len.3)
 
-pub settle-requires : goal.settle-requires
-settle-requires c =
-    let table = c.requires.keys_len in
-    record {
-      known_axes = (
-        known_axes c.args.f.now c.args.h c.requires.tile_of.0.dir,
-        c.requires.far_table.long,
-        c.requires.stands.few,
-        most (goal.at.settle-requires c).Start,
-      );
-      keys_len = (table.0, table.1, table.2);
-      b_lt_tiles = (c.requires.tile_of.0.below, table.3);
-    }
+pub settle-requires-clause-known_axes : goal.settle-requires-clause-known_axes
+settle-requires-clause-known_axes c = (
+  known_axes c.args.f.now c.args.h c.requires.tile_of.0.dir,
+  c.requires.far_table.long,
+  c.requires.stands.few,
+  most (goal.at.settle-requires-clause-known_axes c).Start,
+)
 
 pub returns : goal.returns
 returns c =

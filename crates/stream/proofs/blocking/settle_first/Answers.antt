@@ -10,28 +10,18 @@ use Rattle.stream.proofs.blocking.settle_first.Goals.{Start}
 most : (s : Start) → s.args.h.tiles ≤ max_tiles
 most s = tiles_few s.args.f.now s.args.h s.requires.tile_of.0.dir
 
-pub near_from-near-requires : goal.near_from-near-requires
-near_from-near-requires c = c.requires.tile_of
-
 pub place_before-to-requires : goal.place_before-to-requires
 place_before-to-requires c =
     let few = most (goal.at.place_before-to-requires c).Start in
     (omega (arith, few, c.requires.keys_len.2), few)
 
-pub settle-requires : goal.settle-requires
-settle-requires c =
-    let table = c.requires.keys_len in
-    let slices = c.requires.waits_len in
-    record {
-      known_axes = (
-        known_axes c.args.f.now c.args.h c.requires.tile_of.0.dir,
-        c.requires.far_table.long,
-        c.place_before-to.ensures.within,
-        most (goal.at.settle-requires c).Start,
-      );
-      keys_len = (table.0, table.1, slices.0);
-      b_lt_tiles = (c.requires.tile_of.0.below, slices.1);
-    }
+pub settle-requires-clause-known_axes : goal.settle-requires-clause-known_axes
+settle-requires-clause-known_axes c = (
+  known_axes c.args.f.now c.args.h c.requires.tile_of.0.dir,
+  c.requires.far_table.long,
+  c.place_before-to.ensures.within,
+  most (goal.at.settle-requires-clause-known_axes c).Start,
+)
 
 pub returns : goal.returns
 returns c =

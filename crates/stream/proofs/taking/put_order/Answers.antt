@@ -4,11 +4,6 @@ use borrow.Author.Rules.{rules}
 use Rattle.plan.proofs.Measures.{known_axes}
 use Rattle.stream.proofs.taking.put_order.Goals as goal
 
-pub order_with-requires : goal.order_with-requires
-order_with-requires c =
-    let e : c.args.h.axes ≡ 3 = omega arith in
-    (c.requires.0, c.requires.1, c.requires.2, rw e (search rules))
-
 pub order_with-requires-else-h-eq-HEIGHT : goal.order_with-requires-else-h-eq-HEIGHT
 order_with-requires-else-h-eq-HEIGHT c =
     let known = known_axes c.args.f.now c.args.h c.requires.0 in

@@ -1,5 +1,5 @@
 use Prim.Native.Nat.{◌%◌, ◌+◌, ◌≤◌, min}
-use mathlib.Core.Path.{◌≡◌, refl, ◌∙◌}
+use mathlib.Core.Path.{◌≡◌, ◌∙◌}
 use native.Mathlib.Omega.{arith}
 use Rattle.blocks.specs.Layout.{max_tiles}
 use Rattle.plan.specs.Inner.Seam.{region_of}
@@ -12,21 +12,6 @@ use Rattle.stream.proofs.taking.release_all.Goals.{Start, else-not-none_waits, t
 most : (s : Start) → s.args.h.tiles ≤ max_tiles
 most s = tiles_few s.args.f.now s.args.h s.requires.f_value.0
 
-pub loop-first-init : goal.loop-first-init
-loop-first-init c =
-    let none : min 0 c.args.h.tiles ≡ 0 = omega arith in (
-      refl,
-      omega arith,
-      omega arith,
-      rw none (record {
-        long_waits = refl;
-        long_from = refl;
-        standing = c.requires.t_lt_tiles.1;
-        same_left = λ a. refl;
-        same_before = λ b l. refl;
-      }),
-    )
-
 pub overflow_cast-t : goal.overflow_cast-t
 overflow_cast-t c = omega (arith, most (goal.at.overflow_cast-t c).Start, c.requires.t_lt_tiles.0)
 
@@ -36,20 +21,6 @@ none_waits-requires c =
     let inv = c.loop-first.invariant in
     let few = most (goal.at.none_waits-requires c).Start in
     (omega (arith, few, inv.0, inv.3.long_waits, c.requires.keys_len.2), inv.1)
-
-pub release_among-before-requires : goal.release_among-before-requires
-release_among-before-requires c =
-    let inv = c.loop-first.invariant in
-    let table = c.requires.keys_len in
-    let here : min c.loop-first.first c.args.h.tiles ≡ c.loop-first.first = omega arith in
-    record {
-      f_value = c.requires.f_value;
-      far_table = c.requires.far_table;
-      keys_len = (table.0, table.1, inv.3.long_waits ∙ table.2, inv.3.long_from ∙ table.3);
-      taken_below = λ i m u. inv.3.same_left _ ∙ c.requires.taken_below i m u;
-      t_lt_tiles = (c.requires.t_lt_tiles.0, omega (arith, c.lesser-to.ensures), omega (arith, c.lesser-to.ensures));
-      standing = rw here at inv.3.standing;
-    }
 
 pub loop-first-smaller : goal.loop-first-smaller
 loop-first-smaller c = omega (arith, most (goal.at.loop-first-smaller c).Start)
@@ -65,8 +36,8 @@ loop-first-preserved c =
     elim c.if-not-none_waits.branch [
       | then-not-none_waits w ↦
           let freed = w.release_among-before.ensures in
-          let to = c.lesser-to.ensures in
-          let here : c.lesser-to.result ≡ min (first + 32) n = to in
+          let to = c.min-to.ensures in
+          let here : c.min-to.result ≡ min (first + 32) n = omega (arith, to) in
           rw (w.waits-is, w.from-is, w.before-is) (
             aligned,
             inside,
@@ -95,14 +66,3 @@ loop-first-preserved c =
             },
           )
     ]
-
-pub shape_of-waits : goal.shape_of-waits
-shape_of-waits c = c.loop-first.invariant.3.long_waits
-
-pub shape_of-from : goal.shape_of-from
-shape_of-from c = c.loop-first.invariant.3.long_from
-
-pub returns : goal.returns
-returns c =
-    let all : min c.loop-first.first c.args.h.tiles ≡ c.args.h.tiles = omega arith in
-    (c.loop-first.invariant.2, rw all at c.loop-first.invariant.3)

@@ -1,4 +1,4 @@
-use Prim.Native.Nat.{◌-◌, ◌≤◌}
+use Prim.Native.Nat.{◌≤◌}
 use Rattle.plan.specs.Inner.Seam.{region_of}
 use Rattle.stream.specs.Inner.State.{Freed}
 use Rattle.stream.specs.Stream.{closer_from}
@@ -6,9 +6,6 @@ use Rattle.stream.proofs.taking.release_among.Given as goal
 
 abbrev pub invariant-loop-b : goal.invariant-loop-b
 invariant-loop-b l =
-    (l.first ≤ l.b) × (l.b ≤ l.to) × (l.before ≤ l.least)
+    (l.before ≤ l.least)
     × Freed (closer_from l.f l.h (region_of l.h l.o)) l.h.tiles l.keys l.t l.b
     l.initial.waits l.waits l.initial.from l.from l.before
-
-abbrev pub decreases-loop-b : goal.decreases-loop-b
-decreases-loop-b l = l.to - l.b

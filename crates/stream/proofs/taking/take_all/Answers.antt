@@ -2,7 +2,6 @@ use Prim.Native.Nat.{◌<◌, ◌≤◌}
 use mathlib.Core.Path.{refl, ◌∙◌}
 use native.Mathlib.Omega.{arith}
 use lib.ListN.{length, length-set}
-use borrow.Author.Rules.{rules}
 use Rattle.blocks.specs.Layout.{max_tiles}
 use Rattle.plan.specs.Inner.Seam.{region_of}
 use Rattle.plan.proofs.Measures.{tiles_few}
@@ -11,7 +10,7 @@ use Rattle.stream.specs.Inner.State.{taken_mark}
 use Rattle.stream.specs.Stream.{closer_from, tile_order}
 use Rattle.stream.proofs.Nearer.{closer-strict}
 use Rattle.stream.proofs.Standing.{taken_standing}
-use Rattle.stream.proofs.Turns.{running_start, running_end, first_inside, gone_next, running_next}
+use Rattle.stream.proofs.Turns.{running_start, running_end, first_inside, running_next}
 use Rattle.stream.proofs.taking.take_all.Goals as goal
 use Rattle.stream.proofs.taking.take_all.Goals.{After-first_free-t, Start}
 
@@ -31,19 +30,18 @@ inside c =
     let o = region_of h c.args.o in
     first_inside (closer_from f h o) h.tiles c.args.keys.now
     (closer-strict f h c.requires.f_value.0 o c.requires.f_value.1) (tiles_few f h c.requires.f_value.0)
-    c.loop-i.invariant.4 (search rules) c.first_free-t.ensures
+    c.loop-i.invariant.3 (omega arith) c.first_free-t.ensures
 
 -- there is room for its mark
 room : (c : After-first_free-t) → c.first_free-t.result < length c.loop-i.waits
 room c =
     let few = tiles_few c.args.f.now c.args.h c.requires.f_value.0 in
-    omega (arith, inside c, few, c.loop-i.invariant.1, c.requires.keys_len.2)
+    omega (arith, inside c, few, c.loop-i.invariant.0, c.requires.keys_len.2)
 
 pub loop-i-init : goal.loop-i-init
 unfolding tile_order
 loop-i-init c =
     let start = c.requires.standing in (
-      omega arith,
       refl,
       refl,
       refl,
@@ -54,24 +52,7 @@ loop-i-init c =
 pub first_free-t-requires : goal.first_free-t-requires
 first_free-t-requires c =
     let few = most (goal.at.first_free-t-requires c).Start in
-    (c.loop-i.invariant.4.at_few, omega (arith, few, c.loop-i.invariant.1, c.requires.keys_len.2))
-
-pub overflow_cast-order : goal.overflow_cast-order
-overflow_cast-order c =
-    let found = inside (goal.at.overflow_cast-order c).After-first_free-t in
-    omega (arith, found, most (goal.at.overflow_cast-order c).Start)
-
-pub offset_bounds-order-i : goal.offset_bounds-order-i
-offset_bounds-order-i c = omega (arith, most (goal.at.offset_bounds-order-i c).Start)
-
-pub bounds-order-i : goal.bounds-order-i
-bounds-order-i c =
-    omega (arith, c.loop-i.invariant.3, c.requires.keys_len.4)
-
-pub offset_bounds-waits-t : goal.offset_bounds-waits-t
-offset_bounds-waits-t c =
-    let found = inside (goal.at.offset_bounds-waits-t c).After-first_free-t in
-    omega (arith, found, most (goal.at.offset_bounds-waits-t c).Start)
+    (c.loop-i.invariant.3.at_few, omega (arith, few, c.loop-i.invariant.0, c.requires.keys_len.2))
 
 pub bounds-waits-t : goal.bounds-waits-t
 bounds-waits-t c = room (goal.at.bounds-waits-t c).After-first_free-t
@@ -80,32 +61,20 @@ pub first_left-low-requires : goal.first_left-low-requires
 first_left-low-requires c =
     let long = length-set c.loop-i.waits c.first_free-t.result taken_mark in
     let table = c.requires.keys_len in (
-      c.loop-i.invariant.4.low_few,
+      c.loop-i.invariant.3.low_few,
       omega (arith, most (goal.at.first_left-low-requires c).Start, table.0),
       table.1,
-      omega (arith, most (goal.at.first_left-low-requires c).Start, long, c.loop-i.invariant.1, table.2),
+      omega (arith, most (goal.at.first_left-low-requires c).Start, long, c.loop-i.invariant.0, table.2),
     )
 
-pub release_all-at-requires : goal.release_all-at-requires
-release_all-at-requires c =
-    let t = c.first_free-t.result in
-    let long = length-set c.loop-i.waits t taken_mark in
-    let table = c.requires.keys_len in
-    let closer = closer_from c.args.f.now c.args.h (region_of c.args.h c.args.o) in
-    let keys = c.args.keys.now in
-    let n = c.args.h.tiles in
-    let start = (goal.at.release_all-at-requires c).Start in
-    let found = (goal.at.release_all-at-requires c).After-first_free-t in
-    record {
-      f_value = c.requires.f_value;
-      far_table = c.requires.far_table;
-      keys_len = (table.0, table.1, omega (arith, long, c.loop-i.invariant.1, table.2), c.loop-i.invariant.2 ∙ table.3);
-      taken_below =
-          gone_next closer n keys (strict start) (most start) c.loop-i.invariant.4 (search rules) c.first_free-t.ensures
-          (omega (arith, most start, c.loop-i.invariant.1, table.2)) c.first_left-low.ensures;
-      t_lt_tiles =
-          (inside found, taken_standing closer n keys t (most start) (room found) c.loop-i.invariant.4.standing);
-    }
+pub release_all-at-requires-clause-t_lt_tiles : goal.release_all-at-requires-clause-t_lt_tiles
+release_all-at-requires-clause-t_lt_tiles c =
+    let at = goal.at.release_all-at-requires-clause-t_lt_tiles c in
+    let closer = closer_from c.args.f.now c.args.h (region_of c.args.h c.args.o) in (
+      inside at.After-first_free-t,
+      taken_standing closer c.args.h.tiles c.args.keys.now c.first_free-t.result (most at.Start)
+          (room at.After-first_free-t) c.loop-i.invariant.3.standing,
+    )
 
 pub loop-i-preserved : goal.loop-i-preserved
 loop-i-preserved c =
@@ -114,25 +83,15 @@ loop-i-preserved c =
     let freed = c.release_all-at.ensures in
     let table = c.requires.keys_len in
     let closer = closer_from c.args.f.now c.args.h (region_of c.args.h c.args.o) in (
-      omega arith,
-      freed.1.long_waits ∙ length-set c.loop-i.waits t taken_mark ∙ c.loop-i.invariant.1,
-      freed.1.long_from ∙ c.loop-i.invariant.2,
-      length-set c.loop-i.order c.loop-i.i t ∙ c.loop-i.invariant.3,
-      running_next closer c.args.h.tiles c.args.keys.now (strict start) (most start) c.loop-i.invariant.4 (search rules)
-          c.first_free-t.ensures (omega (arith, most start, c.loop-i.invariant.1, table.2)) c.first_left-low.ensures
+      freed.1.long_waits ∙ length-set c.loop-i.waits t taken_mark ∙ c.loop-i.invariant.0,
+      freed.1.long_from ∙ c.loop-i.invariant.1,
+      length-set c.loop-i.order c.loop-i.i t ∙ c.loop-i.invariant.2,
+      running_next closer c.args.h.tiles c.args.keys.now (strict start) (most start) c.loop-i.invariant.3 (omega arith)
+          c.first_free-t.ensures (omega (arith, most start, c.loop-i.invariant.0, table.2)) c.first_left-low.ensures
           freed.0 freed.1,
     )
-
-pub shape_of-waits : goal.shape_of-waits
-shape_of-waits c = c.loop-i.invariant.1
-
-pub shape_of-from : goal.shape_of-from
-shape_of-from c = c.loop-i.invariant.2
-
-pub shape_of-order : goal.shape_of-order
-shape_of-order c = c.loop-i.invariant.3
 
 pub returns : goal.returns
 returns c =
     running_end (closer_from c.args.f.now c.args.h (region_of c.args.h c.args.o)) c.args.h.tiles
-    c.args.keys.now (search rules) c.loop-i.invariant.4
+    c.args.keys.now (omega arith) c.loop-i.invariant.3

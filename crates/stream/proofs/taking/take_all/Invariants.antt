@@ -1,4 +1,3 @@
-use Prim.Native.Nat.{◌-◌, ◌≤◌}
 use mathlib.Core.Path.{◌≡◌}
 use lib.ListN.{length}
 use Rattle.base.specs.Over.{over}
@@ -9,10 +8,7 @@ use Rattle.stream.proofs.taking.take_all.Given as goal
 
 abbrev pub invariant-loop-i : goal.invariant-loop-i
 invariant-loop-i l =
-    (l.i ≤ l.h.tiles) × (length l.waits ≡ length l.initial.waits) × (length l.from ≡ length l.initial.from)
+    (length l.waits ≡ length l.initial.waits) × (length l.from ≡ length l.initial.from)
     × (length l.order ≡ length l.initial.order)
     × Running (closer_from l.f l.h (region_of l.h l.o)) l.h.tiles l.keys l.waits l.from l.order l.at l.low l.i
     (over l.initial.order 0 (tile_order l.f l.h (region_of l.h l.o)))
-
-abbrev pub decreases-loop-i : goal.decreases-loop-i
-decreases-loop-i l = l.h.tiles - l.i

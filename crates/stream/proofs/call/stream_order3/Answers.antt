@@ -1,7 +1,0 @@
-use lib.Seq.{take_all}
-use borrow.Author.Rules.{rules}
-use Rattle.stream.proofs.call.stream_order3.Goals as goal
-
-pub returns : goal.returns
-returns c =
-    rw (take_all 3 c.args.o (search rules)) at c.stream_over.ensures
