@@ -2,7 +2,7 @@
 use Prim.Native.Nat.{ℕ, zero, suc, ◌+◌, ◌-◌, ◌<◌, ◌≤◌}
 use mathlib.Core.Bool.{Bool, true}
 use mathlib.Core.List.{List, [], ◌∷◌, ◌++◌, append_assoc}
-use mathlib.Core.Path.{◌≡◌, refl, sym, ◌∙◌}
+use mathlib.Core.Path.{◌≡◌, sym, ◌∙◌}
 use native.Mathlib.Nat.{add-zero}
 use native.Mathlib.Numerals.{add-one}
 use native.Mathlib.Omega.{arith}
@@ -59,12 +59,6 @@ pub record Gathering (w : ℕ → Bool) (n : ℕ) (order₀ order : List ℕ) (m
   pub same : length order ≡ length order₀
   pub number : m + length (filter w (range t (n - t))) ≡ length (filter w (range 0 n))
   pub rest : over order m (written w (range t (n - t))) ≡ over order₀ 0 (written w (range 0 n))
-
-module _ (w : ℕ → Bool) (n : ℕ) where
-  pub gathering_starts : (order : List ℕ) → Gathering w n order order 0 0
-  gathering_starts order =
-      let e : n - 0 ≡ n = omega arith in
-      record { within = omega arith; behind = omega arith; same = refl; number = rw e (omega arith); rest = rw e }
 
 module _ {w : ℕ → Bool} {n : ℕ} {order₀ order : List ℕ} {m t : ℕ} (g : Gathering w n order₀ order m t) where
   pub gathering_turn : {v : ℕ} → t < n → v ≡ bit (w t) → Gathering w n order₀ (set order m t) (m + v) (t + 1)

@@ -8,10 +8,11 @@ use native.Mathlib.Omega.{arith}
 use lib.Dec.{eqb, leb, ltb}
 use lib.ListN.{length, get_or, set}
 use lib.Seq.{get_or-set_same, get_or-set_other}
-use borrow.Author.Tests.{eqb-true, eqb-false, leb-true, leb-false, le-leb, lt-leb, ltb-true, ltb-false}
+use borrow.Author.Tests.{eqb-true, eqb-false, leb-true, leb-false, le-leb, lt-leb, le-ltb, lt-ltb, ltb-true, ltb-false}
+use Rattle.std.proofs.Common.{Some, None}
 use Rattle.base.proofs.Tests.{by_test}
 use Rattle.search.proofs.Lists.{up_to_next}
-use Rattle.queue.specs.Inner.Keys.{none, lower, least_key, Passed}
+use Rattle.queue.specs.Inner.Keys.{none, lower, least_key, some_key, Passed}
 use Rattle.queue.specs.declared.keys.Least.{Least}
 
 -- ---- of two
@@ -114,6 +115,27 @@ module _ (keys : List ℕ) where
       let e : none ≡ get_or keys a 0 = omega (arith, rw t at h) in
       rw (t, ← e))
       (λ t. let k = c a in absurd (omega (arith, rw t at h, leb-false (get_or keys a 0) rest t)))
+
+-- ---- an answer: nothing where no key is left
+
+pub key_is_some : (r : Least) → r.key < none → Some r ≡ some_key r
+unfolding some_key
+key_is_some r h = rw (lt-ltb r.key none h)
+
+pub key_is_none : (r : Least) → none ≤ r.key → None ≡ some_key r
+unfolding some_key
+key_is_none r h = rw (le-ltb r.key none h)
+
+-- and back
+pub some_key-some : (r x : Least) → Some x ≡ some_key r → (x ≡ r) × (x.key < none)
+unfolding some_key
+some_key-some r x e = by_test (ltb r.key none)
+    (λ t. let q : x ≡ r = cc (rw t at e) in (q, rw q (ltb-true r.key none t)))
+    (λ t. cc (rw t at e))
+
+pub some_key-none : (r : Least) → None ≡ some_key r → none ≤ r.key
+unfolding some_key
+some_key-none r e = by_test (ltb r.key none) (λ t. cc (rw t at e)) (λ t. ltb-false r.key none t)
 
 -- ---- the scan up: r is the least of the keys from `from` to before j, none of which is like the bound
 

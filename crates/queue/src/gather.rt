@@ -26,13 +26,10 @@ pub fn gather(f: &[u8], h: Header, marks: &[u8], order: &mut [usize]) -> usize
     ensures { Gathers (waits (entries f.now h) marks.now) h.tiles
         order.old result order.new }
 {
-    let tiles = h.tiles;
     let mut m: usize = 0;
-    let mut t: usize = 0;
-    while t < tiles {
+    for t in 0..h.tiles {
         order[m] = t;
         m += waits(f, h, marks, t) as usize;
-        t += 1;
     }
     m
 }

@@ -1,4 +1,5 @@
-// The keys of the waiting tiles for a stop, and the next of them. A taken tile has the key NONE, above every distance.
+// The keys of the waiting tiles for a stop, and the next of them. A taken tile has the key NONE, above every distance,
+// and no Option in its place: so one comparison of numbers passes over it, and the slice stays as small.
 ghost use Rattle.std.specs.Prelude.{◌≡◌, map, ◌-◌, ◌<◌, ◌≤◌, length};
 ghost use Rattle.base.specs.Over.{over};
 ghost use Rattle.base.specs.Refusal.{accepted};
@@ -7,7 +8,7 @@ ghost use Rattle.plan.specs.FilePlan.{entries};
 ghost use Rattle.plan.specs.Inner.Seam.{stop_of, ValidStop};
 ghost use Rattle.search.specs.Lists.{All};
 ghost use Rattle.search.specs.Plan.{near};
-ghost use Rattle.queue.specs.Inner.Keys.{least_key, Passed};
+ghost use Rattle.queue.specs.Inner.Keys.{least_key, some_key, Passed};
 
 use blocks::header::Header;
 use plan::measure;
@@ -21,14 +22,12 @@ pub fn fill_keys(f: &[u8], h: Header, order: &[usize], p: Stop, keys: &mut [u64]
     ensures { keys.new
         ≡ over keys.old 0 (map (near (entries f.now h) (stop_of h p)) order.now) }
 {
-    let mut j: usize = 0;
-    while j < order.len() {
-        keys[j] = measure::near(f, h, order[j], p);
-        j += 1;
+    for (j, t) in order.iter().enumerate() {
+        keys[j] = measure::near(f, h, *t, p);
     }
 }
 
-#[derive(Clone, Copy)]
+#[derive(Clone, Copy, Debug, PartialEq, Eq)]
 pub struct Least {
     pub at: usize,
     pub key: u64,
@@ -41,9 +40,7 @@ fn earlier_key(keys: &[u64], m: usize, from: usize, found: Least) -> Least
 {
     let mut at = found.at;
     let mut key = found.key;
-    let mut j = from;
-    while j > 0 {
-        j -= 1;
+    for j in (0..from).rev() {
         if keys[j] <= key {
             at = j;
             key = keys[j];
@@ -52,24 +49,23 @@ fn earlier_key(keys: &[u64], m: usize, from: usize, found: Least) -> Least
     Least { at, key }
 }
 
-// The least of the first m keys, and the first place where it stands; NONE if all are. The key taken last was `bound`,
-// just before index `from`: another one like it comes next, and then the other keys need not be looked at.
-pub fn next_key(keys: &[u64], m: usize, from: usize, bound: u64) -> Least
+// The least of the first m keys, and the first place where it stands; none if all are NONE. The key taken last was
+// `bound`, just before index `from`: another one like it comes next, and then the other keys need not be looked at.
+pub fn next_key(keys: &[u64], m: usize, from: usize, bound: u64) -> Option<Least>
     requires { (m ≤ length keys.now) × Passed keys.now m from bound }
-    ensures { result ≡ least_key keys.now 0 m }
+    ensures { result ≡ some_key (least_key keys.now 0 m) }
 {
     let mut at: usize = from;
     let mut key: u64 = NONE;
-    let mut j: usize = from;
-    while j < m {
+    for j in from..m {
         if keys[j] == bound {
-            return Least { at: j, key: bound };
+            return Some(Least { at: j, key: bound });
         }
         if keys[j] < key {
             at = j;
             key = keys[j];
         }
-        j += 1;
     }
-    earlier_key(keys, m, from, Least { at, key })
+    let least = earlier_key(keys, m, from, Least { at, key });
+    if least.key < NONE { Some(least) } else { None }
 }

@@ -4,8 +4,9 @@
 --   spare, Gathers     what gathering leaves in a slice
 --   none               the key of a taken tile
 --   lower, least_key   the least of some keys
+--   some_key           that, unless no key is left
 --   Passed             what is known once a key was taken
-use Rattle.std.specs.Prelude.{ℕ, zero, suc, ◌<◌, ◌≤◌, Bool, cond, not, ◌&&◌, List, [], ◌∷◌, ◌++◌, ◌≡◌, eqb, leb, ltb, length, get_or}
+use Rattle.std.specs.Prelude.{ℕ, zero, suc, ◌<◌, ◌≤◌, Bool, cond, not, ◌&&◌, List, [], ◌∷◌, ◌++◌, ◌≡◌, Option, Some, None, eqb, leb, ltb, length, get_or}
 use Rattle.base.specs.Over.{over}
 use Rattle.search.specs.Lists.{range, filter}
 use Rattle.search.specs.Plan.{Geometry, Directory, ranked}
@@ -39,6 +40,10 @@ lower x y = cond (leb x.key y.key) x y
 unfoldable pub least_key : List ℕ → ℕ → ℕ → Least
 least_key keys a zero = record { at = a; key = none }
 least_key keys a (suc n) = lower (record { at = a; key = get_or keys a 0 }) (least_key keys (suc a) n)
+
+-- as an answer: nothing where no key is left
+unfoldable pub some_key : Least → Option Least
+some_key r = cond (ltb r.key none) (Some r) None
 
 -- once a tile with the key `bound` was taken just before index `from`: no key is below it, and those before are above
 pub record Passed (keys : List ℕ) (m from bound : ℕ) : Type 0 where

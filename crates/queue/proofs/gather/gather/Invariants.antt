@@ -1,4 +1,3 @@
-use Prim.Native.Nat.{◌-◌}
 use Rattle.plan.specs.FilePlan.{entries}
 use Rattle.queue.specs.Inner.Keys.{waits}
 use Rattle.queue.proofs.Gathering.{Gathering}
@@ -6,6 +5,3 @@ use Rattle.queue.proofs.gather.gather.Given as goal
 
 abbrev pub invariant-loop-t : goal.invariant-loop-t
 invariant-loop-t l = Gathering (waits (entries l.f l.h) l.marks) l.h.tiles l.initial.order l.order l.m l.t
-
-abbrev pub decreases-loop-t : goal.decreases-loop-t
-decreases-loop-t l = l.tiles - l.t

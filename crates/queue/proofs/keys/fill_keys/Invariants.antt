@@ -1,4 +1,3 @@
-use Prim.Native.Nat.{◌-◌, ◌≤◌}
 use mathlib.Core.List.{map}
 use mathlib.Core.Path.{◌≡◌}
 use lib.ListN.{length, drop}
@@ -10,9 +9,6 @@ use Rattle.queue.proofs.keys.fill_keys.Given as goal
 
 abbrev pub invariant-loop-j : goal.invariant-loop-j
 invariant-loop-j l =
-    (l.j ≤ length l.order) × (length l.keys ≡ length l.initial.keys)
+    (length l.keys ≡ length l.initial.keys)
     × (over l.keys l.j (map (near (entries l.f l.h) (stop_of l.h l.p)) (drop l.j l.order))
     ≡ over l.initial.keys 0 (map (near (entries l.f l.h) (stop_of l.h l.p)) l.order))
-
-abbrev pub decreases-loop-j : goal.decreases-loop-j
-decreases-loop-j l = length l.order - l.j

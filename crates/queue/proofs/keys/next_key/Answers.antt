@@ -3,7 +3,7 @@ use native.Mathlib.Omega.{arith}
 use lib.ListN.{get_or}
 use Rattle.queue.specs.Inner.Keys.{none}
 use Rattle.queue.proofs.Scanning.{scanning_starts, scanning_new, scanning_same, scanning_done}
-use Rattle.queue.proofs.Scanning.{like_last}
+use Rattle.queue.proofs.Scanning.{like_last, key_is_some, key_is_none}
 use Rattle.queue.proofs.keys.next_key.Goals as goal
 use Rattle.queue.proofs.keys.next_key.Goals.{then-keys-j-2, else-keys-j-2}
 
@@ -15,7 +15,7 @@ loop-j-init c =
 
 pub returns-then-keys-j : goal.returns-then-keys-j
 returns-then-keys-j c =
-    like_last c.loop-j.invariant c.requires.1 c.loop-j-test.true c.if-keys-j.true
+    rw (← (like_last c.loop-j.invariant c.requires.1 c.loop-j-test.true c.if-keys-j.true)) (key_is_some _ c.requires.1.real)
 
 pub loop-j-preserved : goal.loop-j-preserved
 loop-j-preserved c =
@@ -28,9 +28,14 @@ loop-j-preserved c =
       | else-keys-j-2 w ↦ rw (w.at-is, w.key-is) (scanning_same c.loop-j.invariant inside above w.if-keys-j-2.false)
     ]
 
-pub earlier_key-requires : goal.earlier_key-requires
-earlier_key-requires c =
+pub earlier_key-least-requires : goal.earlier_key-least-requires
+earlier_key-least-requires c =
     (c.requires.0, c.requires.1.inside, scanning_done c.loop-j.invariant c.loop-j-test.false)
 
-pub returns : goal.returns
-returns c = c.earlier_key.ensures
+pub returns-then-least-lt-NONE : goal.returns-then-least-lt-NONE
+returns-then-least-lt-NONE c =
+    rw (← c.earlier_key-least.ensures) (key_is_some _ c.if-least-lt-NONE.true)
+
+pub returns-else-least-lt-NONE : goal.returns-else-least-lt-NONE
+returns-else-least-lt-NONE c =
+    rw (← c.earlier_key-least.ensures) (key_is_none _ c.if-least-lt-NONE.false)
