@@ -20,6 +20,7 @@ use Rattle.base.proofs.Every.{every_at}
 use Rattle.base.proofs.Outcomes.{require_accepted}
 use Rattle.base.proofs.Tests.{and_both, by_test}
 use Rattle.geometry.proofs.Theorems.{columns_equal, by_axes}
+use Rattle.stops.proofs.TakeLaws.{take_count}
 use Rattle.stops.specs.Arguments.{stops_due, axes_due, stops_valid, room, arguments}
 use Rattle.stops.specs.Inner.Good.{GoodArguments}
 use Rattle.stops.specs.Stops.{stop_count, valid_stop}
@@ -50,6 +51,9 @@ pub axes_told : (h : Header) (n : ℕ) (cols : List (List ℤ)) → n ≤ length
     → axes_due h (take n cols) ≡ eqb h.axes n
 unfolding axes_due
 axes_told h n cols l = rw (length-take-le n cols l)
+
+-- the tests look at the columns of a call's axes
+pub ruleset told = (axes_told, take_count)
 
 pub good_stops : (cols : List (List ℤ)) → stops_due cols ≡ true
     → (1 ≤ stop_count cols) × ((stop_count cols ≤ max_stops) × All (λ c. length c ≡ stop_count cols) cols)

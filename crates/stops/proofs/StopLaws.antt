@@ -1,48 +1,52 @@
--- Loops over the stops: the least and the greatest coordinate, and the stops gathered as points.
-use Prim.Native.Nat.{ℕ, zero, suc, ◌+◌, ◌-◌, ◌<◌, ◌≤◌}
-use mathlib.Core.Bool.{Bool, cond}
+-- The least and the greatest coordinate as folds, and a loop over the stops: they are gathered as points.
+use Prim.Native.Nat.{ℕ, suc, ◌+◌, ◌-◌, ◌<◌, ◌≤◌}
+use mathlib.Core.Bool.{cond}
 use mathlib.Core.List.{List, [], ◌∷◌}
 use mathlib.Core.Path.{◌≡◌, refl}
 use native.Mathlib.Numerals.{add-one}
 use native.Mathlib.Omega.{arith}
 use lib.IntN.{ℤ, pos}
-use lib.ListN.{length, get_or, set, take, drop}
-use lib.Seq.{drop-cons, take_at}
+use lib.ListN.{length, get_or, set, take}
+use lib.Seq.{take_at}
 use lib.Signed.{lt_z}
+use Rattle.std.specs.Int.{int_min, int_max}
+use Rattle.std.specs.List.{fold}
+use Rattle.std.proofs.lemmas.Int.{ints, clamps}
 use Rattle.base.specs.Over.{over}
 use Rattle.geometry.specs.Around.{rows, foremost, least, greatest}
 use Rattle.base.proofs.Over.{over_eq, over_nil, over-cons}
 use Rattle.geometry.proofs.Theorems.{points-length, points-rows, rows_none, rows_next}
 use Rattle.stops.specs.Stops.{stop_count, stop_at, stops_of}
 
--- the rest of the list is looked at from the best so far
-module _ (lt : ℤ → ℤ → Bool) (xs : List ℤ) where
-  pub foremost_turn : (a : ℤ) (i : ℕ) → i < length xs →
-      foremost lt (cond (lt (get_or xs i (pos 0)) a) (get_or xs i (pos 0)) a) (drop (i + 1) xs)
-      ≡ foremost lt a (drop i xs)
-  unfolding foremost
-  foremost_turn a i h = rw (drop-cons xs i (pos 0) h, add-one i)
+-- the least and the greatest, by the library's words
+fold_min : (a : ℤ) (xs : List ℤ) → fold int_min a xs ≡ foremost lt_z a xs
+unfolding foremost
+fold_min a [] = refl
+fold_min a (x ∷ xs) = fold_min (int_min a x) xs
 
-  pub foremost_done : (a : ℤ) (i : ℕ) → length xs ≤ i → a ≡ foremost lt a (drop i xs)
-  unfolding foremost
-  foremost_done a i h = rw (drop_all xs i h)
-    where
-      drop_all : (l : List ℤ) (n : ℕ) → length l ≤ n → drop n l ≡ []
-      drop_all [] zero k = refl
-      drop_all [] (suc n) k = refl
-      drop_all (x ∷ l) zero k = absurd (omega arith)
-      drop_all (x ∷ l) (suc n) k = drop_all l n (omega arith)
+greater : (a x : ℤ) → int_max a x ≡ cond (lt_z a x) x a
+greater a x = grind (arith, ints)
 
-pub least_start : (xs : List ℤ) → 0 < length xs → foremost lt_z (get_or xs 0 (pos 0)) (drop 1 xs) ≡ least xs
+fold_max : (a : ℤ) (xs : List ℤ) → fold int_max a xs ≡ foremost (λ a b. lt_z b a) a xs
+unfolding foremost
+fold_max a [] = refl
+fold_max a (x ∷ xs) = rw (greater a x) (fold_max (cond (lt_z a x) x a) xs)
+
+pub least_fold : (xs : List ℤ) → 0 < length xs → fold int_min (get_or xs 0 (pos 0)) xs ≡ least xs
 unfolding least
-least_start [] h = absurd (omega arith)
-least_start (x ∷ xs) h = refl
+least_fold [] h = absurd (omega arith)
+least_fold (x ∷ xs) h = rw (same-min x) (fold_min x xs)
+  where
+    same-min : (x : ℤ) → int_min x x ≡ x
+    same-min x = omega (arith, ints, clamps)
 
-pub greatest_start : (xs : List ℤ) → 0 < length xs
-    → foremost (λ a b. lt_z b a) (get_or xs 0 (pos 0)) (drop 1 xs) ≡ greatest xs
+pub greatest_fold : (xs : List ℤ) → 0 < length xs → fold int_max (get_or xs 0 (pos 0)) xs ≡ greatest xs
 unfolding greatest
-greatest_start [] h = absurd (omega arith)
-greatest_start (x ∷ xs) h = refl
+greatest_fold [] h = absurd (omega arith)
+greatest_fold (x ∷ xs) h = rw (same-max x) (fold_max x xs)
+  where
+    same-max : (x : ℤ) → int_max x x ≡ x
+    same-max x = omega (arith, ints, clamps)
 
 -- ---- the stops by columns
 

@@ -1,16 +1,16 @@
 // Tests 11 to 14 and 17 of the join. Stops come by columns, x, y and z: of a plan call y stands for z.
 ghost use Rattle.std.specs.Prelude.{[], ◌∷◌, ◌≡◌, take};
-ghost use Rattle.base.specs.Inner.AnswerNumber.{number_outcome};
+ghost use Rattle.base.specs.Answer.{tested_at};
 ghost use Rattle.geometry.specs.Axes.{Columns};
 ghost use Rattle.stops.specs.Arguments.{stops_due, room, arguments};
 
 use crate::around::valid_stops;
-use base::both;
+use base::{Reason, both};
 use blocks::header::Header;
 use search::{MAX_STOPS, valid_k};
 
 // The lengths of the output slices.
-#[derive(Clone, Copy)]
+#[derive(Clone, Copy, Debug, PartialEq, Eq)]
 pub struct Lengths {
     pub dist: usize,
     pub site: usize,
@@ -25,12 +25,13 @@ fn stops_due(axes: usize, xs: &[i32], ys: &[i32], zs: &[i32]) -> bool
 {
     let n = xs.len();
     both(
-        both(1 <= n, n <= MAX_STOPS),
+        (1..=MAX_STOPS).contains(&n),
         both(ys.len() == n, zs.len() == n),
     )
 }
 
 // Test 14: n places in each of three slices, and T marks.
+#[tactic(auto, unfolding(crate::specs::Arguments::room))]
 fn room(n: usize, h: Header, l: Lengths) -> bool
     ensures { result ≡ room n h.tiles l }
 {
@@ -40,8 +41,9 @@ fn room(n: usize, h: Header, l: Lengths) -> bool
     )
 }
 
-// The number of the first test that the arguments of a call for this number of axes fail, or 0.
-pub fn failed_argument(
+// The arguments of a call for this number of axes: the reason of the first test that they fail.
+#[tactic(auto, using(crate::proofs::ArgumentLaws::told), unfolding(crate::specs::Arguments::arguments))]
+pub fn check_arguments(
     h: Header,
     axes: usize,
     xs: &[i32],
@@ -49,26 +51,25 @@ pub fn failed_argument(
     zs: &[i32],
     k: u32,
     l: Lengths,
-) -> u32
+) -> Result<(), Reason>
     requires { Columns axes ys.now zs.now }
-    ensures { number_outcome result 0
-        ≡ arguments h (take axes (xs.now ∷ ys.now ∷ zs.now ∷ [])) k l }
+    ensures { tested_at 0 result ≡ arguments h (take axes (xs.now ∷ ys.now ∷ zs.now ∷ [])) k l }
 {
     if !valid_k(k) {
-        return base::K;
+        return Err(Reason::K);
     }
     if !stops_due(axes, xs, ys, zs) {
-        return base::STOPS;
+        return Err(Reason::Stops);
     }
     if h.axes != axes {
-        return base::AXES;
+        return Err(Reason::Axes);
     }
     if !valid_stops(axes, xs, ys, zs) {
-        return base::SPOT;
+        return Err(Reason::Spot);
     }
     let n = xs.len() * (k as usize);
     if !room(n, h, l) {
-        return base::SHORT;
+        return Err(Reason::Short);
     }
-    0
+    Ok(())
 }

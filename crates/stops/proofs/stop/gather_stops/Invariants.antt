@@ -1,4 +1,4 @@
-use Prim.Native.Nat.{◌-◌, ◌≤◌}
+use Prim.Native.Nat.{◌-◌}
 use mathlib.Core.List.{List, [], ◌∷◌}
 use mathlib.Core.Path.{◌≡◌}
 use lib.IntN.{ℤ}
@@ -13,9 +13,5 @@ cols xs ys zs = xs ∷ ys ∷ zs ∷ []
 
 abbrev pub invariant-loop-i : goal.invariant-loop-i
 invariant-loop-i l =
-    (l.i ≤ length l.xs) × (length l.stops ≡ length l.initial.stops)
-    × (over l.stops l.i (rows (cols l.xs l.ys l.zs) l.i (length l.xs - l.i))
-    ≡ over l.initial.stops 0 (stops_of (cols l.xs l.ys l.zs)))
-
-abbrev pub decreases-loop-i : goal.decreases-loop-i
-decreases-loop-i l = length l.xs - l.i
+    over l.stops l.i (rows (cols l.xs l.ys l.zs) l.i (length l.xs - l.i))
+    ≡ over l.initial.stops 0 (stops_of (cols l.xs l.ys l.zs))
