@@ -1,6 +1,5 @@
 -- What the calls that serve stops ask and leave.
 --
---   serving_outcome          of a call that answers the number of places used
 --   TileReady, after_tile    before and after a tile is taken for a stop
 --   StopReady, StopServed    before and after a stop is served
 --   StopsReady, Serves       before and after all stops are served
@@ -24,12 +23,6 @@ use Rattle.search.specs.Order.{Strict}
 use Rattle.search.specs.Run.{no_place, rank, tile_places, in_order, in_rows, opened_mark}
 use Rattle.search.specs.declared.Place.{Place}
 use Rattle.serve.specs.Inner.Marks.{mark_all, OpenedOpen}
-use Rattle.serve.specs.declared.serving.Serving.{Serving}
-use Rattle.serve.specs.declared.serving.Serving.TheVariants.{Served, Refused}
-
-abbrev pub serving_outcome : Serving → Outcome ℕ
-serving_outcome (Served n) = accepted n
-serving_outcome (Refused r) = refused r.number r.block
 
 -- ---- a tile
 

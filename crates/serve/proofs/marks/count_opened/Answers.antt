@@ -14,7 +14,7 @@ use Rattle.serve.proofs.marks.count_opened.Goals as goal
 
 pub loop-t-init : goal.loop-t-init
 unfolding count
-loop-t-init c = (omega arith, (omega arith, refl))
+loop-t-init c = (omega arith, refl)
 
 pub bounds-marks-t : goal.bounds-marks-t
 bounds-marks-t c = omega (arith, c.requires)
@@ -37,10 +37,10 @@ loop-t-preserved c =
     let q : take (at + 1) marks ≡ take at marks ++ here ∷ [] = rw (add-one at)
     (take-suc marks at 0 (omega (arith, c.requires))) in
     let more = count-append (λ m. eqb m opened_mark) (take at marks) (here ∷ []) in
-    (omega arith, (omega arith, rw (b, q, more) (omega (arith, c.loop-t.invariant.1.1))))
+    (omega arith, rw (b, q, more) (omega (arith, c.loop-t.invariant.1)))
 
 pub returns : goal.returns
 returns c =
     let l = c.loop-t in
     let e : l.t ≡ c.args.h.tiles = omega arith in
-    (rw e at l.invariant.1.1, omega arith)
+    (rw e at l.invariant.1, omega arith)

@@ -1,4 +1,4 @@
-use Prim.Native.Nat.{◌≤◌, ◌-◌}
+use Prim.Native.Nat.{◌≤◌}
 use mathlib.Core.Path.{◌≡◌}
 use lib.Dec.{eqb}
 use lib.ListN.{take}
@@ -8,7 +8,4 @@ use Rattle.serve.proofs.marks.count_opened.Given as goal
 
 abbrev pub invariant-loop-t : goal.invariant-loop-t
 invariant-loop-t l =
-    (l.t ≤ l.tiles) × ((l.opened ≤ l.t) × (l.opened ≡ count (λ m. eqb m opened_mark) (take l.t l.marks)))
-
-abbrev pub decreases-loop-t : goal.decreases-loop-t
-decreases-loop-t l = l.tiles - l.t
+    (l.opened ≤ l.t) × (l.opened ≡ count (λ m. eqb m opened_mark) (take l.t l.marks))

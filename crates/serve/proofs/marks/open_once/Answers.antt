@@ -2,9 +2,9 @@ use mathlib.Core.Path.{refl, ap, sym, ◌∙◌}
 use lib.ListN.{length, set}
 use lib.Seq.{set-get_or}
 use native.Mathlib.Omega.{arith}
+use Rattle.base.specs.Answer.{outcome_of}
 use Rattle.base.specs.Refusal.{accepted}
 use Rattle.plan.specs.FilePlan.{opening_of}
-use Rattle.tiles.specs.Inner.Opening.{opening_outcome}
 use Rattle.base.proofs.Outcomes.{and_then_accepted, and_then_refused, told}
 use Rattle.serve.proofs.marks.open_once.Goals as goal
 
@@ -24,9 +24,9 @@ returns-then-marks-t-eq-OPENED c =
 
 pub returns-in_default : goal.returns-in_default
 returns-in_default c =
-    let d = told opening_outcome c.open_tile-answer.ensures c.in_default.is in
+    let d = told outcome_of c.open_tile-answer.ensures c.in_default.is in
     let q = and_then_refused (opening_of c.args.f.now c.args.h c.args.t) (λ l. length l) d in
-    rw q (record { result_value = ap opening_outcome c.in_default.is; marks_after = refl })
+    rw q (record { result_value = ap outcome_of c.in_default.is; marks_after = refl })
 
 pub bounds-marks-t-2 : goal.bounds-marks-t-2
 bounds-marks-t-2 c = omega (arith, c.requires.0.below, c.requires.1)
@@ -34,5 +34,5 @@ bounds-marks-t-2 c = omega (arith, c.requires.0.below, c.requires.1)
 pub returns : goal.returns
 returns c =
     let a = and_then_accepted (opening_of c.args.f.now c.args.h c.args.t) (λ l. accepted (length l))
-    (told opening_outcome c.open_tile-answer.ensures c.in-Opened.is) in
-    rw a.1 (record { result_value = ap opening_outcome c.in-Opened.is ∙ sym a.2; marks_after = refl })
+    (told outcome_of c.open_tile-answer.ensures c.in-Ok.is) in
+    rw a.1 (record { result_value = sym a.2; marks_after = refl })

@@ -1,4 +1,3 @@
-use Prim.Native.Nat.{◌-◌}
 use mathlib.Core.List.{map}
 use mathlib.Core.Path.{◌≡◌}
 use lib.ListN.{length}
@@ -13,6 +12,3 @@ invariant-loop-i l =
     × StopTurn l.f l.h (map (stop_of l.h) l.stops) l.k
     (lent l.initial.dist l.initial.site l.initial.cue l.initial.marks) (lent l.dist l.site l.cue l.marks) l.i l.at
     l.used
-
-abbrev pub decreases-loop-i : goal.decreases-loop-i
-decreases-loop-i l = length l.stops - l.i
