@@ -28,7 +28,8 @@ use Rattle.list.specs.Slices.{Long, Slices, place_at}
 use Rattle.plan.specs.Document01.{opening_of01}
 use Rattle.plan.specs.FilePlan.{space, entries, opening_of, town_of}
 use Rattle.prune.specs.Claims.{PrunesExactly}
-use Rattle.prune.specs.Prune.{Counts, prune_call}
+use Rattle.prune.specs.declared.call.Pruned.{Pruned}
+use Rattle.prune.specs.Prune.{prune_call}
 use Rattle.search.specs.Claims.{FullSearch, RunAnswers}
 use Rattle.search.specs.FullSearch.{SiteOf, first_of, fullSearch}
 use Rattle.search.specs.Lists.{Distinct}
@@ -64,7 +65,8 @@ use Rattle.tiles.proofs.Theorems.{opening_refused, opening_like_01, validate_exa
 use Rattle.join.specs.Claims.{full_run_for, SameAnswer, RefusedRun, PrunesAlike, opened, slices_left, Agreeing}
 use Rattle.join.specs.Claims.{Demand2, Demand3, SameCandidates, PastStays}
 use Rattle.join.specs.Inner.Running.{RunReady}
-use Rattle.join.specs.Join.{Result, End, run_for, lengths_of, tests, filled, result_of, ended, run_end, join_from}
+use Rattle.join.specs.declared.call.Joined.{Joined}
+use Rattle.join.specs.Join.{End, run_for, lengths_of, tests, filled, result_of, ended, run_end, join_from}
 use Rattle.join.specs.Join.{join_end}
 use Rattle.join.specs.WithoutHeight.{tests_on_plan, join_end_on_plan}
 use Rattle.join.proofs.Calling.{tests_pass, run_ready}
@@ -208,7 +210,7 @@ module _ (f : List ℕ) (cols : List (List ℤ)) (k : ℕ) (out : Slices) where
         accepted_refused (ap (λ (z : End). z.outcome) w) e)
         (λ x y q.
         let w : join_end f cols k out ≡ ended f h cols k u out (refused x y) = rw q at (tests_pass f cols k out d a) in
-        let z : ◌≡◌ {A = Outcome Result} (refused x y) (refused n p) = sym (ap (λ (z : End). z.outcome) w) ∙ e in
+        let z : ◌≡◌ {A = Outcome Joined} (refused x y) (refused n p) = sym (ap (λ (z : End). z.outcome) w) ∙ e in
         let i : x ≡ n = cc in
         let j : y ≡ p = cc in
         q ∙ rw (i, j))
@@ -244,7 +246,7 @@ module _ (f : List ℕ) (cols : List (List ℤ)) (k : ℕ) (out : Slices) where
   -- ---- a call that answers
 
   -- "Suppose the join answers", with the result r: then all tests passed, and the run gave lists ls
-  record Answered (r : Result) : Type 0 where
+  record Answered (r : Joined) : Type 0 where
     h : Header
     passed : arguments h cols k (lengths_of out) ≡ accepted tt
     args : GoodArguments h cols k (lengths_of out)
@@ -257,7 +259,7 @@ module _ (f : List ℕ) (cols : List (List ℤ)) (k : ℕ) (out : Slices) where
         ≡ filled (in_rows k ls) (marks (entries f h) (around cols) k (run_for f h cols k).openings) out
 
   from_run : (h : Header) → directory f ≡ accepted h → arguments h cols k (lengths_of out) ≡ accepted tt
-      → (r : Result) → (join_end f cols k out).outcome ≡ accepted r
+      → (r : Joined) → (join_end f cols k out).outcome ≡ accepted r
       → (ls : List (List Place)) → (run_for f h cols k).outcome ≡ accepted ls → Answered r
   unfolding run_end ended
   from_run h d a r e ls q =
@@ -275,7 +277,7 @@ module _ (f : List ℕ) (cols : List (List ℤ)) (k : ℕ) (out : Slices) where
         slices-are = ap (λ (z : End). z.slices) p;
       }
 
-  answered : (r : Result) → (join_end f cols k out).outcome ≡ accepted r → Answered r
+  answered : (r : Joined) → (join_end f cols k out).outcome ≡ accepted r → Answered r
   unfolding join_end tests join_from run_end ended
   answered r e = by_outcome (directory f)
       (λ h d. by_outcome (arguments h cols k (lengths_of out))
@@ -286,7 +288,7 @@ module _ (f : List ℕ) (cols : List (List ℤ)) (k : ℕ) (out : Slices) where
       (λ n b d. accepted_refused {o = (join_end f cols k out).outcome} {n = n} {b = b} e (rw d))
 
   -- what an answer gives room for: at most k places a stop, and slices that hold them
-  pub answer_fits : (r : Result) → (join_end f cols k out).outcome ≡ accepted r
+  pub answer_fits : (r : Joined) → (join_end f cols k out).outcome ≡ accepted r
       → (r.used ≤ max_k) × ((r.used ≤ k) × Long (join_end f cols k out).slices.lists (stop_count cols * k))
   unfolding places_used filled
   answer_fits r e =
@@ -303,7 +305,7 @@ module _ (f : List ℕ) (cols : List (List ℤ)) (k : ℕ) (out : Slices) where
 
   -- ---- demand 3
 
-  module _ (r : Result) (a : Answered r) where
+  module _ (r : Joined) (a : Answered r) where
     abbrev H : Header
     H = a.h
 
@@ -348,7 +350,7 @@ module _ (f : List ℕ) (cols : List (List ℤ)) (k : ℕ) (out : Slices) where
         (omega (arith, w.dist), (omega (arith, w.site), omega (arith, w.cue))) (i * k + j) (omega arith)))
 
   -- "Suppose the join answers."
-  pub demand_3 : (r : Result) → (join_end f cols k out).outcome ≡ accepted r → (h : Header) × Demand3 f cols k out h r
+  pub demand_3 : (r : Joined) → (join_end f cols k out).outcome ≡ accepted r → (h : Header) × Demand3 f cols k out h r
   demand_3 r e =
       let a = answered r e in
       let d = demand r a in
@@ -356,7 +358,7 @@ module _ (f : List ℕ) (cols : List (List ℤ)) (k : ℕ) (out : Slices) where
         h,
         record {
           header = a.dir;
-          tiles = ap (λ (z : Result). z.tiles) a.result;
+          tiles = ap (λ (z : Joined). z.tiles) a.result;
           smallest = smallest a.ready;
           lists = λ town g i j p q.
               let n = stops_length cols in
@@ -372,16 +374,16 @@ module _ (f : List ℕ) (cols : List (List ℤ)) (k : ℕ) (out : Slices) where
           marked_neither = λ t l. rw (mark-left r a t l) (d.marked_neither t l);
           none_pruned = d.none_pruned;
           once = once-each r a;
-          count_opened = ap (λ (z : Result). z.opened) a.result ∙ sym (rw (marks-left r a) d.count_opened);
-          count_pruned = ap (λ (z : Result). z.pruned) a.result ∙ sym (rw (marks-left r a) d.count_pruned);
-          count_used = ap (λ (z : Result). z.used) a.result;
+          count_opened = ap (λ (z : Joined). z.opened) a.result ∙ sym (rw (marks-left r a) d.count_opened);
+          count_pruned = ap (λ (z : Joined). z.pruned) a.result ∙ sym (rw (marks-left r a) d.count_pruned);
+          count_used = ap (λ (z : Joined). z.used) a.result;
           other_files = λ g same l out' n. same_answer f cols k g h a.dir same l out out' n a.passed;
         },
       )
 
   -- ---- the call that strikes
 
-  module _ (r : Result) (e : (join_end f cols k out).outcome ≡ accepted r) (lent : List ℕ) where
+  module _ (r : Joined) (e : (join_end f cols k out).outcome ≡ accepted r) (lent : List ℕ) where
     prune-answers : r.tiles ≤ length lent
         → prune_call f (around cols) k lent ≡ accepted (record { tiles = r.tiles; pruned = r.pruned })
     unfolding prune_call valid_k
@@ -389,11 +391,11 @@ module _ (f : List ℕ) (cols : List (List ℤ)) (k : ℕ) (out : Slices) where
         let a = answered r e in
         let good_k : leb 1 k && leb k max_k ≡ true =
         both_and (le-leb 1 k a.args.some_k) (le-leb k max_k a.args.few_k) in
-        let tiles : a.h.tiles ≡ r.tiles = ap (λ (z : Result). z.tiles) (sym a.result) in
+        let tiles : a.h.tiles ≡ r.tiles = ap (λ (z : Joined). z.tiles) (sym a.result) in
         let long : leb a.h.tiles (length lent) ≡ true =
         le-leb a.h.tiles (length lent) (omega (arith, tiles)) in
         let struck : pruned_count (entries f a.h) (around cols) k ≡ r.pruned =
-        ap (λ (z : Result). z.pruned) (sym a.result) in
+        ap (λ (z : Joined). z.pruned) (sym a.result) in
         let axes : eqb a.h.axes (length (around cols)) ≡ true =
         eq-eqb a.h.axes (length (around cols)) (sym ((smallest a.ready).axes ∙ a.args.axes)) in
         rw (a.dir, good_k, axes, (smallest a.ready).valid, long, struck, tiles)
@@ -403,8 +405,8 @@ module _ (f : List ℕ) (cols : List (List ℤ)) (k : ℕ) (out : Slices) where
     pub prunes_alike : r.tiles ≤ length lent → PrunesAlike f cols k out r lent
     prunes_alike l =
         let a = answered r e in
-        let c : Counts = record { tiles = r.tiles; pruned = r.pruned } in
-        let tiles : r.tiles ≡ a.h.tiles = ap (λ (z : Result). z.tiles) a.result in
+        let c : Pruned = record { tiles = r.tiles; pruned = r.pruned } in
+        let tiles : r.tiles ≡ a.h.tiles = ap (λ (z : Joined). z.tiles) a.result in
         let struck = prunes_exactly f (around cols) k lent c (prune-answers l) in
         let same : struck.0 ≡ a.h = accepted_injective (sym struck.1.header ∙ a.dir) in
         record {
@@ -417,7 +419,7 @@ module _ (f : List ℕ) (cols : List (List ℤ)) (k : ℕ) (out : Slices) where
               rw (mark-left r a t j) (λ m. its.1 (mine.0 m), λ m. mine.1 (its.0 m));
         }
 
-  module _ (r : Result) (e : (join_end f cols k out).outcome ≡ accepted r) (h : Header)
+  module _ (r : Joined) (e : (join_end f cols k out).outcome ≡ accepted r) (h : Header)
       (d : directory f ≡ accepted h) where
     -- Demand 3 speaks of some town: there is one that agrees with the directory and the opened tiles.
     pub town_exists : Bytes f → (town : Town space) × Agreeing f cols k out h town
@@ -445,7 +447,7 @@ module _ (f : List ℕ) (cols : List (List ℤ)) (k : ℕ) (out : Slices) where
         g.directory) (smallest a.ready).holds
 
   -- 02.1: "only sites with another cue rank": no used place of a list has cue 0
-  pub never_muted : Bytes f → (r : Result) → (join_end f cols k out).outcome ≡ accepted r → (i j : ℕ)
+  pub never_muted : Bytes f → (r : Joined) → (join_end f cols k out).outcome ≡ accepted r → (i j : ℕ)
       → i < stop_count cols → j < r.used → (place_at (join_end f cols k out).slices.lists (i * k + j)).cue ≡ 0 → ⊥
   unfolding fullSearch
   never_muted b r e i j l u muted =
@@ -486,7 +488,7 @@ module _ (f : List ℕ) (cols : List (List ℤ)) (k : ℕ) (out : Slices) where
 
   -- the same, place by place and sentence by sentence
   pub demand_2_places : Bytes f → (h : Header) → validate f ≡ accepted h
-      → arguments h cols k (lengths_of out) ≡ accepted tt → (r : Result) × Demand2 f cols k out h r
+      → arguments h cols k (lengths_of out) ≡ accepted tt → (r : Joined) × Demand2 f cols k out h r
   unfolding ended run_for
   demand_2_places b h v a =
       let good = (validate_exactly f h).0 v in

@@ -28,13 +28,14 @@ use Rattle.search.proofs.Run.{join-length}
 use Rattle.stops.proofs.ArgumentLaws.{arguments_good}
 use Rattle.stops.proofs.StopLaws.{stops_length}
 use Rattle.join.specs.Claims.{SameAnswer}
-use Rattle.join.specs.Join.{Result, run_for, lengths_of, filled, result_of, ended, run_end, join_end}
+use Rattle.join.specs.declared.call.Joined.{Joined}
+use Rattle.join.specs.Join.{run_for, lengths_of, filled, result_of, ended, run_end, join_end}
 use Rattle.join.proofs.Calling.{tests_pass}
 
 module _ (f : List ℕ) (cols : List (List ℤ)) (k : ℕ) where
   -- what a run comes to and writes, whatever slices are lent
   pub record RunWrites (h : Header) : Type 0 where
-    pub outcome : Outcome Result
+    pub outcome : Outcome Joined
     pub places : List Place
     pub marks : List ℕ
     pub all-places : length places ≡ stop_count cols * k

@@ -28,7 +28,8 @@ use Rattle.search.specs.Run.{pruned_mark, no_mark}
 use Rattle.search.specs.declared.Place.{Place}
 use Rattle.stops.specs.Stops.{stop_count, stops_of}
 use Rattle.tiles.specs.Tile.{tile_position, open_tile}
-use Rattle.join.specs.Join.{Result, End, run_for, lengths_of, join_end}
+use Rattle.join.specs.declared.call.Joined.{Joined}
+use Rattle.join.specs.Join.{End, run_for, lengths_of, join_end}
 
 -- the run of `run_for` with the struck tiles in each stop's queue
 abbrev pub full_run_for : List ℕ → Header → List (List ℤ) → ℕ → Run (List (List Place))
@@ -64,7 +65,7 @@ pub record PastStays (cols : List (List ℤ)) (k : ℕ) (h : Header) (before aft
   pub marks : (t : ℕ) → h.tiles ≤ t → get_or after.marks t 0 ≡ get_or before.marks t 0
 
 -- strike, for "the smallest box around the stops", the same k and any marks that are long enough
-pub record PrunesAlike (f : List ℕ) (cols : List (List ℤ)) (k : ℕ) (out : Slices) (r : Result) (lent : List ℕ) : Type 0
+pub record PrunesAlike (f : List ℕ) (cols : List (List ℤ)) (k : ℕ) (out : Slices) (r : Joined) (lent : List ℕ) : Type 0
   where
     pub smallest : SmallestAround (length cols) (stops_of cols) (around cols)
     -- it answers, with the T and the number struck of the join
@@ -87,7 +88,7 @@ module _ (f : List ℕ) (cols : List (List ℤ)) (k : ℕ) (out : Slices) (h : H
   Agreeing town = Fits (entries f h) (opening_of f h) opened town
 
   -- "On a file that passes the full check", with the header h: the whole town is its own, `town_of`
-  pub record Demand2 (r : Result) : Type 0 where
+  pub record Demand2 (r : Joined) : Type 0 where
     -- the join answers, with T and the places used
     pub answers : (join_end f cols k out).outcome ≡ accepted r
     pub tiles : r.tiles ≡ h.tiles
@@ -107,7 +108,7 @@ module _ (f : List ℕ) (cols : List (List ℤ)) (k : ℕ) (out : Slices) (h : H
     pub agrees : Agrees (entries f h) (town_of f h)
 
   -- "Suppose the join answers"
-  pub record Demand3 (r : Result) : Type 0 where
+  pub record Demand3 (r : Joined) : Type 0 where
     -- T is the directory's, and the box of 'struck' "the smallest box around the stops"
     pub header : directory f ≡ accepted h
     pub tiles : r.tiles ≡ h.tiles

@@ -1,7 +1,6 @@
 -- Document 01, "The join", with 02.2: what the call comes to, and what it leaves in the four slices. A call has a
 -- column of coordinates for each of its axes.
 --
---   Result, join_outcome      what the answer carries
 --   run_for                   the run of the search on a file
 --   tests                     tests 1 to 14 and 17
 --   filled, result_of         what a run writes, and its result
@@ -21,24 +20,11 @@ use Rattle.search.specs.declared.Place.{Place}
 use Rattle.stops.specs.Arguments.{arguments}
 use Rattle.stops.specs.Stops.{stop_count, stops_of}
 use Rattle.stops.specs.declared.arguments.Lengths.{Lengths}
-use Rattle.join.specs.declared.call.JoinAnswer.{JoinAnswer}
-use Rattle.join.specs.declared.call.JoinAnswer.TheVariants.{Joined, Refused}
-
--- "The result carries places used, T, opened and struck."
-pub record Result : Type 0 where
-  pub used : ℕ
-  pub tiles : ℕ
-  pub opened : ℕ
-  pub pruned : ℕ
-
-abbrev pub join_outcome : JoinAnswer → Outcome Result
-join_outcome (Joined used tiles opened pruned) =
-    accepted (record { used = used; tiles = tiles; opened = opened; pruned = pruned })
-join_outcome (Refused r) = refused r.number r.block
+use Rattle.join.specs.declared.call.Joined.{Joined}
 
 -- what the call comes to, and the slices at its end
 pub record End : Type 0 where
-  pub outcome : Outcome Result
+  pub outcome : Outcome Joined
   pub slices : Slices
 
 -- the stops by columns; "O is the smallest box around the stops"
@@ -64,8 +50,8 @@ tests f cols k out =
 unfoldable pub filled : List Place → List ℕ → Slices → Slices
 filled l m out = record { lists = lay out.lists 0 l; marks = over out.marks 0 m }
 
--- the result of a run with these openings
-abbrev pub result_of : List ℕ → Header → List (List ℤ) → ℕ → List ℕ → Result
+-- "The result carries places used, T, opened and struck": that of a run with these openings
+abbrev pub result_of : List ℕ → Header → List (List ℤ) → ℕ → List ℕ → Joined
 result_of f h cols k opened = record {
   used = places_used (entries f h) k;
   tiles = h.tiles;

@@ -1,15 +1,13 @@
 // The call of document 01, "The join".
 ghost use Rattle.std.specs.Prelude.{[], ◌∷◌, ◌≡◌, take};
-ghost use Rattle.base.specs.Refusal as outcome;
-ghost use Rattle.base.specs.Refusal.{accepted};
-ghost use Rattle.blocks.specs.Directory.{directory};
+ghost use Rattle.base.specs.Answer.{outcome_of};
 ghost use Rattle.geometry.specs.Axes.{Columns};
 ghost use Rattle.list.specs.Slices.{lent};
-ghost use Rattle.join.specs.Join.{join_outcome, join_end, run_end};
+ghost use Rattle.join.specs.Join.{join_end, run_end};
 ghost use Rattle.join.specs.Inner.Running.{RunReady};
 
 use base::Refusal;
-use blocks::directory::{DirectoryAnswer, read_directory};
+use blocks::directory::read_directory;
 use blocks::header::Header;
 use blocks::layout::{HEIGHT, PLAN};
 use list::clear::clear_places;
@@ -17,26 +15,18 @@ use plan::region::ORIGIN;
 use prune::marking::mark_pruned;
 use search::MAX_STOPS;
 use serve::marks::count_opened;
-use serve::serving::{Serving, serve};
-use stops::arguments::{Lengths, failed_argument};
+use serve::serving::serve;
+use stops::arguments::{Lengths, check_arguments};
 use stops::around::around;
 use stops::stop::gather_stops;
 
-#[derive(Clone, Copy)]
-pub enum JoinAnswer {
-    Joined {
-        used: u32,
-        tiles: u32,
-        opened: u32,
-        pruned: u32,
-    },
-    Refused(Refusal),
-}
-
-fn refused(number: u32) -> JoinAnswer
-    ensures { join_outcome result ≡ outcome.refused number 0 }
-{
-    JoinAnswer::Refused(Refusal { number, block: 0 })
+// What a join carries: places used for each stop, T, and how many tiles were opened and pruned.
+#[derive(Clone, Copy, Debug, PartialEq, Eq)]
+pub struct Joined {
+    pub used: u32,
+    pub tiles: u32,
+    pub opened: u32,
+    pub pruned: u32,
 }
 
 // The run: places cleared, tiles pruned, the stops gathered as points and served, and the opened tiles counted. Of a
@@ -52,12 +42,12 @@ fn run(
     site: &mut [u32],
     cue: &mut [u32],
     marks: &mut [u8],
-) -> JoinAnswer
+) -> Result<Joined, Refusal>
     requires { Columns h.axes ys.now zs.now
         × RunReady f.now h (take h.axes (xs.now ∷ ys.now ∷ zs.now ∷ [])) k
         (lent dist.old site.old cue.old marks.old) }
     ensures { record {
-      outcome = join_outcome result;
+      outcome = outcome_of result;
       slices = lent dist.new site.new cue.new marks.new;
     }
         ≡ run_end f.now h (take h.axes (xs.now ∷ ys.now ∷ zs.now ∷ [])) k
@@ -68,56 +58,17 @@ fn run(
     let pruned = mark_pruned(f, h, around(xs, ys, zs), k, marks);
     let mut stops = [ORIGIN; MAX_STOPS];
     gather_stops(xs, ys, zs, &mut stops);
-    let tiles = h.tiles;
-    match serve(f, h, &stops[..n], k, dist, site, cue, marks) {
-        Serving::Served(used) => {
-            let opened = count_opened(marks, h);
-            JoinAnswer::Joined {
-                used: used as u32,
-                tiles: tiles as u32,
-                opened: opened as u32,
-                pruned: pruned as u32,
-            }
-        }
-        Serving::Refused(r) => JoinAnswer::Refused(r),
-    }
+    let used = serve(f, h, &stops[..n], k, dist, site, cue, marks)?;
+    let opened = count_opened(marks, h);
+    Ok(Joined {
+        used: used as u32,
+        tiles: h.tiles as u32,
+        opened: opened as u32,
+        pruned: pruned as u32,
+    })
 }
 
-// The call for a number of axes, on a file whose directory is accepted.
-fn join_accepted(
-    f: &[u8],
-    h: Header,
-    axes: usize,
-    xs: &[i32],
-    ys: &[i32],
-    zs: &[i32],
-    k: u32,
-    dist: &mut [u64],
-    site: &mut [u32],
-    cue: &mut [u32],
-    marks: &mut [u8],
-) -> JoinAnswer
-    requires { (directory f.now ≡ accepted h) × Columns axes ys.now zs.now }
-    ensures { record {
-      outcome = join_outcome result;
-      slices = lent dist.new site.new cue.new marks.new;
-    }
-        ≡ join_end f.now (take axes (xs.now ∷ ys.now ∷ zs.now ∷ [])) k
-        (lent dist.old site.old cue.old marks.old) }
-{
-    let lengths = Lengths {
-        dist: dist.len(),
-        site: site.len(),
-        cue: cue.len(),
-        marks: marks.len(),
-    };
-    let number = failed_argument(h, axes, xs, ys, zs, k, lengths);
-    if number != 0 {
-        return refused(number);
-    }
-    run(f, h, xs, ys, zs, k as usize, dist, site, cue, marks)
-}
-
+// The call for a number of axes.
 fn join_columns(
     f: &[u8],
     axes: usize,
@@ -129,21 +80,26 @@ fn join_columns(
     site: &mut [u32],
     cue: &mut [u32],
     marks: &mut [u8],
-) -> JoinAnswer
+) -> Result<Joined, Refusal>
     requires { Columns axes ys.now zs.now }
     ensures { record {
-      outcome = join_outcome result;
+      outcome = outcome_of result;
       slices = lent dist.new site.new cue.new marks.new;
     }
         ≡ join_end f.now (take axes (xs.now ∷ ys.now ∷ zs.now ∷ [])) k
         (lent dist.old site.old cue.old marks.old) }
 {
-    match read_directory(f) {
-        DirectoryAnswer::Accepted(h) => join_accepted(
-            f, h, axes, xs, ys, zs, k, dist, site, cue, marks,
-        ),
-        DirectoryAnswer::Refused(r) => JoinAnswer::Refused(r),
+    let h = read_directory(f)?;
+    let lengths = Lengths {
+        dist: dist.len(),
+        site: site.len(),
+        cue: cue.len(),
+        marks: marks.len(),
+    };
+    if let Err(reason) = check_arguments(h, axes, xs, ys, zs, k, lengths) {
+        return Err(reason.at(0));
     }
+    run(f, h, xs, ys, zs, k as usize, dist, site, cue, marks)
 }
 
 // For a plan town.
@@ -156,9 +112,9 @@ pub fn join(
     site: &mut [u32],
     cue: &mut [u32],
     marks: &mut [u8],
-) -> JoinAnswer
+) -> Result<Joined, Refusal>
     ensures { record {
-      outcome = join_outcome result;
+      outcome = outcome_of result;
       slices = lent dist.new site.new cue.new marks.new;
     }
         ≡ join_end f.now (xs.now ∷ ys.now ∷ []) k
@@ -167,7 +123,7 @@ pub fn join(
     join_columns(f, PLAN, xs, ys, ys, k, dist, site, cue, marks)
 }
 
-// For a town with height.
+// For a town with height. A call of its own: an array of N columns, with N a parameter, gets no proof.
 pub fn join3(
     f: &[u8],
     xs: &[i32],
@@ -178,9 +134,9 @@ pub fn join3(
     site: &mut [u32],
     cue: &mut [u32],
     marks: &mut [u8],
-) -> JoinAnswer
+) -> Result<Joined, Refusal>
     ensures { record {
-      outcome = join_outcome result;
+      outcome = outcome_of result;
       slices = lent dist.new site.new cue.new marks.new;
     }
         ≡ join_end f.now (xs.now ∷ ys.now ∷ zs.now ∷ []) k

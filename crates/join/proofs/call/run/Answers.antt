@@ -4,6 +4,7 @@ use mathlib.Core.Path.{◌≡◌, ap, ◌∙◌}
 use native.Mathlib.Omega.{arith}
 use lib.IntN.{ℤ}
 use lib.ListN.{length, take, length-take}
+use Rattle.base.specs.Answer.{outcome_of}
 use Rattle.base.specs.Lists.{All}
 use Rattle.blocks.specs.declared.header.Header.{Header}
 use Rattle.geometry.specs.Around.{around}
@@ -11,8 +12,8 @@ use Rattle.list.specs.Slices.{lent}
 use Rattle.plan.specs.FilePlan.{entries}
 use Rattle.plan.specs.Inner.Seam.{stop_of, region_of}
 use Rattle.search.specs.Pruning.{pruned_count}
-use Rattle.serve.specs.Inner.Serving.{serving_outcome}
 use Rattle.stops.specs.Stops.{stop_count, stops_of}
+use Rattle.base.proofs.Passing.{passed_on}
 use Rattle.geometry.proofs.Theorems.{all-points, row_axes}
 use Rattle.plan.proofs.Measures.{tiles_few}
 use Rattle.stops.proofs.StopLaws.{points_gathered}
@@ -84,7 +85,7 @@ tried : (c : After-serve)
     c.mark_pruned-pruned.new.marks ≡ started c.requires.1
     → take (length c.args.xs.now) c.gather_stops.new.stops
     ≡ stops_of (three c.args.h c.args.xs.now c.args.ys.now c.args.zs.now)
-    → Attempted c.requires.1 (serving_outcome c.serve.result)
+    → Attempted c.requires.1 (outcome_of c.serve.result)
     (lent c.serve.new.dist c.serve.new.site c.serve.new.cue c.serve.new.marks)
 tried c b p =
     let a = c.args in
@@ -194,56 +195,57 @@ overflow_cast-result c =
       used_few c.requires.1 (λ i. omega (arith, c.type_inv.f i))
           (tried (goal.at.overflow_cast-result c).After-serve
           (begins (goal.at.overflow_cast-result c).After-mark_pruned-pruned)
-          (points (goal.at.overflow_cast-result c).After-gather_stops)) (ap serving_outcome c.in-Served.is),
+          (points (goal.at.overflow_cast-result c).After-gather_stops)) (ap outcome_of c.in_ok-used.was),
     )
 
-pub overflow_cast-result-in-Served : goal.overflow_cast-result-in-Served
-overflow_cast-result-in-Served c = omega (arith, tiles_few c.args.f.now c.args.h c.requires.1.dir)
+pub overflow_cast-result-2 : goal.overflow_cast-result-2
+overflow_cast-result-2 c = omega (arith, tiles_few c.args.f.now c.args.h c.requires.1.dir)
 
-pub overflow_cast-result-in-Served-2 : goal.overflow_cast-result-in-Served-2
-overflow_cast-result-in-Served-2 c =
+pub overflow_cast-result-3 : goal.overflow_cast-result-3
+overflow_cast-result-3 c =
     omega (arith, tiles_few c.args.f.now c.args.h c.requires.1.dir, c.count_opened-opened.ensures.1)
 
-pub overflow_cast-result-in-Served-3 : goal.overflow_cast-result-in-Served-3
-overflow_cast-result-in-Served-3 c = omega
+pub overflow_cast-result-4 : goal.overflow_cast-result-4
+overflow_cast-result-4 c = omega
     (arith, tiles_few c.args.f.now c.args.h c.requires.1.dir, c.mark_pruned-pruned.ensures.value.1)
 
-pub shape_of-dist-in-Served : goal.shape_of-dist-in-Served
-shape_of-dist-in-Served c = (lengths (goal.at.shape_of-dist-in-Served c).After-serve).0
+pub shape_of-dist : goal.shape_of-dist
+shape_of-dist c = (lengths (goal.at.shape_of-dist c).After-serve).0
 
-pub shape_of-site-in-Served : goal.shape_of-site-in-Served
-shape_of-site-in-Served c = (lengths (goal.at.shape_of-site-in-Served c).After-serve).1
+pub shape_of-site : goal.shape_of-site
+shape_of-site c = (lengths (goal.at.shape_of-site c).After-serve).1
 
-pub shape_of-cue-in-Served : goal.shape_of-cue-in-Served
-shape_of-cue-in-Served c = (lengths (goal.at.shape_of-cue-in-Served c).After-serve).2
+pub shape_of-cue : goal.shape_of-cue
+shape_of-cue c = (lengths (goal.at.shape_of-cue c).After-serve).2
 
-pub shape_of-marks-in-Served : goal.shape_of-marks-in-Served
-shape_of-marks-in-Served c = (lengths (goal.at.shape_of-marks-in-Served c).After-serve).3
+pub shape_of-marks : goal.shape_of-marks
+shape_of-marks c = (lengths (goal.at.shape_of-marks c).After-serve).3
 
-pub returns-in-Served : goal.returns-in-Served
-returns-in-Served c =
+pub returns : goal.returns
+returns c =
     run_answers c.requires.1 (λ i. omega (arith, c.type_inv.f i))
-    (tried (goal.at.returns-in-Served c).After-serve (begins (goal.at.returns-in-Served c).After-mark_pruned-pruned)
-    (points (goal.at.returns-in-Served c).After-gather_stops)) (ap serving_outcome c.in-Served.is)
+    (tried (goal.at.returns c).After-serve (begins (goal.at.returns c).After-mark_pruned-pruned)
+    (points (goal.at.returns c).After-gather_stops)) (ap outcome_of c.in_ok-used.was)
     (c.mark_pruned-pruned.ensures.value.0
     ∙ ap (λ b. pruned_count (entries c.args.f.now c.args.h) b c.args.k)
-    (box (goal.at.returns-in-Served c).After-around))
+    (box (goal.at.returns c).After-around))
     c.count_opened-opened.ensures.0
 
-pub shape_of-dist-in-Refused : goal.shape_of-dist-in-Refused
-shape_of-dist-in-Refused c = (lengths (goal.at.shape_of-dist-in-Refused c).After-serve).0
+pub shape_of-dist-in_err-used : goal.shape_of-dist-in_err-used
+shape_of-dist-in_err-used c = (lengths (goal.at.shape_of-dist-in_err-used c).After-serve).0
 
-pub shape_of-site-in-Refused : goal.shape_of-site-in-Refused
-shape_of-site-in-Refused c = (lengths (goal.at.shape_of-site-in-Refused c).After-serve).1
+pub shape_of-site-in_err-used : goal.shape_of-site-in_err-used
+shape_of-site-in_err-used c = (lengths (goal.at.shape_of-site-in_err-used c).After-serve).1
 
-pub shape_of-cue-in-Refused : goal.shape_of-cue-in-Refused
-shape_of-cue-in-Refused c = (lengths (goal.at.shape_of-cue-in-Refused c).After-serve).2
+pub shape_of-cue-in_err-used : goal.shape_of-cue-in_err-used
+shape_of-cue-in_err-used c = (lengths (goal.at.shape_of-cue-in_err-used c).After-serve).2
 
-pub shape_of-marks-in-Refused : goal.shape_of-marks-in-Refused
-shape_of-marks-in-Refused c = (lengths (goal.at.shape_of-marks-in-Refused c).After-serve).3
+pub shape_of-marks-in_err-used : goal.shape_of-marks-in_err-used
+shape_of-marks-in_err-used c = (lengths (goal.at.shape_of-marks-in_err-used c).After-serve).3
 
-pub returns-in-Refused : goal.returns-in-Refused
-returns-in-Refused c =
-    run_refuses c.requires.1 (λ i. omega (arith, c.type_inv.f i))
-    (tried (goal.at.returns-in-Refused c).After-serve (begins (goal.at.returns-in-Refused c).After-mark_pruned-pruned)
-    (points (goal.at.returns-in-Refused c).After-gather_stops)) (ap serving_outcome c.in-Refused.is)
+pub returns-in_err-used : goal.returns-in_err-used
+returns-in_err-used c =
+    rw (passed_on c.from_residual.result _ c.from_residual.ensures)
+    (run_refuses c.requires.1 (λ i. omega (arith, c.type_inv.f i))
+    (tried (goal.at.returns-in_err-used c).After-serve (begins (goal.at.returns-in_err-used c).After-mark_pruned-pruned)
+    (points (goal.at.returns-in_err-used c).After-gather_stops)) (ap outcome_of c.in_err-used.was))
