@@ -1,16 +1,16 @@
 -- Sums and quotients of floats that are whole numbers, in either format. Assumes nothing.
 --
---   cast_exact, cast_defined   a whole number up to 2 ^ prec is a float, exactly
---   add_casts                  the sum of two is the float of the whole numbers' sum
---   div_casts                  the quotient of two is the whole numbers' fraction, rounded
+--   cast_exact   a whole number up to 2 ^ prec is a float, exactly
+--   add_casts    the sum of two is the float of the whole numbers' sum
+--   div_casts    the quotient of two is the whole numbers' fraction, rounded
 use Prim.Native.Nat.{ℕ, zero, suc, ◌+◌, ◌*◌, ◌^◌, ◌≤◌, ◌<◌}
 use mathlib.Core.Bool.{true, false, true≢false}
 use mathlib.Core.Path.{◌≡◌, sym, ap, ◌∙◌, subst}
 use native.Mathlib.Nat.{mul-pos, zero-lt-suc, zero-mul, lt_irrefl}
 use native.Mathlib.Omega.{arith}
-use lib.Dec.{T, eqb, eqb-suc-zero, le→leb}
+use lib.Dec.{eqb, eqb-suc-zero}
 use lib.IntN.{ℤ, pos}
-use lib.Ieee.{Float, nan, inf, fin, Format, prec, up, down, round, sum, add, div, of_int, in_float}
+use lib.Ieee.{Float, nan, inf, fin, Format, prec, up, down, round, sum, add, div, of_int}
 use lib.Ieee.Back.{round_whole}
 use lib.Ieee.Fits.{down_pos}
 use lib.Ieee.Scale.{round_same}
@@ -19,10 +19,6 @@ use Rattle.level.specs.Claims.{Is}
 pub cast_exact : (f : Format) (n : ℕ) → n ≤ 2 ^ prec f → Is (of_int f (pos n)) n
 unfolding of_int
 cast_exact f n h = round_whole f false n h
-
-pub cast_defined : (f : Format) (n : ℕ) → n ≤ 2 ^ prec f → T (in_float f (pos n))
-unfolding in_float
-cast_defined f n h = le→leb n (2 ^ prec f) h
 
 -- two floats that are whole numbers, each x / p with x = a × p
 module _ (x a p y b q : ℕ) (h : x * 1 ≡ a * p) (k : y * 1 ≡ b * q) where

@@ -10,6 +10,7 @@
 use Rattle.std.specs.Prelude.{ℕ, ◌+◌, ◌*◌, Bool, cond, ◌&&◌, leb, ltb, pos, Float}
 use Rattle.std.specs.Float.{binary64}
 use Rattle.std.specs.Float.Ieee.{div, of_int}
+use Rattle.base.specs.Answer.{number_of}
 use Rattle.base.specs.Refusal.{Outcome, accepted, refused, require, #reach}
 use Rattle.level.specs.declared.call.LevelAnswer.{LevelAnswer}
 use Rattle.level.specs.declared.call.LevelAnswer.TheVariants as answer
@@ -50,7 +51,7 @@ loudness r d = cond (is_silent r d) silent (level (level_of r d))
 abbrev pub level_outcome : LevelAnswer → Outcome Loudness
 level_outcome answer.Silent = accepted silent
 level_outcome (answer.Level x) = accepted (level x)
-level_outcome (answer.Refused r) = refused r.number r.block
+level_outcome (answer.Refused r) = refused (number_of r.reason) r.block
 
 -- "18 when r is outside its limits, before anything else is looked at"
 unfoldable pub level_call : ℕ → ℕ → Outcome Loudness
