@@ -4,7 +4,8 @@ use mathlib.Core.List.{List}
 use mathlib.Core.Path.{◌≡◌}
 use lib.IntN.{ℤ}
 use Rattle.base.specs.Refusal.{accepted}
-use Rattle.join.specs.Join.{Result, join_end}
+use Rattle.join.specs.declared.call.Joined.{Joined}
+use Rattle.join.specs.Join.{join_end}
 use Rattle.list.specs.Slices.{Slices}
 use Rattle.stops.specs.Stops.{stop_count}
 use Rattle.base.proofs.Outcomes.{by_outcome}
@@ -13,7 +14,7 @@ use Rattle.console.specs.Inner.Room.{Fitting, Printable}
 use Rattle.console.specs.Limits.{request_stops}
 
 module _ (f : List ℕ) (cols : List (List ℤ)) (k : ℕ) (out : Slices) (few : stop_count cols ≤ request_stops) where
-  fitting : (r : Result) → (join_end f cols k out).outcome ≡ accepted r
+  fitting : (r : Joined) → (join_end f cols k out).outcome ≡ accepted r
       → Fitting (stop_count cols) k r.used (join_end f cols k out).slices.lists
   fitting r e =
       let a = answer_fits f cols k out r e in

@@ -1,4 +1,5 @@
--- Laws of what the program reads.
+-- Laws of what the program reads. The sets are what its calls need besides: `limits` for the tests of a request,
+-- `requests` for one that passed them.
 use Prim.Native.Nat.{ℕ, suc, ◌+◌, ◌*◌, ◌-◌, ◌<◌, ◌≤◌}
 use mathlib.Core.Bool.{true, ◌&&◌}
 use mathlib.Core.List.{List, [], ◌∷◌, ◌++◌, append_assoc}
@@ -11,6 +12,8 @@ use lib.IntN.{ℤ, pos}
 use lib.ListN.{length, get_or, set, take, drop, length-drop}
 use lib.Seq.{take_all, take_at, set_at, drop-cons}
 use borrow.Author.Tests.{leb-true}
+use Rattle.std.proofs.lemmas.Bool.Decides.{nat_tests}
+use Rattle.std.proofs.lemmas.Grind.{common_steps}
 use Rattle.base.proofs.Tabulate.{length-tabulate, tabulate_last}
 use Rattle.base.proofs.Tests.{and_both}
 use Rattle.codec.specs.Number.{i32_at}
@@ -54,6 +57,10 @@ whole input e =
     let q = and_both (leb 8 (length input)) (leb (length input) max_input) p.0 in
     let r = and_both (leb n request_stops) (leb (8 + 8 * n) (length input)) p.1 in
     record { long = leb-true _ _ q.0; few = leb-true _ _ r.0; stops = leb-true _ _ r.1 }
+
+pub ruleset limits = nat_tests
+
+pub ruleset requests = (whole, common_steps)
 
 -- all that is left of a list after some of it
 pub rest_all : (l : List ℕ) (a : ℕ) → take (length l - a) (drop a l) ≡ drop a l

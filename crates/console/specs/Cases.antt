@@ -16,7 +16,8 @@ use Rattle.encode.specs.Encode.{file_bytes}
 use Rattle.encode.specs.Supply.{Supply, supply}
 use Rattle.geometry.specs.Distance.{min_dist, max_dist}
 use Rattle.geometry.specs.Margin.{margin}
-use Rattle.join.specs.Join.{Result, join_end}
+use Rattle.join.specs.declared.call.Joined.{Joined}
+use Rattle.join.specs.Join.{join_end}
 use Rattle.list.specs.Slices.{Slices, lent, dists, sites, cues}
 use Rattle.search.specs.declared.Place.{Place}
 use Rattle.writer.specs.Write.{write_call, write_exit}
@@ -65,7 +66,7 @@ pub data Case : Type 0 where
   near_far_of : List ℤ → List (List ℤ) → ℕ → ℕ → Case
   check_of : List ℕ → Sums → Case
   town_written : ℕ → Case
-  town_asked : ℕ → Result → List Place → List ℕ → String → Case
+  town_asked : ℕ → Joined → List Place → List ℕ → String → Case
 
 abbrev pub table : List Case
 table =

@@ -6,7 +6,8 @@
 use Rattle.std.specs.Prelude.{ℕ, cond, List, [], ◌∷◌, ◌++◌, replicate}
 use Rattle.base.specs.Refusal.{Outcome, accepted, refused}
 use Rattle.base.specs.Tabulate.{joined}
-use Rattle.join.specs.Join.{Result, End, join_end}
+use Rattle.join.specs.declared.call.Joined.{Joined}
+use Rattle.join.specs.Join.{End, join_end}
 use Rattle.list.specs.Slices.{Lists, Slices, lent}
 use Rattle.blocks.specs.Layout.{max_tiles}
 use Rattle.console.specs.Limits.{request_places}
@@ -20,7 +21,7 @@ empty_slices =
     lent (replicate request_places 0) (replicate request_places 0) (replicate request_places 0) (replicate max_tiles 0)
 
 -- of n stops, k, and the slices of places
-unfoldable pub answer_text : ℕ → ℕ → Lists → Outcome Result → List ℕ
+unfoldable pub answer_text : ℕ → ℕ → Lists → Outcome Joined → List ℕ
 answer_text n k l (accepted r) =
     counts_line r.tiles r.opened r.pruned ++ joined (stop_line l.dist l.site l.cue k r.used) 0 n
 answer_text n k l (refused number block) = refused_line number block

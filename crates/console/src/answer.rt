@@ -1,6 +1,7 @@
 // The program's answer to what it read.
 ghost use Rattle.std.specs.Prelude.{◌≡◌, true, [], ◌∷◌, ◌≤◌, length};
-ghost use Rattle.join.specs.Join.{join_outcome, join_end};
+ghost use Rattle.base.specs.Answer.{outcome_of};
+ghost use Rattle.join.specs.Join.{join_end};
 ghost use Rattle.list.specs.Slices.{lists};
 ghost use Rattle.console.specs.Inner.Room.{output_room, Printable};
 ghost use Rattle.console.specs.Limits.{request_stops};
@@ -11,9 +12,10 @@ ghost use Rattle.console.specs.Text.{Wrote};
 use crate::line::{put_counts, put_refused, put_stops};
 use crate::request;
 use crate::text::put_text;
+use base::Refusal;
 use blocks::layout::MAX_TILES;
 use codec::reading::u32_at;
-use join::call::{JoinAnswer, join};
+use join::call::{Joined, join};
 
 // Room for every output: a line of counts and a line for each stop, none longer than this.
 const COUNTS_ROOM: usize = 53;
@@ -29,29 +31,24 @@ fn put_answer(
     out: &mut [u8],
     n: usize,
     k: usize,
-    answer: JoinAnswer,
+    answer: Result<Joined, Refusal>,
     dist: &[u64],
     site: &[u32],
     cue: &[u32],
 ) -> usize
     requires output_room_in_bounds { output_room ≤ length out.old }
-    requires printable { Printable n k (lists dist.now site.now cue.now) (join_outcome answer) }
+    requires printable { Printable n k (lists dist.now site.now cue.now) (outcome_of answer) }
     ensures text { Wrote out.old 0
-        (answer_text n k (lists dist.now site.now cue.now) (join_outcome answer))
+        (answer_text n k (lists dist.now site.now cue.now) (outcome_of answer))
         out.new result }
     ensures end { result ≤ output_room }
 {
     match answer {
-        JoinAnswer::Joined {
-            used,
-            tiles,
-            opened,
-            pruned,
-        } => {
-            let next = put_counts(out, 0, tiles, opened, pruned);
-            put_stops(out, next, dist, site, cue, k, used as usize, n)
+        Ok(joined) => {
+            let next = put_counts(out, 0, joined.tiles, joined.opened, joined.pruned);
+            put_stops(out, next, dist, site, cue, k, joined.used as usize, n)
         }
-        JoinAnswer::Refused(r) => put_refused(out, 0, r.number, r.block),
+        Err(refusal) => put_refused(out, 0, refusal.reason.number(), refusal.block),
     }
 }
 
@@ -71,6 +68,7 @@ fn put_join(file: &[u8], xs: &[i32], ys: &[i32], k: u32, out: &mut [u8]) -> usiz
     put_answer(out, xs.len(), k as usize, answer, &dist, &site, &cue)
 }
 
+#[tactic(auto, using(crate::proofs::RequestLaws::requests), unfolding(crate::specs::Request::head_length))]
 fn put_request(input: &[u8], out: &mut [u8]) -> usize
     requires { (well_formed input.now ≡ true) × (output_room ≤ length out.old) }
     ensures text { Wrote out.old 0

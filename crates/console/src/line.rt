@@ -10,9 +10,11 @@ ghost use Rattle.console.specs.Text.{labelled, Wrote};
 use crate::text::{put_labelled, put_text};
 
 // The distance of place j, after what parts it from the place before.
+#[tactic(auto, using(crate::proofs::TextLaws::room_64))]
 fn put_distance(out: &mut [u8], at: usize, j: usize, dist: u64) -> usize
     requires { at + distance_room ≤ length out.old }
-    ensures { Wrote out.old at (labelled (separator j) dist) out.new result }
+    ensures text { Wrote out.old at (labelled (separator j) dist) out.new result }
+    ensures end { result ≤ at + distance_room }
 {
     if j == 0 {
         return put_labelled(out, at, b" ", dist);
@@ -20,9 +22,11 @@ fn put_distance(out: &mut [u8], at: usize, j: usize, dist: u64) -> usize
     put_labelled(out, at, b"; ", dist)
 }
 
+#[tactic(auto, using(crate::proofs::TextLaws::room_32))]
 fn put_place(out: &mut [u8], at: usize, j: usize, dist: u64, site: u32, cue: u32) -> usize
     requires { at + place_room ≤ length out.old }
-    ensures { Wrote out.old at (place_text j dist site cue) out.new result }
+    ensures text { Wrote out.old at (place_text j dist site cue) out.new result }
+    ensures end { result ≤ at + place_room }
 {
     let after_dist = put_distance(out, at, j, dist);
     let after_site = put_labelled(out, after_dist, b" ", site as u64);
@@ -42,18 +46,18 @@ fn put_places(
     requires used_in_bounds { at + place_room * used ≤ length out.old }
     requires used_in_bounds_2 { (from + used ≤ length dist.now) × (from + used ≤ length site.now)
         × (from + used ≤ length cue.now) }
-    ensures { Wrote out.old at (places_text dist.now site.now
+    ensures text { Wrote out.old at (places_text dist.now site.now
         cue.now from used) out.new result }
+    ensures end { result ≤ at + place_room * used }
 {
     let mut next = at;
-    let mut j = 0;
-    while j < used {
+    for j in 0..used {
         next = put_place(out, next, j, dist[from + j], site[from + j], cue[from + j]);
-        j += 1;
     }
     next
 }
 
+#[tactic(auto, using(crate::proofs::TextLaws::room_64))]
 fn put_stop(
     out: &mut [u8],
     at: usize,
@@ -67,8 +71,9 @@ fn put_stop(
     requires used_in_bounds { at + words_room + place_room * used ≤ length out.old }
     requires used_in_bounds_2 { (i * k + used ≤ length dist.now) × (i * k + used ≤ length site.now)
         × (i * k + used ≤ length cue.now) }
-    ensures { Wrote out.old at (stop_line dist.now site.now
+    ensures text { Wrote out.old at (stop_line dist.now site.now
         cue.now k used i) out.new result }
+    ensures end { result ≤ at + words_room + place_room * used }
 {
     let after_number = put_labelled(out, at, b"stop ", i as u64);
     let after_colon = put_text(out, after_number, b":");
@@ -95,14 +100,13 @@ pub fn put_stops(
     ensures end { result ≤ at + stop_room * n }
 {
     let mut next = at;
-    let mut i = 0;
-    while i < n {
+    for i in 0..n {
         next = put_stop(out, next, dist, site, cue, k, used, i);
-        i += 1;
     }
     next
 }
 
+#[tactic(auto, using(crate::proofs::TextLaws::room_32))]
 pub fn put_counts(out: &mut [u8], at: usize, tiles: u32, opened: u32, pruned: u32) -> usize
     requires { at + counts_room ≤ length out.old }
     ensures text { Wrote out.old at (counts_line tiles opened pruned) out.new result }
@@ -114,6 +118,7 @@ pub fn put_counts(out: &mut [u8], at: usize, tiles: u32, opened: u32, pruned: u3
     put_text(out, after_pruned, b"\n")
 }
 
+#[tactic(auto, using(crate::proofs::TextLaws::room_32))]
 pub fn put_refused(out: &mut [u8], at: usize, number: u32, block: u32) -> usize
     requires { at + refused_room ≤ length out.old }
     ensures text { Wrote out.old at (refused_line number block) out.new result }

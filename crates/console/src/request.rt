@@ -10,6 +10,7 @@ pub const MAX_INPUT: usize = 65536;
 
 pub const REQUEST_STOPS: usize = 128;
 
+#[tactic(auto, unfolding(crate::specs::Request::stops_asked))]
 pub fn stop_count(input: &[u8]) -> usize
     requires { 8 ≤ length input.now }
     ensures { result ≡ stops_asked input.now }
@@ -18,6 +19,7 @@ pub fn stop_count(input: &[u8]) -> usize
 }
 
 // Where the stops end.
+#[tactic(auto, unfolding(crate::specs::Request::head_length))]
 pub fn head_length(n: usize) -> usize
     requires { n ≤ request_stops }
     ensures { result ≡ head_length n }
@@ -25,20 +27,15 @@ pub fn head_length(n: usize) -> usize
     8 + 8 * n
 }
 
+#[tactic(auto, using(crate::proofs::RequestLaws::limits), unfolding(crate::specs::Request::well_formed))]
 pub fn well_formed(input: &[u8]) -> bool
     ensures { result ≡ well_formed input.now }
 {
-    if input.len() < 8 {
-        return false;
-    }
-    if MAX_INPUT < input.len() {
+    if input.len() < 8 || MAX_INPUT < input.len() {
         return false;
     }
     let n = stop_count(input);
-    if REQUEST_STOPS < n {
-        return false;
-    }
-    head_length(n) <= input.len()
+    n <= REQUEST_STOPS && head_length(n) <= input.len()
 }
 
 // One number of each of n stops, the first of them at an index, to the front of a slice.
@@ -46,9 +43,7 @@ pub fn read_coordinates(input: &[u8], at: usize, n: usize, out: &mut [i32])
     requires { (at + 8 * n ≤ length input.now + 4) × (n ≤ length out.old) }
     ensures { out.new ≡ coordinates input.now at n ++ drop n out.old }
 {
-    let mut i = 0;
-    while i < n {
+    for i in 0..n {
         out[i] = i32_at(input, at + 8 * i);
-        i += 1;
     }
 }

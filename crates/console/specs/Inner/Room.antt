@@ -7,7 +7,7 @@
 --   Fitting, Printable                    an answer, an outcome that fits
 use Rattle.std.specs.Prelude.{ℕ, ◌+◌, ◌*◌, ◌≤◌}
 use Rattle.base.specs.Refusal.{Outcome, accepted, refused}
-use Rattle.join.specs.Join.{Result}
+use Rattle.join.specs.declared.call.Joined.{Joined}
 use Rattle.list.specs.Slices.{Lists, Long}
 use Rattle.search.specs.Limits.{max_k}
 use Rattle.console.specs.Limits.{request_stops}
@@ -43,6 +43,6 @@ pub record Fitting (n k used : ℕ) (l : Lists) : Type 0 where
   pub some : used ≤ k
   pub long : Long l (n * k)
 
-abbrev pub Printable : ℕ → ℕ → Lists → Outcome Result → Type 0
+abbrev pub Printable : ℕ → ℕ → Lists → Outcome Joined → Type 0
 Printable n k l (accepted r) = Fitting n k r.used l
 Printable n k l (refused number block) = Unit

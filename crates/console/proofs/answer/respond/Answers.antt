@@ -5,7 +5,6 @@ use lib.ListN.{length}
 use borrow.Author.Rules.{rules}
 use Rattle.console.specs.Inner.Room.{output_room}
 use Rattle.console.specs.Output.{output}
-use Rattle.console.proofs.TextLaws.{in_room}
 use Rattle.console.proofs.answer.respond.Goals as goal
 
 pub put_request-requires : goal.put_request-requires
@@ -19,7 +18,7 @@ returns-then-well_formed c =
     let end = c.put_request.ensures in
     record {
       text = rw (sym c.well_formed-2.ensures ∙ c.if-well_formed.true) end.text;
-      end = in_room room end.text end.end;
+      end = omega (arith, room, end.end);
     }
 
 pub returns : goal.returns
@@ -29,5 +28,5 @@ returns c =
     let end = c.put_text.ensures in
     record {
       text = rw (sym c.well_formed-2.ensures ∙ c.if-well_formed.false) end;
-      end = in_room {n = output_room} room end (omega (arith, end.end));
+      end = omega (arith, room, end.end);
     }

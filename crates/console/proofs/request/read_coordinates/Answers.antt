@@ -1,6 +1,5 @@
-use mathlib.Core.Path.{◌≡◌, refl}
+use mathlib.Core.Path.{refl}
 use native.Mathlib.Omega.{arith}
-use lib.ListN.{length-set}
 use mir.Facts.{to_z-of_z}
 use mir.Syntax.{w32}
 use mir.Val.{SFits}
@@ -12,23 +11,11 @@ use Rattle.console.proofs.request.read_coordinates.Goals as goal
 
 pub loop-i-init : goal.loop-i-init
 unfolding coordinates tabulate
-loop-i-init c = (omega arith, refl, refl)
+loop-i-init c = refl
 
 pub loop-i-preserved : goal.loop-i-preserved
 loop-i-preserved c =
     let l = c.loop-i in
-    let fits : SFits w32 c.i32_at.result = sfits_of c.i32_at.type_inv in (
-      omega arith,
-      simp length-set l.invariant.1,
-      rw (to_z-of_z {w = w32} fits, c.i32_at.ensures) (stored_next c.args.input.now c.args.at l.i c.args.out.now
-          l.out (omega (arith, c.requires.1)) l.invariant.2),
-    )
-
-pub shape_of-out : goal.shape_of-out
-shape_of-out c = c.loop-i.invariant.1
-
-pub returns : goal.returns
-returns c =
-    let l = c.loop-i in
-    let all : l.i ≡ c.args.n = omega arith in
-    rw all at l.invariant.2
+    let fits : SFits w32 c.i32_at.result = sfits_of c.i32_at.type_inv in
+    rw (to_z-of_z {w = w32} fits, c.i32_at.ensures) (stored_next c.args.input.now c.args.at l.i c.args.out.now
+    l.out (omega (arith, c.requires.1)) l.invariant)
