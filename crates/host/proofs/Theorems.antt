@@ -17,7 +17,8 @@ use Rattle.blocks.specs.declared.header.Header.{Header}
 use Rattle.geometry.specs.Box.{valid_box}
 use Rattle.level.specs.Level.{Loudness, silent, level, valid_reach, loudness, level_call}
 use Rattle.plan.specs.FilePlan.{entries}
-use Rattle.prune.specs.Prune.{Counts, prune_call}
+use Rattle.prune.specs.declared.call.Pruned.{Pruned}
+use Rattle.prune.specs.Prune.{prune_call}
 use Rattle.search.specs.Limits.{valid_k}
 use Rattle.search.specs.Pruning.{pruned_count}
 use Rattle.stream.specs.Stream.{stream_call}
@@ -70,7 +71,7 @@ refuses_as_strike f o k marks order good same =
         require a #axes 0 (require b #box 0 (require c #short 0 (accepted h.tiles)))
         ≡ and_then (require a #axes 0 (require b #box 0 (require c #short 0
         (accepted (record { tiles = h.tiles; pruned = pruned_count (entries f h) o k })))))
-        (λ (c : Counts). accepted c.tiles)
+        (λ (c : Pruned). accepted c.tiles)
     by_tests true true true h = refl
     by_tests true true false h = refl
     by_tests true false c h = refl

@@ -4,9 +4,9 @@ use Rattle.std.specs.Prelude.{ℕ, pos, false}
 use Rattle.std.specs.Float.{fin}
 use Rattle.base.specs.Refusal.{Outcome, accepted, refused}
 use Rattle.blocks.specs.declared.header.Header.{Header}
-use Rattle.join.specs.Join.{Result}
+use Rattle.join.specs.declared.call.Joined.{Joined}
 use Rattle.level.specs.Level.{Loudness, silent, level}
-use Rattle.prune.specs.Prune.{Counts}
+use Rattle.prune.specs.declared.call.Pruned.{Pruned}
 use Rattle.host.specs.declared.reports.JoinReport.{JoinReport}
 use Rattle.host.specs.declared.reports.LevelReport.{LevelReport}
 use Rattle.host.specs.declared.reports.PruneReport.{PruneReport}
@@ -14,13 +14,13 @@ use Rattle.host.specs.declared.reports.StreamReport.{StreamReport}
 use Rattle.host.specs.declared.reports.ValidateReport.{ValidateReport}
 use Rattle.host.specs.declared.reports.WriteReport.{WriteReport}
 
-abbrev pub join_report : Outcome Result → JoinReport
+abbrev pub join_report : Outcome Joined → JoinReport
 join_report (accepted r) =
     record { number = 0; block = 0; used = r.used; tiles = r.tiles; opened = r.opened; pruned = r.pruned }
 join_report (refused number block) =
     record { number = number; block = block; used = 0; tiles = 0; opened = 0; pruned = 0 }
 
-abbrev pub prune_report : Outcome Counts → PruneReport
+abbrev pub prune_report : Outcome Pruned → PruneReport
 prune_report (accepted c) = record { number = 0; block = 0; tiles = c.tiles; pruned = c.pruned }
 prune_report (refused number block) = record { number = number; block = block; tiles = 0; pruned = 0 }
 

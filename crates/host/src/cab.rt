@@ -2,26 +2,27 @@
 ghost use Rattle.std.specs.Prelude.{◌≡◌};
 ghost use Rattle.host.specs.Cab.{block_check, box_from, box_from3, margin_number};
 
+use base::Reason;
 use blocks::{checksum, layout};
 use geometry::margin::{margin_within, valid_boxes};
 use geometry::padding::pad_box;
 
-// What `nearby_margin` and `nearby_margin3` give for a bad box: no margin is so large.
+// What `nearby_margin` and `nearby_margin3` give for a bad box: no margin is so large, and C gets a single number.
 pub const BAD_BOX: i64 = 9_000_000_000_000_000_000;
 
-// 0 where the slice is a block with the right first byte and check; else 1, 2 or 3 of the table.
+// 0 where the slice is a block with the right first byte and check; else 1, 2 or 3 of the table: C gets a number.
 #[unsafe(no_mangle)]
 pub extern "C" fn nearby_block_check(block: &[u8]) -> u32
     ensures { result ≡ block_check block.now }
 {
     if block.len() != layout::BLOCK_SIZE {
-        return base::LENGTH;
+        return Reason::Length.number();
     }
     if block[0] != layout::SYNC_BYTE {
-        return base::SYNC;
+        return Reason::Sync.number();
     }
     if !checksum::agrees(block) {
-        return base::CHECK;
+        return Reason::Check.number();
     }
     0
 }
@@ -66,7 +67,7 @@ pub extern "C" fn nearby_margin(
     margin_within(layout::PLAN, o, e, b)
 }
 
-// The same with low z and high z after them.
+// The same with low z and high z after them: C has no generic calls.
 #[unsafe(no_mangle)]
 pub extern "C" fn nearby_margin3(
     ox0: i32,

@@ -1,5 +1,5 @@
-// The calls on files, for hosts and tests in C: each gives its answer as a report, by value. Those with a 3 are for
-// towns with height.
+// The calls on files, for hosts and tests in C: each gives its answer as a report, by value. C has no generic
+// calls: those with a 3 are for towns with height.
 ghost use Rattle.std.specs.Prelude.{[], ◌∷◌, ◌≡◌, length};
 ghost use Rattle.encode.specs.Supply.{supply};
 ghost use Rattle.join.specs.Join.{join_end};
@@ -12,8 +12,9 @@ ghost use Rattle.host.specs.Cab.{box_from, box_from3};
 ghost use Rattle.host.specs.Reports.{join_report, prune_report, stream_report, validate_report, write_report};
 
 use crate::cab::{box_of, box3_of};
-use crate::reports;
-use crate::reports::{JoinReport, PruneReport, StreamReport, ValidateReport, WriteReport};
+use crate::reports::{
+    JoinReport, PruneReport, StreamReport, ValidateReport, WriteReport, report_validate,
+};
 use join::call as join_call;
 use prune::call as prune_call;
 use stream::call as stream_call;
@@ -37,7 +38,7 @@ pub extern "C" fn nearby_join(
         ≡ (join_end file.now (xs.now ∷ ys.now ∷ []) k
         (lent dist.old site.old cue.old marks.old)).slices }
 {
-    reports::report_join(join_call::join(file, xs, ys, k, dist, site, cue, marks))
+    join_call::join(file, xs, ys, k, dist, site, cue, marks).into()
 }
 
 #[unsafe(no_mangle)]
@@ -59,7 +60,7 @@ pub extern "C" fn nearby_join3(
         ≡ (join_end file.now (xs.now ∷ ys.now ∷ zs.now ∷ []) k
         (lent dist.old site.old cue.old marks.old)).slices }
 {
-    reports::report_join(join_call::join3(file, xs, ys, zs, k, dist, site, cue, marks))
+    join_call::join3(file, xs, ys, zs, k, dist, site, cue, marks).into()
 }
 
 // O as low x, high x, low y, high y.
@@ -78,7 +79,7 @@ pub extern "C" fn nearby_prune(
         (prune_call file.now (box_from x0 x1 y0 y1) k marks.old) }
 {
     let o = box_of(x0, x1, y0, y1);
-    reports::report_prune(prune_call::prune(file, o, k, marks))
+    prune_call::prune(file, o, k, marks).into()
 }
 
 // O with low z, high z after them.
@@ -98,8 +99,7 @@ pub extern "C" fn nearby_prune3(
     ensures marks { marks.new ≡ marks_after file.now (box_from3 x0 x1 y0 y1 z0 z1) k marks.old
         (prune_call file.now (box_from3 x0 x1 y0 y1 z0 z1) k marks.old) }
 {
-    let o = box3_of(x0, x1, y0, y1, z0, z1);
-    reports::report_prune(prune_call::prune3(file, o, k, marks))
+    prune_call::prune(file, box3_of(x0, x1, y0, y1, z0, z1), k, marks).into()
 }
 
 // O as low x, high x, low y, high y.
@@ -116,7 +116,7 @@ pub extern "C" fn nearby_stream_order(
     ensures order { order.new ≡ order_after file.now (box_from x0 x1 y0 y1) order.old
         (stream_call file.now (box_from x0 x1 y0 y1) order.old) }
 {
-    reports::report_stream(stream_call::stream_order(file, box_of(x0, x1, y0, y1), order))
+    stream_call::stream_order(file, box_of(x0, x1, y0, y1), order).into()
 }
 
 // O with low z, high z after them.
@@ -135,14 +135,14 @@ pub extern "C" fn nearby_stream_order3(
     ensures order { order.new ≡ order_after file.now (box_from3 x0 x1 y0 y1 z0 z1) order.old
         (stream_call file.now (box_from3 x0 x1 y0 y1 z0 z1) order.old) }
 {
-    reports::report_stream(stream_call::stream_order3(file, box3_of(x0, x1, y0, y1, z0, z1), order))
+    stream_call::stream_order(file, box3_of(x0, x1, y0, y1, z0, z1), order).into()
 }
 
 #[unsafe(no_mangle)]
 pub extern "C" fn nearby_validate(file: &[u8]) -> ValidateReport
     ensures { result ≡ validate_report (validate file.now) }
 {
-    reports::report_validate(validate::validate(file))
+    report_validate(validate::validate(file))
 }
 
 #[unsafe(no_mangle)]
@@ -161,7 +161,7 @@ pub extern "C" fn nearby_write(
         (supply boxes.now counts.now (xs.now ∷ ys.now ∷ []) cues.now)
         out.old }
 {
-    reports::report_write(write::write(boxes, counts, xs, ys, cues, out))
+    write::write(boxes, counts, xs, ys, cues, out).into()
 }
 
 #[unsafe(no_mangle)]
@@ -183,5 +183,5 @@ pub extern "C" fn nearby_write3(
         (xs.now ∷ ys.now ∷ zs.now ∷ []) cues.now)
         out.old }
 {
-    reports::report_write(write::write3(boxes, counts, xs, ys, zs, cues, out))
+    write::write3(boxes, counts, xs, ys, zs, cues, out).into()
 }

@@ -3,7 +3,6 @@ ghost use Rattle.std.specs.Prelude.{◌≡◌};
 ghost use Rattle.level.specs.Level.{level_call};
 ghost use Rattle.host.specs.Reports.{level_report};
 
-use crate::reports;
 use crate::reports::LevelReport;
 use level::call as level_call;
 
@@ -11,5 +10,5 @@ use level::call as level_call;
 pub extern "C" fn nearby_level(reach: u32, dist: u64) -> LevelReport
     ensures { result ≡ level_report (level_call reach dist) }
 {
-    reports::report_level(level_call::level(reach, dist))
+    level_call::level(reach, dist).into()
 }

@@ -6,6 +6,6 @@ pub returns : goal.returns
 returns c =
     let end = c.join3.ensures in
     record {
-      answer = c.report_join.ensures ∙ ap (λ e. join_report e.outcome) end;
+      answer = c.into.ensures ∙ ap (λ e. join_report e.outcome) end;
       slices = ap (λ e. e.slices) end;
     }

@@ -12,6 +12,6 @@ returns c =
     c.box_of-o.ensures in
     let end = c.prune.ensures in
     record {
-      answer = c.report_prune.ensures ∙ ap prune_report (rw o at end.result_value);
+      answer = c.into.ensures ∙ ap prune_report (rw o at end.result_value);
       marks = rw o at end.marks_after;
     }

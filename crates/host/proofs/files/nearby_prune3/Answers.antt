@@ -15,9 +15,9 @@ returns c =
       to_z-of_z {w = w32} a.z0,
       to_z-of_z {w = w32} a.z1,
     )
-    at c.box3_of-o.ensures in
-    let end = c.prune3.ensures in
+    at c.box3_of.ensures in
+    let end = c.prune.ensures in
     record {
-      answer = c.report_prune.ensures ∙ ap prune_report (rw o at end.result_value);
+      answer = c.into.ensures ∙ ap prune_report (rw o at end.result_value);
       marks = rw o at end.marks_after;
     }

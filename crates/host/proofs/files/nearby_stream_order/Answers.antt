@@ -12,6 +12,6 @@ returns c =
     c.box_of.ensures in
     let end = c.stream_order.ensures in
     record {
-      answer = c.report_stream.ensures ∙ ap stream_report (rw o at end.result_value);
+      answer = c.into.ensures ∙ ap stream_report (rw o at end.result_value);
       order = rw o at end.order_after;
     }

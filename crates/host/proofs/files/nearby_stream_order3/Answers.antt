@@ -16,8 +16,8 @@ returns c =
       to_z-of_z {w = w32} a.z1,
     )
     at c.box3_of.ensures in
-    let end = c.stream_order3.ensures in
+    let end = c.stream_order.ensures in
     record {
-      answer = c.report_stream.ensures ∙ ap stream_report (rw o at end.result_value);
+      answer = c.into.ensures ∙ ap stream_report (rw o at end.result_value);
       order = rw o at end.order_after;
     }

@@ -5,4 +5,4 @@ use Rattle.host.proofs.files.nearby_write3.Goals as goal
 pub returns : goal.returns
 returns c =
     let end = c.write3.ensures in
-    record { answer = c.report_write.ensures ∙ ap write_report end.answer; output = end.output }
+    record { answer = c.into.ensures ∙ ap write_report end.answer; output = end.output }

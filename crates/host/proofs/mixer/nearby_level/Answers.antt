@@ -4,4 +4,4 @@ use Rattle.host.proofs.mixer.nearby_level.Goals as goal
 
 pub returns : goal.returns
 returns c =
-    c.report_level.ensures ∙ ap level_report c.level.ensures
+    c.into.ensures ∙ ap level_report c.level.ensures
