@@ -2,53 +2,32 @@
 // here is only what an operating system can refuse.
 #![tactic(auto)]
 
-ghost use Rattle.std.specs.Prelude.{length};
-ghost use Rattle.nearby.specs.Inner.Input.{InRoom};
+ghost use Rattle.std.specs.Prelude.{◌≤◌, length, IfOk};
 
 use console::answer::{ROOM, respond};
 use console::request::MAX_INPUT;
-use std::io::{Read, Write};
+use std::io::{self, Read, Write};
 
-// What was read: so many bytes, or an error, which is not taken for the end of the input.
-#[derive(Clone, Copy)]
-enum Input {
-    Bytes(usize),
-    Failed,
-}
-
-// One read.
-fn read_some<R: Read>(source: &mut R, buf: &mut [u8]) -> Input
-    ensures { InRoom result (length buf.new) }
-{
-    match source.read(buf) {
-        Ok(got) => Input::Bytes(got),
-        Err(_) => Input::Failed,
-    }
-}
-
-// Reads until the end of the input, or until the buffer is full.
-fn read_all<R: Read>(source: &mut R, buf: &mut [u8]) -> Input
-    ensures { InRoom result (length buf.new) }
+// Reads until the end of the input, or until the buffer is full. An error is not taken for the end of the input. A
+// `while`: how much a read gives shows only then.
+fn read_all<R: Read>(source: &mut R, buf: &mut [u8]) -> io::Result<usize>
+    ensures { IfOk result (λ n. n ≤ length buf.new) }
 {
     let mut done: usize = 0;
     while done < buf.len() {
-        let more = read_some(source, &mut buf[done..]);
-        let Input::Bytes(got) = more else {
-            return Input::Failed;
-        };
+        let got = source.read(&mut buf[done..])?;
         if got == 0 {
-            return Input::Bytes(done);
+            return Ok(done);
         }
         done += got;
     }
-    Input::Bytes(done)
+    Ok(done)
 }
 
 fn main(rt: HostRuntime) {
     // One byte more than is taken, so that a longer input is seen.
     let mut input = [0u8; MAX_INPUT + 1];
-    let read = read_all(&mut rt.stdin(), &mut input);
-    let Input::Bytes(n) = read else {
+    let Ok(n) = read_all(&mut rt.stdin(), &mut input) else {
         let _ = rt
             .stderr()
             .write_all(b"nearby: standard input cannot be read\n");
