@@ -1,9 +1,10 @@
 -- How an answer of the code is read as an outcome.
 --
---   number_of    the number of a reason
---   outcome_of   of a call that answers a value, or its refusal
---   tested_at    of tests that answer the reason of the first one failed, by the block at a position
-use Rattle.std.specs.Prelude.{ℕ, Result, Ok, Err}
+--   number_of      the number of a reason
+--   outcome_of     of a call that answers a value, or its refusal
+--   tested_at      of tests that answer the reason of the first one failed, by the block at a position
+--   refusal_text   a refusal as text
+use Rattle.std.specs.Prelude.{ℕ, List, ◌++◌, Result, Ok, Err, codes, decimal}
 use Rattle.base.specs.Refusal.{Outcome, accepted, refused, #length, #sync, #check, #kind, #position, #tiles, #entries}
 use Rattle.base.specs.Refusal.{#padding, #box, #stray, #k, #stops, #spot, #short, #supply, #muted, #axes, #reach}
 use Rattle.base.specs.declared.refusal.Reason.{Reason}
@@ -37,3 +38,7 @@ outcome_of (Err r) = refused (number_of r.reason) r.block
 abbrev pub tested_at : ℕ → Result Unit Reason → Outcome Unit
 tested_at p (Ok _) = accepted tt
 tested_at p (Err r) = refused (number_of r) p
+
+-- "refused N block P", as a program prints it
+unfoldable pub refusal_text : ℕ → ℕ → List ℕ
+refusal_text number block = codes "refused " ++ decimal number ++ codes " block " ++ decimal block

@@ -1,6 +1,6 @@
 // Why bad input is refused, and of which block.
-ghost use Rattle.std.specs.Prelude.{◌≡◌, ◌<◌, ◌^◌};
-ghost use Rattle.base.specs.Answer.{number_of};
+ghost use Rattle.std.specs.Prelude.{◌≡◌, ◌<◌, ◌^◌, Some};
+ghost use Rattle.base.specs.Answer.{number_of, refusal_text};
 
 use std::error::Error;
 use std::fmt;
@@ -64,6 +64,9 @@ impl From<Reason> for Refusal {
 }
 
 impl fmt::Display for Refusal {
+    ghost output = { λ r. Some (refusal_text (number_of r.reason) r.block) };
+
+    #[tactic(auto, unfolding(crate::specs::Answer::refusal_text))]
     fn fmt<W: fmt::Write>(&self, f: &mut fmt::Formatter<W>) -> fmt::Result {
         write!(f, "refused {} block {}", self.reason.number(), self.block)
     }
