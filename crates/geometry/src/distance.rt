@@ -7,7 +7,7 @@ ghost use Rattle.geometry.specs.Distance.{D, min_dist, max_dist};
 ghost use Rattle.base.specs.Answer.{outcome_of, tested_at};
 ghost use Rattle.geometry.specs.Calls.{distance_tests, min_dist_call, max_dist_call};
 
-use crate::padding::HEIGHT;
+use crate::padding::{HEIGHT, HasAxes, Town};
 use crate::{axis, limits, padding};
 use base::{Reason, Refusal};
 
@@ -64,7 +64,8 @@ fn tests(axes: usize, b: [[i32; 2]; 3], p: [i32; 3]) -> Result<(), Reason>
 
 // Near, of a box and a point of N axes.
 pub fn min_dist<const N: usize>(b: [[i32; 2]; N], p: [i32; N]) -> Result<u64, Refusal>
-    requires { KnownAxes N }
+where
+    Town: HasAxes<N>,
     ensures { outcome_of result ≡ min_dist_call b.entry p.entry }
 {
     let bounds = padding::pad_box(b);
@@ -75,7 +76,8 @@ pub fn min_dist<const N: usize>(b: [[i32; 2]; N], p: [i32; N]) -> Result<u64, Re
 
 // Far.
 pub fn max_dist<const N: usize>(b: [[i32; 2]; N], p: [i32; N]) -> Result<u64, Refusal>
-    requires { KnownAxes N }
+where
+    Town: HasAxes<N>,
     ensures { outcome_of result ≡ max_dist_call b.entry p.entry }
 {
     let bounds = padding::pad_box(b);

@@ -5,7 +5,7 @@ ghost use Rattle.geometry.specs.Box.{valid_box, ValidBoxes};
 ghost use Rattle.geometry.specs.Margin.{reached, margin, closer};
 ghost use Rattle.geometry.specs.Calls.{reached_of, reached_in, reached_outcome, margin_call};
 
-use crate::padding::{HEIGHT, pad_box};
+use crate::padding::{HEIGHT, HasAxes, Town, pad_box};
 use crate::{gains, limits};
 use base::{Reason, Refusal};
 
@@ -85,7 +85,8 @@ pub fn valid_boxes(axes: usize, o: [[i32; 2]; 3], e: [[i32; 2]; 3], b: [[i32; 2]
 
 // The first N of three coordinates.
 fn first<const N: usize>(p: [i32; 3]) -> [i32; N]
-    requires { KnownAxes N }
+where
+    Town: HasAxes<N>,
     ensures { result ≡ take N p }
 {
     let mut q = [0; N];
@@ -95,7 +96,8 @@ fn first<const N: usize>(p: [i32; 3]) -> [i32; N]
 
 // The points as an answer shows them, without the room left over.
 fn shown<const N: usize>(m: MarginPoints<3>) -> MarginPoints<N>
-    requires { KnownAxes N }
+where
+    Town: HasAxes<N>,
     ensures { reached_of result ≡ reached_in N m }
 {
     MarginPoints {
@@ -111,7 +113,8 @@ pub fn margin<const N: usize>(
     e: [[i32; 2]; N],
     b: [[i32; 2]; N],
 ) -> Result<MarginPoints<N>, Refusal>
-    requires { KnownAxes N }
+where
+    Town: HasAxes<N>,
     ensures { reached_outcome result ≡ margin_call o.entry e.entry b.entry }
 {
     let po = pad_box(o);

@@ -1,14 +1,13 @@
 // The call of document 01, "Striking".
 ghost use Rattle.std.specs.Prelude.{◌≡◌};
 ghost use Rattle.base.specs.Answer.{outcome_of};
-ghost use Rattle.geometry.specs.Axes.{KnownAxes};
 ghost use Rattle.prune.specs.Prune.{prune_call, marks_after};
 
 use crate::marking;
 use base::{Reason, Refusal};
 use blocks::directory::read_directory;
 use geometry::limits;
-use geometry::padding::pad_box;
+use geometry::padding::{HasAxes, Town, pad_box};
 
 // What the answer carries: T, and the number pruned.
 #[derive(Clone, Copy, Debug, PartialEq, Eq)]
@@ -24,7 +23,8 @@ pub fn prune<const N: usize>(
     k: u32,
     marks: &mut [u8],
 ) -> Result<Pruned, Refusal>
-    requires { KnownAxes N }
+where
+    Town: HasAxes<N>,
     ensures result_value { outcome_of result ≡ prune_call f.now o.entry k marks.old }
     ensures marks_after { marks.new
         ≡ marks_after f.now o.entry k marks.old (prune_call f.now o.entry k marks.old) }

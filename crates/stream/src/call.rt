@@ -1,14 +1,13 @@
 // The call of 02.5, "A sequence for streaming".
 ghost use Rattle.std.specs.Prelude.{◌≡◌};
 ghost use Rattle.base.specs.Answer.{outcome_of};
-ghost use Rattle.geometry.specs.Axes.{KnownAxes};
 ghost use Rattle.stream.specs.Stream.{stream_call, order_after};
 
 use crate::taking::put_order;
 use base::{Reason, Refusal};
 use blocks::directory::read_directory;
 use geometry::limits;
-use geometry::padding::pad_box;
+use geometry::padding::{HasAxes, Town, pad_box};
 
 // For a town of N axes: T.
 pub fn stream_order<const N: usize>(
@@ -16,7 +15,8 @@ pub fn stream_order<const N: usize>(
     o: [[i32; 2]; N],
     order: &mut [u32],
 ) -> Result<u32, Refusal>
-    requires { KnownAxes N }
+where
+    Town: HasAxes<N>,
     ensures result_value { outcome_of result ≡ stream_call f.now o.entry order.old }
     ensures order_after { order.new ≡ order_after f.now o.entry order.old
         (stream_call f.now o.entry order.old) }

@@ -1,5 +1,6 @@
 use mathlib.Core.Bool.{◌&&◌}
 use mathlib.Core.Path.{◌≡◌, ap, ◌∙◌}
+use borrow.Author.Rules.{rules}
 use Rattle.base.specs.Refusal.{accepted}
 use Rattle.base.proofs.Tests.{passed, failed}
 use Rattle.geometry.specs.Box.{valid_box}
@@ -22,7 +23,7 @@ returns-then-not-valid_boxes g c =
     rw (c.at.ensures.reason, c.at.ensures.block, failed t c.if-not-valid_boxes.true)
 
 pub margin_points-requires : goal.margin_points-requires
-margin_points-requires g c = (c.requires, all_valid _ _ _ (passed c.valid_boxes.ensures c.if-not-valid_boxes.false))
+margin_points-requires g c = (search rules, all_valid _ _ _ (passed c.valid_boxes.ensures c.if-not-valid_boxes.false))
 
 pub returns : goal.returns
 unfolding margin_call
