@@ -3,11 +3,10 @@
 // code. Then cases 3 and 7 with a third axis (02.2), which adds its own term, and a bad box and a bad point.
 #![tactic(auto)]
 
-ghost use Rattle.geometry.specs.Axes.{KnownAxes};
-
-use base::{Reason, Refusal};
+use base::Refusal;
 use geometry::distance::{max_dist, min_dist};
 use geometry::margin;
+use geometry::padding::{HasAxes, Town};
 use std::io;
 
 // The margin without its points.
@@ -16,9 +15,15 @@ fn margin<const N: usize>(
     e: [[i32; 2]; N],
     b: [[i32; 2]; N],
 ) -> Result<i64, Refusal>
-    requires { KnownAxes N }
+where
+    Town: HasAxes<N>,
 {
     Ok(margin::margin(o, e, b)?.margin)
+}
+
+// A refusal as the number and the block that the paper gives.
+fn numbered(answer: Result<u64, Refusal>) -> Result<u64, (u32, u32)> {
+    answer.map_err(|refusal| (refusal.reason.number(), refusal.block))
 }
 
 fn say(rt: &impl Print, name: &str, holds: bool) -> io::Result<()> {
@@ -77,17 +82,17 @@ fn say_distances(rt: &impl Print) -> io::Result<()> {
     say(
         rt,
         "bad box: 9",
-        max_dist([[5, 4], [-2, 2]], [0, 0]) == Err(Reason::Box.into()),
+        numbered(max_dist([[5, 4], [-2, 2]], [0, 0])) == Err((9, 0)),
     )?;
     say(
         rt,
         "bad box and bad point: 9",
-        min_dist([[5, 4], [-2, 2]], [0, 1_000_001]) == Err(Reason::Box.into()),
+        numbered(min_dist([[5, 4], [-2, 2]], [0, 1_000_001])) == Err((9, 0)),
     )?;
     say(
         rt,
         "bad point: 13",
-        max_dist([[4, 4], [-2, 2]], [0, 1_000_001]) == Err(Reason::Spot.into()),
+        numbered(max_dist([[4, 4], [-2, 2]], [0, 1_000_001])) == Err((13, 0)),
     )
 }
 
@@ -108,12 +113,12 @@ fn say_with_height(rt: &impl Print) -> io::Result<()> {
     say(
         rt,
         "with height, bad box: 9",
-        min_dist([[10, 20], [0, 4], [9, 3]], p) == Err(Reason::Box.into()),
+        numbered(min_dist([[10, 20], [0, 4], [9, 3]], p)) == Err((9, 0)),
     )?;
     say(
         rt,
         "with height, bad point: 13",
-        max_dist(b, [5, 5, -1_000_001]) == Err(Reason::Spot.into()),
+        numbered(max_dist(b, [5, 5, -1_000_001])) == Err((13, 0)),
     )
 }
 
