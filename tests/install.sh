@@ -43,6 +43,27 @@ undefined=$(nm -u "$archive" | sed -n 's/^ *U //p' | sort -u | xargs)
 ! objdump -d "$archive" | grep -w -e syscall -e sysenter -e int >&2 || failed "libnearby.a makes a system call"
 writable=$(objdump -h "$archive" | grep -A1 -E '^ +[0-9]+ ' | grep -w ALLOC | grep -vw READONLY || true)
 [ -z "$writable" ] || failed "libnearby.a has data that can be written"
+# Nor can it use more and more stack: no function calls itself, or one that leads back to it.
+objdump -d -r --no-show-raw-insn "$archive" | python3 -c '
+import re, sys
+calls, at = {}, None
+for line in sys.stdin:
+    head = re.match(r"[0-9a-f]+ <(.+)>:$", line)
+    if head:
+        at = head.group(1)
+        calls.setdefault(at, set())
+    # A call within the section names the function that it starts at; any other has a relocation behind it.
+    for word in re.findall(r"call +[0-9a-f]+ <([^+]+)>$|R_X86_64_PLT32\s+(.+?)(?:[-+]0x[0-9a-f]+)?$", line.rstrip()):
+        calls[at].add(word[0] or word[1])
+while True:
+    leaves = [f for f in calls if not calls[f] & set(calls)]
+    if not leaves:
+        break
+    for f in leaves:
+        del calls[f]
+if calls:
+    sys.exit("these call each other round and round: " + ", ".join(sorted(calls)))' ||
+    failed "a function of libnearby.a can call itself"
 exported=$(nm -D --defined-only "$tree/lib/libnearby.so" | sed 's/.* //' | sort | xargs)
 expected="nearby_block_check nearby_join nearby_join3 nearby_level nearby_margin nearby_margin3 nearby_prune"
 expected="$expected nearby_prune3 nearby_stream_order nearby_stream_order3 nearby_validate nearby_write nearby_write3"
