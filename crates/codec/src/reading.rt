@@ -3,6 +3,8 @@ ghost use Rattle.std.specs.Prelude.{◌≡◌, ◌+◌, ◌<◌, ◌≤◌, leng
 ghost use Rattle.codec.specs.Number.{limit16, u16_at, u32_at, i32_at};
 ghost use Rattle.codec.specs.Zeros.{zeros};
 
+use base::both;
+
 // 16 bits at `at`, as the count or the position that they stand for.
 #[tactic(auto, unfolding(crate::specs::Number::u16_at))]
 pub fn u16_at(s: &[u8], at: usize) -> usize
@@ -30,16 +32,16 @@ pub fn i32_at(s: &[u8], at: usize) -> i32
     u32_at(s, at).cast_signed()
 }
 
-// Whether bytes `from` to `to` - 1 are all zero.
-#[tactic(auto, using(crate::proofs::Zeros::zeros_fail, crate::proofs::Zeros::zeros_hold))]
+// Whether bytes `from` to `to` - 1 are all zero. Every byte is looked at, without a branch: compiled code then takes
+// many at once.
+#[tactic(auto, using(crate::proofs::Zeros::zeros_none, crate::proofs::Zeros::zeros_next))]
 pub fn zeros(s: &[u8], from: usize, to: usize) -> bool
     requires { to ≤ length s.now }
     ensures { result ≡ zeros s.now from to }
 {
+    let mut all = true;
     for i in from..to {
-        if s[i] != 0 {
-            return false;
-        }
+        all = both(all, s[i] == 0);
     }
-    true
+    all
 }

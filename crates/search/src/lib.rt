@@ -38,7 +38,7 @@ pub struct Place {
 pub fn ranks_before(x: Place, y: Place) -> bool
     ensures { result ≡ rank x y }
 {
-    (x.dist, x.site) < (y.dist, y.site)
+    x.dist < y.dist || (x.dist == y.dist && x.site < y.site)
 }
 
 // Place x is ahead of the key of a tile: its least distance, then its number.

@@ -85,11 +85,16 @@ fn site_inside(axes: usize, bounds: [[i32; 2]; 3], s: &[u8], slot: usize) -> boo
     inside(axes, bounds, point_in(axes, s, slot))
 }
 
+#[tactic(auto, unfolding(base::specs::Every::every))]
 fn sites_inside(axes: usize, bounds: [[i32; 2]; 3], s: &[u8], n: usize) -> bool
     requires { KnownAxes axes × (n ≤ max_sites axes) × (length s.now ≡ block_size) }
     ensures { result ≡ every (site_inside axes (take axes bounds) s.now) n }
 {
-    (0..n).all(|slot| site_inside(axes, bounds, s, slot))
+    let mut all = true;
+    for slot in 0..n {
+        all = both(all, site_inside(axes, bounds, s, slot));
+    }
+    all
 }
 
 // A tile's block, by box, count and muted number of its entry: the first test that fails decides.

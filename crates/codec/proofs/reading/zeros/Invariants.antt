@@ -1,7 +1,7 @@
-use Prim.Native.Nat.{ℕ, ◌<◌, ◌≤◌}
 use mathlib.Core.Path.{◌≡◌}
-use lib.ListN.{get_or}
+use Rattle.std.specs.Prelude.{min}
+use Rattle.codec.specs.Zeros.{zeros}
 use Rattle.codec.proofs.reading.zeros.Given as goal
 
 abbrev pub invariant-loop-i : goal.invariant-loop-i
-invariant-loop-i l = (j : ℕ) → j < l.i → l.from ≤ j → get_or l.s j 0 ≡ 0
+invariant-loop-i l = l.all ≡ zeros l.s l.from (min l.i l.to)
