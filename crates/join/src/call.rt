@@ -58,7 +58,11 @@ fn run(
     let pruned = mark_pruned(f, h, around(xs, ys, zs), k, marks);
     let mut stops = [ORIGIN; MAX_STOPS];
     gather_stops(xs, ys, zs, &mut stops);
-    let used = serve(f, h, &stops[..n], k, dist, site, cue, marks)?;
+    // By `match` and no `?`: an edit replaces what is passed on, and nothing else.
+    let used = match serve(f, h, &stops[..n], k, dist, site, cue, marks) {
+        Ok(used) => used,
+        Err(refusal) => return Err(refusal),
+    };
     let opened = count_opened(marks, h);
     Ok(Joined {
         used: used as u32,

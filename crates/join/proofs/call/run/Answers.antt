@@ -13,7 +13,6 @@ use Rattle.plan.specs.FilePlan.{entries}
 use Rattle.plan.specs.Inner.Seam.{stop_of, region_of}
 use Rattle.search.specs.Pruning.{pruned_count}
 use Rattle.stops.specs.Stops.{stop_count, stops_of}
-use Rattle.base.proofs.Passing.{passed_on}
 use Rattle.geometry.proofs.Theorems.{all-points, row_axes}
 use Rattle.plan.proofs.Measures.{tiles_few}
 use Rattle.stops.proofs.StopLaws.{points_gathered}
@@ -195,7 +194,7 @@ overflow_cast-result c =
       used_few c.requires.1 (λ i. omega (arith, c.type_inv.f i))
           (tried (goal.at.overflow_cast-result c).After-serve
           (begins (goal.at.overflow_cast-result c).After-mark_pruned-pruned)
-          (points (goal.at.overflow_cast-result c).After-gather_stops)) (ap outcome_of c.in_ok-used.was),
+          (points (goal.at.overflow_cast-result c).After-gather_stops)) (ap outcome_of c.in-Ok.is),
     )
 
 pub overflow_cast-result-2 : goal.overflow_cast-result-2
@@ -225,27 +224,26 @@ pub returns : goal.returns
 returns c =
     run_answers c.requires.1 (λ i. omega (arith, c.type_inv.f i))
     (tried (goal.at.returns c).After-serve (begins (goal.at.returns c).After-mark_pruned-pruned)
-    (points (goal.at.returns c).After-gather_stops)) (ap outcome_of c.in_ok-used.was)
+    (points (goal.at.returns c).After-gather_stops)) (ap outcome_of c.in-Ok.is)
     (c.mark_pruned-pruned.ensures.value.0
     ∙ ap (λ b. pruned_count (entries c.args.f.now c.args.h) b c.args.k)
     (box (goal.at.returns c).After-around))
     c.count_opened-opened.ensures.0
 
-pub shape_of-dist-in_err-used : goal.shape_of-dist-in_err-used
-shape_of-dist-in_err-used c = (lengths (goal.at.shape_of-dist-in_err-used c).After-serve).0
+pub shape_of-dist-in-Err : goal.shape_of-dist-in-Err
+shape_of-dist-in-Err c = (lengths (goal.at.shape_of-dist-in-Err c).After-serve).0
 
-pub shape_of-site-in_err-used : goal.shape_of-site-in_err-used
-shape_of-site-in_err-used c = (lengths (goal.at.shape_of-site-in_err-used c).After-serve).1
+pub shape_of-site-in-Err : goal.shape_of-site-in-Err
+shape_of-site-in-Err c = (lengths (goal.at.shape_of-site-in-Err c).After-serve).1
 
-pub shape_of-cue-in_err-used : goal.shape_of-cue-in_err-used
-shape_of-cue-in_err-used c = (lengths (goal.at.shape_of-cue-in_err-used c).After-serve).2
+pub shape_of-cue-in-Err : goal.shape_of-cue-in-Err
+shape_of-cue-in-Err c = (lengths (goal.at.shape_of-cue-in-Err c).After-serve).2
 
-pub shape_of-marks-in_err-used : goal.shape_of-marks-in_err-used
-shape_of-marks-in_err-used c = (lengths (goal.at.shape_of-marks-in_err-used c).After-serve).3
+pub shape_of-marks-in-Err : goal.shape_of-marks-in-Err
+shape_of-marks-in-Err c = (lengths (goal.at.shape_of-marks-in-Err c).After-serve).3
 
-pub returns-in_err-used : goal.returns-in_err-used
-returns-in_err-used c =
-    rw (passed_on c.from_residual.result _ c.from_residual.ensures)
-    (run_refuses c.requires.1 (λ i. omega (arith, c.type_inv.f i))
-    (tried (goal.at.returns-in_err-used c).After-serve (begins (goal.at.returns-in_err-used c).After-mark_pruned-pruned)
-    (points (goal.at.returns-in_err-used c).After-gather_stops)) (ap outcome_of c.in_err-used.was))
+pub returns-in-Err : goal.returns-in-Err
+returns-in-Err c =
+    run_refuses c.requires.1 (λ i. omega (arith, c.type_inv.f i))
+    (tried (goal.at.returns-in-Err c).After-serve (begins (goal.at.returns-in-Err c).After-mark_pruned-pruned)
+    (points (goal.at.returns-in-Err c).After-gather_stops)) (ap outcome_of c.in-Err.is)
