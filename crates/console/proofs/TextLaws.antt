@@ -1,6 +1,6 @@
 -- Laws of words and numbers as bytes. Assumes nothing.
 --
---   length_digits                               how many digits
+--   length_digits, decimal-width                how many digits
 --   then                                        one text after the other
 --   part_none, part_more                        a loop that writes parts
 --   below_power                                 a number is below the power of 10 after its own
@@ -70,7 +70,7 @@ width_few (suc w) (suc more) n l =
     cond_ind (ltb n 10) 1 (suc (width_up_to more (n / 10))) (λ k. k ≤ suc (suc w)) (λ _. omega arith)
     (λ _. omega (arith, width_few w more (n / 10) (omega (arith, l, pow-suc 10 (suc w)))))
 
-decimal-width : (n : ℕ) → length (decimal n) ≡ width n
+pub decimal-width : (n : ℕ) → length (decimal n) ≡ width n
 unfolding decimal
 decimal-width n = length_digits (width n) n
 

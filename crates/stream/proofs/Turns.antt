@@ -165,7 +165,7 @@ module _ (closer : ℕ → ℕ → Bool) (n : ℕ) (keys : List ℕ) where
 
     -- the tile is marked; up to another place all were taken
     module _ (room : n ≤ length waits) where
-      gone_next : {low' : ℕ} → FirstLeft keys (set waits t taken_mark) low n low'
+      pub gone_next : {low' : ℕ} → FirstLeft keys (set waits t taken_mark) low n low'
           → TakenBelow closer n keys (set waits t taken_mark) low'
       gone_next {low'} f i l u = by_test (ltb i low)
           (λ e. still (tile_at keys i) (r.gone i (ltb-true i low e) u))
