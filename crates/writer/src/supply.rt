@@ -117,7 +117,8 @@ fn site_fits(
     inside(axes, bounds, [x, y, z])
 }
 
-// Test 10 of n sites of the lists from site `first` on.
+// Test 10 of n sites of the lists from site `first` on. Every site is looked at, without a branch.
+#[tactic(auto, unfolding(crate::specs::Write::sites_fit, base::specs::Every::every))]
 fn sites_fit(
     axes: usize,
     bounds: [[i32; 2]; 3],
@@ -132,7 +133,11 @@ fn sites_fit(
     ensures { result ≡ sites_fit (take axes bounds)
         (take axes (xs.now ∷ ys.now ∷ zs.now ∷ [])) first n }
 {
-    (0..n).all(|i| site_fits(axes, bounds, xs, ys, zs, first + i))
+    let mut all = true;
+    for i in 0..n {
+        all = both(all, site_fits(axes, bounds, xs, ys, zs, first + i));
+    }
+    all
 }
 
 // Test 10.
